@@ -1,0 +1,2 @@
+//! Runs of reactive machines.
+#![tactic(auto)]
