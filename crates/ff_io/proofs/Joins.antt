@@ -1,0 +1,80 @@
+-- Pieces of one call after those of another: what two calls on one port do together.
+use Rattle.std.proofs.Common.{◌≡◌, ℕ, false, ◌||◌, List, [], ◌∷◌, ◌++◌, Option, Some, None, refl, ap, sym, append-nil, append_assoc}
+use Rattle.ff_io.specs.Pieces.{Piece, got_of, put_of, has_end, AllPut, IsReading}
+use Rattle.ff_io.specs.Pieces.Piece.{Got, Put}
+use Rattle.ff_io.specs.Port.{Adds, Leaves, Gains}
+
+-- the bytes got in two calls
+pub got_of-append : (xs ys : List Piece) → got_of (xs ++ ys) ≡ got_of xs ++ got_of ys
+got_of-append [] ys = refl
+got_of-append (Got b ∷ xs) ys = rw (got_of-append xs ys) (sym (append_assoc b (got_of xs) (got_of ys)))
+got_of-append (Put b ∷ xs) ys = got_of-append xs ys
+
+-- the bytes put in two calls
+pub put_of-append : (xs ys : List Piece) → put_of (xs ++ ys) ≡ put_of xs ++ put_of ys
+put_of-append [] ys = refl
+put_of-append (Got b ∷ xs) ys = put_of-append xs ys
+put_of-append (Put b ∷ xs) ys = rw (put_of-append xs ys) (sym (append_assoc b (put_of xs) (put_of ys)))
+
+-- the end was seen in the first call or in the second
+pub has_end-append : (xs ys : List Piece) → has_end (xs ++ ys) ≡ (has_end xs || has_end ys)
+has_end-append [] ys = refl
+has_end-append (Got [] ∷ xs) ys = refl
+has_end-append (Got (b ∷ bs) ∷ xs) ys = has_end-append xs ys
+has_end-append (Put b ∷ xs) ys = has_end-append xs ys
+
+-- writes get nothing
+pub got_of-AllPut : (xs : List Piece) → AllPut xs → got_of xs ≡ []
+got_of-AllPut [] h = refl
+got_of-AllPut (Got b ∷ xs) h = absurd h
+got_of-AllPut (Put b ∷ xs) h = got_of-AllPut xs h.1
+
+-- writes see no end
+pub has_end-AllPut : (xs : List Piece) → AllPut xs → has_end xs ≡ false
+has_end-AllPut [] h = refl
+has_end-AllPut (Got b ∷ xs) h = absurd h
+has_end-AllPut (Put b ∷ xs) h = has_end-AllPut xs h.1
+
+-- reads put nothing
+pub put_of-IsReading : (xs : List Piece) → IsReading xs → put_of xs ≡ []
+put_of-IsReading [] h = refl
+put_of-IsReading (Got b ∷ xs) h = put_of-IsReading xs h.1
+put_of-IsReading (Put b ∷ xs) h = absurd h
+
+-- writes and then writes
+pub AllPut-append : (xs ys : List Piece) → AllPut xs → AllPut ys → AllPut (xs ++ ys)
+AllPut-append [] ys h k = k
+AllPut-append (Got b ∷ xs) ys h k = absurd h
+AllPut-append (Put b ∷ xs) ys h k = (h.0, AllPut-append xs ys h.1 k)
+
+-- reads before the end was seen, and then reads
+pub IsReading-append : (xs ys : List Piece) → has_end xs ≡ false → IsReading xs → IsReading ys → IsReading (xs ++ ys)
+IsReading-append [] ys e h k = k
+IsReading-append (Got [] ∷ xs) ys e h k = cc
+IsReading-append (Got (b ∷ bs) ∷ xs) ys e h k = ((λ f. cc), IsReading-append xs ys e h.1 k)
+IsReading-append (Put b ∷ xs) ys e h k = absurd h
+
+-- a log that gained nothing
+pub Adds-nil : (log : Option (List Piece)) → Adds log log []
+Adds-nil None = refl
+Adds-nil (Some log) = ap Some (sym (append-nil log))
+
+-- a log that gained pieces twice
+pub Adds-trans : (before mid now : Option (List Piece)) (xs ys : List Piece) → Adds before mid xs → Adds mid now ys → Adds before now (xs ++ ys)
+Adds-trans None mid now xs ys h k = rw (k, h) refl
+Adds-trans (Some log) mid now xs ys h k = rw (k, h) (ap Some (append_assoc log xs ys))
+
+-- nothing was got
+pub Leaves-nil : (rest : Option (List ℕ)) → Leaves rest rest []
+Leaves-nil None = refl
+Leaves-nil (Some rest) = refl
+
+-- bytes were got twice
+pub Leaves-trans : (before mid now : Option (List ℕ)) (xs ys : List ℕ) → Leaves before mid xs → Leaves mid now ys → Leaves before now (xs ++ ys)
+Leaves-trans before mid None xs ys h k = rw (h, k) refl
+Leaves-trans before mid (Some rest) xs ys h k = rw (h, k) (ap Some (sym (append_assoc xs ys rest)))
+
+-- bytes were put twice
+pub Gains-trans : (before mid now : Option (List ℕ)) (xs ys : List ℕ) → Gains before mid xs → Gains mid now ys → Gains before now (xs ++ ys)
+Gains-trans None mid now xs ys h k = rw (k, h) refl
+Gains-trans (Some put) mid now xs ys h k = rw (k, h) (ap Some (append_assoc put xs ys))

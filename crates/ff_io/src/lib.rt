@@ -1,0 +1,12 @@
+//! The edge to the outside: ports that are read and written, sinks that are
+//! written, shelves of named files, and reading or writing a port as a whole.
+//!
+//! Every call of the outside may fail. Each object counts its faults, and a
+//! failure comes only where the count for that kind of call rose.
+#![tactic(auto)]
+
+mod outside;
+mod whole;
+
+pub use outside::{Failed, Port, Shelf, Sink};
+pub use whole::{All, AllFail, put_all, read_all};
