@@ -1,0 +1,14 @@
+//! The lowest values of the browser: texts, names, domains, addresses and levels.
+#![tactic(auto)]
+
+mod domains;
+mod levels;
+mod names;
+mod texts;
+mod urls;
+
+pub use domains::Domain;
+pub use levels::Level;
+pub use names::Name;
+pub use texts::{NoMemory, Text};
+pub use urls::{Url, UrlFault};
