@@ -1,3 +1,6 @@
 mod Lists
 mod Rows
 pub mod Runs
+pub mod Copies
+pub mod Text
+pub mod Loops
