@@ -4,3 +4,5 @@ pub mod Runs
 pub mod Copies
 pub mod Text
 pub mod Loops
+pub mod Fits
+pub mod Laws
