@@ -5,4 +5,7 @@ pub mod Copies
 pub mod Text
 pub mod Loops
 pub mod Fits
+mod Names
+pub mod Own
+pub mod View
 pub mod Laws
