@@ -9,3 +9,4 @@ mod Names
 pub mod Own
 pub mod View
 pub mod Laws
+pub mod Turns

@@ -1,5 +1,5 @@
 -- What a loop over inputs, and within it over levels, keeps true: the text so far, and where the copies stand.
-use Rattle.std.proofs.Common.{◌≡◌, ℕ, suc, ◌+◌, ◌<◌, ◌≤◌, ◌==◌, cond, List, [], ◌∷◌, ◌++◌, length, get_or, set, replicate, All, refl, sym, ap, subst, ◌∙◌, append_assoc, append-nil, add-one, arith, length-set, get_or-set_same, get_or-set_other}
+use Rattle.std.proofs.Common.{◌≡◌, ℕ, suc, ◌+◌, ◌<◌, ◌≤◌, ◌==◌, cond, Option, Some, None, List, [], ◌∷◌, ◌++◌, length, get_or, set, replicate, All, refl, sym, ap, subst, ◌∙◌, append_assoc, append-nil, add-one, arith, length-set, get_or-set_same, get_or-set_other}
 use Rattle.std.proofs.lemmas.Bool.{cases_eq}
 use Rattle.std.proofs.lemmas.List.{length-replicate, get_or-replicate}
 use Rattle.std.proofs.Common.{◌⊎◌, inl, inr}
@@ -43,3 +43,57 @@ module _ {I O S : Type 0} (m : Machine I O S) (v : Levels I O) where
   text_below_more_at before i l s at =
       text_below_more before i l
       ∙ ap (λ os. text_below m v before i l ++ text_of v os) (copy_entry_is m v l before i ∙ ap (λ t. at_level v l (handle_seen m t (v.sees l i)).outputs) (sym at))
+
+  -- Where the copies stand: all at the start, the first of them as an input comes, one more, and all when it was handled.
+  pub copies_start : (states : List S) → length states ≡ v.count → All (λ s. s ≡ m.start) states → AreCopies m v states [] 0 []
+  copies_start states long fresh = record {
+    long = long;
+    done = λ k d none at_k. absurd (omega arith);
+    waiting = λ k d low at_k. fresh k d (omega arith) ∙ sym (after_start m);
+  }
+
+  pub copies_begin : (states : List S) (before more : List I) → AreCopies m v states before 0 before → AreCopies m v states before 0 more
+  copies_begin states before more are = record { long = are.long; done = λ k d none at_k. absurd (omega arith); waiting = are.waiting }
+
+  -- the state that the next level is at
+  pub copy_at : (states : List S) (before more : List I) (l : ℕ) (d : S) → AreCopies m v states before l more → l < v.count → get_or states l d ≡ after m (seen v l before)
+  copy_at states before more l d are lt = are.waiting l d (omega arith) lt
+
+  pub copies_step : (states : List S) (before : List I) (i : I) (l : ℕ) (s d : S) → AreCopies m v states before l (before ++ i ∷ []) → l < v.count
+    → s ≡ (handle_seen m (get_or states l d) (v.sees l i)).after → AreCopies m v (set states l s) before (l + 1) (before ++ i ∷ [])
+  copies_step states before i l s d are lt made = record {
+    long = length-set states l s ∙ are.long;
+    done = λ k e low at_k. from k e low at_k (cases_eq k l);
+    waiting = λ k e low at_k. get_or-set_other states l k s e (λ same. omega arith) ∙ are.waiting k e (omega arith) at_k;
+  }
+    where
+      from : (k : ℕ) (e : S) → k < l + 1 → k < v.count → (k ≡ l) ⊎ (k ≡ l → ⊥) → get_or (set states l s) k e ≡ after m (seen v k (before ++ i ∷ []))
+      from k e low at_k (inl same) =
+          ap (λ n. get_or (set states l s) n e) same
+          ∙ get_or-set_same states l s e (omega (arith, are.long)) ∙ made
+          ∙ ap (λ t. (handle_seen m t (v.sees l i)).after) (copy_at states before (before ++ i ∷ []) l d are lt)
+          ∙ sym (copy_after_more m v l before i) ∙ ap (λ n. after m (seen v n (before ++ i ∷ []))) (sym same)
+      from k e low at_k (inr differ) = get_or-set_other states l k s e differ ∙ are.done k e (omega arith) at_k
+
+  -- a level that doesn't see the input leaves its copy as it is
+  pub copies_pass : (states : List S) (before : List I) (i : I) (l : ℕ) → AreCopies m v states before l (before ++ i ∷ []) → l < v.count
+    → v.sees l i ≡ None → AreCopies m v states before (l + 1) (before ++ i ∷ [])
+  copies_pass states before i l are lt unseen = record {
+    long = are.long;
+    done = λ k e low at_k. from k e low at_k (cases_eq k l);
+    waiting = λ k e low at_k. are.waiting k e (omega arith) at_k;
+  }
+    where
+      from : (k : ℕ) (e : S) → k < l + 1 → k < v.count → (k ≡ l) ⊎ (k ≡ l → ⊥) → get_or states k e ≡ after m (seen v k (before ++ i ∷ []))
+      from k e low at_k (inl same) =
+          ap (λ n. get_or states n e) same ∙ copy_at states before (before ++ i ∷ []) l e are lt
+          ∙ ap (λ o. (handle_seen m (after m (seen v l before)) o).after) (sym unseen)
+          ∙ sym (copy_after_more m v l before i) ∙ ap (λ n. after m (seen v n (before ++ i ∷ []))) (sym same)
+      from k e low at_k (inr differ) = are.done k e (omega arith) at_k
+
+  pub copies_done : (states : List S) (before more : List I) → AreCopies m v states before v.count more → AreCopies m v states more 0 more
+  copies_done states before more are = record {
+    long = are.long;
+    done = λ k d none at_k. absurd (omega arith);
+    waiting = λ k d low at_k. are.done k d at_k at_k;
+  }

@@ -1,5 +1,5 @@
 -- The text of outputs, its lines, and the lines that belong to a level or to the levels at or below it.
-use Rattle.std.specs.Prelude.{ℕ, Bool, cond, ◌==◌, ◌&&◌, ◌||◌, List, [], ◌∷◌, ◌++◌, filter, flat_map, bytes_eq}
+use Rattle.std.specs.Prelude.{◌≡◌, ℕ, Bool, cond, ◌==◌, ◌&&◌, ◌||◌, List, [], ◌∷◌, ◌++◌, filter, flat_map, bytes_eq}
 use Rattle.std.specs.List.{list_any, onto_first}
 use Rattle.ff_reactive.specs.Runs.{joined}
 use Rattle.ff_reactive.specs.Copies.{Levels, below}
@@ -21,6 +21,10 @@ first_word (b ∷ bs) = cond (b == 32 || b == 10) [] (b ∷ first_word bs)
 -- The lines of the text whose first word passes the test.
 abbrev pub pick : (List ℕ → Bool) → List ℕ → List ℕ
 pick test text = joined (filter (λ line. test (first_word line)) (lines text))
+
+-- A list begins with another.
+abbrev pub BeginsWith : {X : Type 0} → List X → List X → Type 0
+BeginsWith {X} whole part = (rest : List X) × (whole ≡ part ++ rest)
 
 module _ {I O : Type 0} (v : Levels I O) where
   -- The line of an output: the name of its level, a blank, the output as text, and a newline.

@@ -1,5 +1,5 @@
 -- Reactors, which handle an input in turns until they are quiet, and the machine that each of them is.
-use Rattle.std.specs.Prelude.{◌≡◌, ℕ, zero, suc, ◌+◌, ◌-◌, ◌<◌, ◌≤◌, Bool, true, false, cond, ◌⊎◌, List, [], ◌++◌}
+use Rattle.std.specs.Prelude.{◌≡◌, ℕ, zero, suc, ◌+◌, ◌-◌, ◌<◌, ◌≤◌, Bool, true, false, cond, ◌⊎◌, List, [], ◌++◌, All}
 use Rattle.ff_reactive.specs.Runs.{Handled, Machine}
 
 -- What one step of a reactor gives: the outputs in order and the state after it.
@@ -32,13 +32,22 @@ module _ {I O S : Type 0} (r : Reactor I O S) where
       record { outputs = begun.outputs ++ rest.outputs; after = rest.after; turns = rest.turns };
   }
 
-  -- Turns spend fuel: an input brings at most `most` of it, and each turn spends some or leaves a quiet state. `Ok` are the
-  -- states that are met, and `InputOk` the inputs.
-  pub record IsFuelled (fuel : S → ℕ) (most : ℕ) (InputOk : I → Type 0) (Ok : S → Type 0) : Type 0 where
-    pub begin_ok : (s : S) (i : I) → Ok s → InputOk i → Ok (r.begin s i).after
-    pub turn_ok : (s : S) → Ok s → r.quiet s ≡ false → Ok (r.turn s).after
-    pub brings : (s : S) (i : I) → Ok s → InputOk i → fuel (r.begin s i).after ≤ most
-    pub spends : (s : S) → Ok s → r.quiet s ≡ false → (fuel (r.turn s).after < fuel s) ⊎ (r.quiet (r.turn s).after ≡ true)
+  -- From well formed states and inputs the reactor's steps give well formed states and outputs.
+  pub record KeepsOk (InputOk : I → Type 0) (StateOk : S → Type 0) (OutputOk : O → Type 0) : Type 0 where
+    pub start_ok : StateOk r.start
+    pub begin_ok : (s : S) (i : I) → StateOk s → InputOk i → StateOk (r.begin s i).after
+    pub begin_outputs : (s : S) (i : I) → StateOk s → InputOk i → All OutputOk (r.begin s i).outputs
+    pub turn_ok : (s : S) → StateOk s → r.quiet s ≡ false → StateOk (r.turn s).after
+    pub turn_outputs : (s : S) → StateOk s → r.quiet s ≡ false → All OutputOk (r.turn s).outputs
+
+  -- Turns spend fuel: an input brings at most `most` of it, and each turn spends some or leaves a quiet state.
+  pub record IsFuelled (fuel : S → ℕ) (most : ℕ) (InputOk : I → Type 0) (StateOk : S → Type 0) : Type 0 where
+    pub brings : (s : S) (i : I) → StateOk s → InputOk i → fuel (r.begin s i).after ≤ most
+    pub spends : (s : S) → StateOk s → r.quiet s ≡ false → (fuel (r.turn s).after < fuel s) ⊎ (r.quiet (r.turn s).after ≡ true)
+
+  -- A bound on the turns that are left: none for a quiet state, else one more than its fuel.
+  abbrev pub turns_left : (S → ℕ) → S → ℕ
+  turns_left fuel s = cond (r.quiet s) 0 (suc (fuel s))
 
   -- Where a loop of turns stands that settles the state `begun` within `most` turns: it has made `turns` turns with these
   -- outputs, and is at the state `now`. Settling `now` in what is left of the turns gives the rest.
