@@ -10,3 +10,4 @@ pub mod Own
 pub mod View
 pub mod Laws
 pub mod Turns
+pub mod Sharing

@@ -86,3 +86,65 @@ module _ {I O S : Type 0} (r : Reactor I O S) where
       from : (left : ℕ) → most - turns ≡ left → turns < most
       from zero e = absurd (true≢false (sym settled ∙ ap r.quiet (at.after_it ∙ ap (λ n. (settle r n now).after) e) ∙ busy))
       from (suc left) e = omega arith
+
+module _ {I O S : Type 0} {r : Reactor I O S} {InputOk : I → Type 0} {StateOk : S → Type 0} {OutputOk : O → Type 0} (keeps : KeepsOk r InputOk StateOk OutputOk) where
+  -- settling keeps to well formed states and outputs, and so does the machine that the reactor is
+  pub settle_ok : (n : ℕ) (s : S) → StateOk s → StateOk (settle r n s).after × All OutputOk (settle r n s).outputs
+  settle_ok zero s ok = (ok, All-nil OutputOk)
+  settle_ok (suc n) s ok = from (r.quiet s) refl (settle_ok n (r.turn s).after)
+    where
+      from : (b : Bool) → r.quiet s ≡ b → (StateOk (r.turn s).after → StateOk (settle r n (r.turn s).after).after × All OutputOk (settle r n (r.turn s).after).outputs)
+        → StateOk (cond b (still r s) (turned r n s)).after × All OutputOk (cond b (still r s) (turned r n s)).outputs
+      from true is_quiet rest = (ok, All-nil OutputOk)
+      from false busy rest =
+          let next = rest (keeps.turn_ok s ok busy) in
+          (next.0, All-append OutputOk (r.turn s).outputs (settle r n (r.turn s).after).outputs (keeps.turn_outputs s ok busy) next.1)
+
+  pub machine_handle_ok : (most : ℕ) (s : S) (i : I) → StateOk s → InputOk i → StateOk ((machine_of r most).handle s i).after
+  machine_handle_ok most s i ok good = (settle_ok most (r.begin s i).after (keeps.begin_ok s i ok good)).0
+
+  pub machine_outputs_ok : (most : ℕ) (s : S) (i : I) → StateOk s → InputOk i → All OutputOk ((machine_of r most).handle s i).outputs
+  machine_outputs_ok most s i ok good =
+      let begun = (r.begin s i).after in
+      All-append OutputOk (r.begin s i).outputs (settle r most begun).outputs (keeps.begin_outputs s i ok good) (settle_ok most begun (keeps.begin_ok s i ok good)).1
+
+  module _ {fuel : S → ℕ} {most : ℕ} (fuelled : IsFuelled r fuel most InputOk StateOk) where
+    settle_enough_turn : (n : ℕ) (s : S) → StateOk s
+      → (fuel (r.turn s).after < fuel s → StateOk (r.turn s).after → r.quiet (settle r n (r.turn s).after).after ≡ true)
+      → r.quiet (settle r (suc n) s).after ≡ true
+    settle_enough_turn n s ok rest = from (r.quiet s) refl
+      where
+        busy_turn : r.quiet s ≡ false → (fuel (r.turn s).after < fuel s) ⊎ (r.quiet (r.turn s).after ≡ true) → r.quiet (settle r n (r.turn s).after).after ≡ true
+        busy_turn busy (inl spent) = rest spent (keeps.turn_ok s ok busy)
+        busy_turn busy (inr is_quiet) = ap (λ h. r.quiet h.after) (settle_quiet r n (r.turn s).after is_quiet) ∙ is_quiet
+        from : (b : Bool) → r.quiet s ≡ b → r.quiet (cond b (still r s) (turned r n s)).after ≡ true
+        from true is_quiet = is_quiet
+        from false busy = busy_turn busy (fuelled.spends s ok busy)
+
+    -- one turn more than there is fuel is enough to be quiet
+    pub settle_enough : (n : ℕ) (s : S) → StateOk s → fuel s ≤ n → r.quiet (settle r (suc n) s).after ≡ true
+    settle_enough zero s ok within = settle_enough_turn zero s ok (λ spent next_ok. absurd (omega arith))
+    settle_enough (suc n) s ok within = settle_enough_turn (suc n) s ok (λ spent next_ok. settle_enough n (r.turn s).after next_ok (omega arith))
+
+    -- so the machine handles each input to its end in at most `most + 1` turns, and would do the same with more of them
+    pub handle_quiet : (s : S) (i : I) → StateOk s → InputOk i → r.quiet ((machine_of r (suc most)).handle s i).after ≡ true
+    handle_quiet s i ok good = settle_enough most (r.begin s i).after (keeps.begin_ok s i ok good) (fuelled.brings s i ok good)
+
+    pub handle_turns : (s : S) (i : I) → ((machine_of r (suc most)).handle s i).turns ≤ most + 1
+    handle_turns s i = omega (arith, settle_turns r (suc most) (r.begin s i).after)
+
+    pub handle_more : (k : ℕ) (s : S) (i : I) → StateOk s → InputOk i → (machine_of r (suc most + k)).handle s i ≡ (machine_of r (suc most)).handle s i
+    handle_more k s i ok good =
+        let onto : Handled O S → Handled O S = λ h. record { outputs = (r.begin s i).outputs ++ h.outputs; after = h.after; turns = h.turns } in
+        ap onto (settle_more r (suc most) k (r.begin s i).after (handle_quiet s i ok good))
+
+    -- each turn brings the end nearer
+    pub turns_left_falls : (s : S) → StateOk s → r.quiet s ≡ false → turns_left r fuel (r.turn s).after < turns_left r fuel s
+    turns_left_falls s ok busy = subst (λ b. turns_left r fuel (r.turn s).after < cond b 0 (suc (fuel s))) (sym busy) (from (fuelled.spends s ok busy))
+      where
+        fewer : (b : Bool) → fuel (r.turn s).after < fuel s → cond b 0 (suc (fuel (r.turn s).after)) < suc (fuel s)
+        fewer true spent = omega arith
+        fewer false spent = omega arith
+        from : (fuel (r.turn s).after < fuel s) ⊎ (r.quiet (r.turn s).after ≡ true) → turns_left r fuel (r.turn s).after < suc (fuel s)
+        from (inl spent) = fewer (r.quiet (r.turn s).after) spent
+        from (inr is_quiet) = subst (λ b. cond b 0 (suc (fuel (r.turn s).after)) < suc (fuel s)) (sym is_quiet) (omega arith)
