@@ -40,11 +40,13 @@ module _ {I O S : Type 0} (m : Machine I O S) (v : Levels I O) where
   pub entry_below_start : (before : List I) (i : I) → entry_below m v before i 0 ≡ []
   entry_below_start before i = refl
 
+  pub entry_below_more_suc : (before : List I) (i : I) (l : ℕ) → entry_below m v before i (suc l) ≡ entry_below m v before i l ++ copy_entry m v l before i
+  entry_below_more_suc before i l =
+      flat_map-append (λ k. copy_entry m v k before i) (below l) (l ∷ []) ∙ ap (λ os. entry_below m v before i l ++ os) (append-nil (copy_entry m v l before i))
+
   pub entry_below_more : (before : List I) (i : I) (l : ℕ) → entry_below m v before i (l + 1) ≡ entry_below m v before i l ++ copy_entry m v l before i
   entry_below_more before i l =
-      ap (λ n. entry_below m v before i n) (add-one l)
-      ∙ flat_map-append (λ k. copy_entry m v k before i) (below l) (l ∷ [])
-      ∙ ap (λ os. entry_below m v before i l ++ os) (append-nil (copy_entry m v l before i))
+      ap (λ n. entry_below m v before i n) (add-one l) ∙ entry_below_more_suc before i l
 
   -- the multi-executed run over no input, over one more, and over more
   pub multi_start : multi m v [] ≡ []

@@ -1,4 +1,4 @@
-mod Lists
+pub mod Lists
 mod Rows
 pub mod Runs
 pub mod Copies

@@ -1,17 +1,46 @@
 -- What a loop over inputs, and within it over levels, keeps true: the text so far, and where the copies stand.
-use Rattle.std.proofs.Common.{◌≡◌, ℕ, suc, ◌+◌, ◌<◌, ◌≤◌, ◌==◌, cond, Option, Some, None, List, [], ◌∷◌, ◌++◌, length, get_or, set, replicate, All, refl, sym, ap, subst, ◌∙◌, append_assoc, append-nil, add-one, arith, length-set, get_or-set_same, get_or-set_other}
+use Rattle.std.proofs.Common.{◌≡◌, ℕ, zero, suc, ◌+◌, ◌<◌, ◌≤◌, ◌==◌, Bool, true, false, cond, take, drop, take-append-drop, Option, Some, None, List, [], ◌∷◌, ◌++◌, length, get_or, set, replicate, All, refl, sym, ap, subst, ◌∙◌, append_assoc, append-nil, add-one, arith, length-set, get_or-set_same, get_or-set_other}
 use Rattle.std.proofs.lemmas.Bool.{cases_eq}
-use Rattle.std.proofs.lemmas.List.{length-replicate, get_or-replicate}
+use Rattle.std.proofs.lemmas.List.{take_more}
+use Rattle.std.proofs.lemmas.List.Elements.{filter_more}
 use Rattle.std.proofs.Common.{◌⊎◌, inl, inr}
-use Rattle.ff_reactive.specs.Runs.{Machine, entries, after, plain}
+use Rattle.ff_reactive.specs.Runs.{Machine, entries, plain_from, after, plain}
 use Rattle.ff_reactive.specs.Copies.{Levels, seen, at_level, copy_entry, entry_below, multi_entry, multi}
-use Rattle.ff_reactive.specs.Text.{text_of, text_out, line_of}
+use Rattle.ff_reactive.specs.Text.{BeginsWith, text_of, text_out, line_of}
 use Rattle.ff_reactive.specs.Loops.{handle_seen, AreCopies, text_below}
-use Rattle.ff_reactive.proofs.Runs.{after_start, plain_start, plain_more}
-use Rattle.ff_reactive.proofs.Copies.{copy_entry_is, copy_after_more, entry_below_more, multi_start, multi_more, multi-append}
-use Rattle.ff_reactive.proofs.Text.{text_of_none, text_of-append, text_of_push, text_out_none, text_out_push, text_out-append}
+use Rattle.ff_reactive.proofs.Lists.{begins-trans, begins_under, begins_and_more, same_begins}
+use Rattle.ff_reactive.proofs.Runs.{after_start, plain_start, plain_more, plain-append}
+use Rattle.ff_reactive.proofs.Copies.{copy_entry_is, copy_after_more, entry_below_more, entry_below_more_suc, multi_start, multi_more, multi-append}
+use Rattle.ff_reactive.proofs.Text.{text_of_none, text_of-cons, text_of_begins, text_of-append, text_of_push, text_out_none, text_out_push, text_out-append}
+
+module _ {I O : Type 0} (v : Levels I O) where
+  -- the text of the first outputs of a list, as one more comes
+  pub text_of_take_more : (os : List O) (j : ℕ) (d : O) → j < length os → text_of v (take (j + 1) os) ≡ text_of v (take j os) ++ line_of v (get_or os j d)
+  text_of_take_more os j d lt = ap (text_of v) (take_more os j d lt) ∙ text_of_push v (take j os) (get_or os j d)
+
+  -- and of those of them that belong to a level
+  pub text_at_level_take_more : (l : ℕ) (os : List O) (j : ℕ) (d : O) → j < length os
+    → text_of v (at_level v l (take (j + 1) os)) ≡ text_of v (at_level v l (take j os)) ++ cond (v.level_out (get_or os j d) == l) (line_of v (get_or os j d)) []
+  text_at_level_take_more l os j d lt =
+      ap (text_of v) (filter_more (λ o. v.level_out o == l) os j d lt)
+      ∙ text_of-append v (at_level v l (take j os)) (cond (v.level_out (get_or os j d) == l) (get_or os j d ∷ []) [])
+      ∙ ap (λ bs. text_of v (at_level v l (take j os)) ++ bs) (from (v.level_out (get_or os j d) == l))
+    where
+      from : (b : Bool) → text_of v (cond b (get_or os j d ∷ []) []) ≡ cond b (line_of v (get_or os j d)) []
+      from true = text_of-cons v (get_or os j d) [] ∙ ap (λ bs. line_of v (get_or os j d) ++ bs) (text_of_none v) ∙ append-nil (line_of v (get_or os j d))
+      from false = text_of_none v
 
 module _ {I O S : Type 0} (m : Machine I O S) (v : Levels I O) where
+  -- the text of the plain run over no input, over one more, and over more
+  pub plain_text_start : text_out v (plain m []) ≡ []
+  plain_text_start = ap (text_out v) (plain_start m) ∙ text_out_none v
+
+  pub plain_text_more : (is : List I) (i : I) → text_out v (plain m (is ++ i ∷ [])) ≡ text_out v (plain m is) ++ text_of v (m.handle (after m is) i).outputs
+  plain_text_more is i = ap (text_out v) (plain_more m is i) ∙ text_out_push v (plain m is) (m.handle (after m is) i).outputs
+
+  pub plain_text_begins : (is js : List I) → BeginsWith (text_out v (plain m (is ++ js))) (text_out v (plain m is))
+  plain_text_begins is js = (text_out v (plain_from m (after m is) js), ap (text_out v) (plain-append m is js) ∙ text_out-append v (plain m is) (plain_from m (after m is) js))
+
   -- the text of the multi-executed run over no input, and over one more
   pub text_start : text_out v (multi m v []) ≡ []
   text_start = ap (text_out v) (multi_start m v) ∙ text_out_none v
@@ -43,6 +72,45 @@ module _ {I O S : Type 0} (m : Machine I O S) (v : Levels I O) where
   text_below_more_at before i l s at =
       text_below_more before i l
       ∙ ap (λ os. text_below m v before i l ++ text_of v os) (copy_entry_is m v l before i ∙ ap (λ t. at_level v l (handle_seen m t (v.sees l i)).outputs) (sym at))
+
+  -- the same with the inputs so far as the first of a list
+  pub text_take_start : (is : List I) → text_out v (multi m v (take 0 is)) ≡ []
+  text_take_start is = text_start
+
+  pub text_below_take_done : (is : List I) (n : ℕ) (d : I) → n < length is → text_below m v (take n is) (get_or is n d) v.count ≡ text_out v (multi m v (take (n + 1) is))
+  text_below_take_done is n d lt = text_below_done (take n is) (get_or is n d) ∙ ap (λ xs. text_out v (multi m v xs)) (sym (take_more is n d lt))
+
+  -- the text over the inputs begins with all that was put out on the way
+  pub text_begins : (is js : List I) → BeginsWith (text_out v (multi m v (is ++ js))) (text_out v (multi m v is))
+  text_begins is js = (text_out v (entries (multi_entry m v) is js), text_grows is js)
+
+  pub text_take_begins : (n : ℕ) (is : List I) → BeginsWith (text_out v (multi m v is)) (text_out v (multi m v (take n is)))
+  text_take_begins n is =
+      let rest = text_out v (entries (multi_entry m v) (take n is) (drop n is)) in
+      (rest, ap (λ xs. text_out v (multi m v xs)) (sym (take-append-drop n is)) ∙ text_grows (take n is) (drop n is))
+
+  pub entry_below_begins : (before : List I) (i : I) (l n : ℕ) → l ≤ n → BeginsWith (entry_below m v before i n) (entry_below m v before i l)
+  entry_below_begins before i l zero low = ([], ap (λ k. entry_below m v before i k) none ∙ sym (append-nil (entry_below m v before i l)))
+    where
+      none : 0 ≡ l
+      none = omega arith
+  entry_below_begins before i l (suc n) low = from (cases_eq l (suc n)) (λ lower. entry_below_begins before i l n lower)
+    where
+      from : (l ≡ suc n) ⊎ (l ≡ suc n → ⊥) → (l ≤ n → BeginsWith (entry_below m v before i n) (entry_below m v before i l)) → BeginsWith (entry_below m v before i (suc n)) (entry_below m v before i l)
+      from (inl e) rest = ([], ap (λ k. entry_below m v before i k) (sym e) ∙ sym (append-nil (entry_below m v before i l)))
+      from (inr differ) rest =
+          same_begins (entry_below m v before i (suc n)) (entry_below m v before i n ++ copy_entry m v n before i) (entry_below m v before i l) (entry_below_more_suc m v before i n)
+            (begins_and_more (entry_below m v before i n) (copy_entry m v n before i) (entry_below m v before i l) (rest (omega arith)))
+
+  pub text_below_begins : (before : List I) (i : I) (js : List I) (l : ℕ) → l ≤ v.count → BeginsWith (text_out v (multi m v (before ++ i ∷ js))) (text_below m v before i l)
+  text_below_begins before i js l low =
+      let whole = text_out v (multi m v (before ++ i ∷ js)) in
+      let next = text_out v (multi m v (before ++ i ∷ [])) in
+      let entry = entry_below m v before i in
+      begins-trans whole next (text_below m v before i l)
+        (same_begins whole (text_out v (multi m v (before ++ i ∷ [] ++ js))) next (ap (λ xs. text_out v (multi m v xs)) (sym (append_assoc before (i ∷ []) js))) (text_begins (before ++ i ∷ []) js))
+        (same_begins next (text_below m v before i v.count) (text_below m v before i l) (text_more before i)
+          (begins_under (text_out v (multi m v before)) (text_of v (entry v.count)) (text_of v (entry l)) (text_of_begins v (entry v.count) (entry l) (entry_below_begins before i l v.count low))))
 
   -- Where the copies stand: all at the start, the first of them as an input comes, one more, and all when it was handled.
   pub copies_start : (states : List S) → length states ≡ v.count → All (λ s. s ≡ m.start) states → AreCopies m v states [] 0 []

@@ -6,7 +6,7 @@ use Rattle.std.proofs.lemmas.List.Concat.{flat_map-append}
 use Rattle.std.proofs.lemmas.List.Elements.{All-head, All-tail, All-append, All-cons, All-weaker}
 use Rattle.ff_reactive.specs.Runs.{joined}
 use Rattle.ff_reactive.specs.Copies.{Levels}
-use Rattle.ff_reactive.specs.Text.{onto_lines, lines, first_word, pick, line_of, text_of, text_out}
+use Rattle.ff_reactive.specs.Text.{BeginsWith, onto_lines, lines, first_word, pick, line_of, text_of, text_out}
 use Rattle.ff_reactive.specs.Laws.{IsOneLine, IsWord}
 use Rattle.ff_reactive.proofs.Lists.{joined_push}
 
@@ -57,6 +57,9 @@ module _ {I O : Type 0} (v : Levels I O) where
   pub text_of_push : (os : List O) (o : O) → text_of v (os ++ o ∷ []) ≡ text_of v os ++ line_of v o
   unfolding text_of
   text_of_push os o = flat_map-append (line_of v) os (o ∷ []) ∙ ap (λ bs. flat_map (line_of v) os ++ bs) (append-nil (line_of v o))
+
+  pub text_of_begins : (os ps : List O) → BeginsWith os ps → BeginsWith (text_of v os) (text_of v ps)
+  text_of_begins os ps begins = (text_of v begins.0, ap (text_of v) begins.1 ∙ text_of-append ps begins.0)
 
   -- the text of no entry, of one more, and of more
   pub text_out_none : text_out v [] ≡ []
