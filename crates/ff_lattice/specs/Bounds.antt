@@ -1,0 +1,36 @@
+-- Chains of a relation, bounds of two levels, and what a lattice is. A level is a number below n.
+use Rattle.std.specs.Prelude.{◌≡◌, ℕ, ◌<◌}
+
+-- b is reached from a by steps of the relation, or by none
+pub data Chain {X : Type 0} (R : X → X → Type 0) : X → X → Type 0 where
+  here : (a : X) → Chain R a a
+  step : (a b c : X) → R a b → Chain R b c → Chain R a c
+
+-- the relation from its other side
+abbrev pub Flip : (ℕ → ℕ → Type 0) → ℕ → ℕ → Type 0
+Flip R a b = R b a
+
+-- c is above a and b, and below each level that is
+pub record IsJoin (R : ℕ → ℕ → Type 0) (n a b c : ℕ) : Type 0 where
+  pub within : c < n
+  pub above_first : R a c
+  pub above_second : R b c
+  pub least : (d : ℕ) → d < n → R a d → R b d → R c d
+
+-- c is below a and b, and above each level that is
+abbrev pub IsMeet : (ℕ → ℕ → Type 0) → ℕ → ℕ → ℕ → ℕ → Type 0
+IsMeet R n a b c = IsJoin (Flip R) n a b c
+
+-- some level is the join
+abbrev pub HasJoin : (ℕ → ℕ → Type 0) → ℕ → ℕ → ℕ → Type 0
+HasJoin R n a b = (c : ℕ) × IsJoin R n a b c
+
+-- some level is the meet
+abbrev pub HasMeet : (ℕ → ℕ → Type 0) → ℕ → ℕ → ℕ → Type 0
+HasMeet R n a b = HasJoin (Flip R) n a b
+
+-- no two levels are each below the other, and every two have a join and a meet
+pub record IsLattice (R : ℕ → ℕ → Type 0) (n : ℕ) : Type 0 where
+  pub antisymmetric : (a b : ℕ) → a < n → b < n → R a b → R b a → a ≡ b
+  pub joins : (a b : ℕ) → a < n → b < n → HasJoin R n a b
+  pub meets : (a b : ℕ) → a < n → b < n → HasMeet R n a b

@@ -1,0 +1,4 @@
+pub mod Bounds
+pub mod LevelBits
+pub mod LevelSet
+pub mod Order
