@@ -1,5 +1,5 @@
 -- Where the levels fit the machine, all that is met on well formed inputs is well formed.
-use Rattle.std.proofs.Common.{◌≡◌, ℕ, zero, suc, ◌<◌, ◌==◌, true, Option, Some, None, List, [], ◌∷◌, ◌++◌, filter, flat_map, All, refl, sym, ap, subst, ◌∙◌, append-nil, arith, eqb-true}
+use Rattle.std.proofs.Common.{◌≡◌, ℕ, zero, suc, ◌<◌, ◌==◌, true, Option, Some, None, List, [], ◌∷◌, ◌++◌, flat_map, All, refl, sym, subst, arith, eqb-true}
 use Rattle.std.specs.List.{cons_option}
 use Rattle.std.proofs.lemmas.List.Concat.{flat_map-append}
 use Rattle.std.proofs.lemmas.List.Elements.{All-nil, All-cons, All-head, All-tail, All-append, All-push, All-filter, All-weaker, filter_passes}
@@ -15,7 +15,7 @@ pub All-flat_map_below : {Y : Type 0} (P : Y → Type 0) (f : ℕ → List Y) (n
 All-flat_map_below P f zero parts = All-nil P
 All-flat_map_below P f (suc n) parts =
     subst (All P) (sym (flat_map-append f (below n) (n ∷ [])))
-      (All-append P (flat_map f (below n)) (f n ++ []) (All-flat_map_below P f n (λ k lt. parts k (omega arith))) (All-append P (f n) [] (parts n (omega arith)) (All-nil P)))
+    (All-append P (flat_map f (below n)) (f n ++ []) (All-flat_map_below P f n (λ k lt. parts k (omega arith))) (All-append P (f n) [] (parts n (omega arith)) (All-nil P)))
 
 module _ {I O S : Type 0} {m : Machine I O S} {v : Levels I O} {InputOk : I → Type 0} {StateOk : S → Type 0} {OutputOk : O → Type 0} (law : IsLawful m v InputOk StateOk OutputOk) where
   -- what a level sees
@@ -40,7 +40,7 @@ module _ {I O S : Type 0} {m : Machine I O S} {v : Levels I O} {InputOk : I → 
   pub copy_entry_ok : (l : ℕ) (before : List I) (i : I) → All InputOk before → InputOk i → All OutputOk (copy_entry m v l before i)
   copy_entry_ok l before i all here =
       subst (All OutputOk) (sym (copy_entry_is m v l before i))
-        (All-filter (λ o. v.level_out o == l) OutputOk (handle_seen m (after m (seen v l before)) (v.sees l i)).outputs (from (v.sees l i) refl))
+      (All-filter (λ o. v.level_out o == l) OutputOk (handle_seen m (after m (seen v l before)) (v.sees l i)).outputs (from (v.sees l i) refl))
     where
       from : (o : Option I) → v.sees l i ≡ o → All OutputOk (handle_seen m (after m (seen v l before)) o).outputs
       from None e = All-nil OutputOk
@@ -53,8 +53,8 @@ module _ {I O S : Type 0} {m : Machine I O S} {v : Levels I O} {InputOk : I → 
   entries_ok before [] all ok = All-nil OutputOk
   entries_ok before (i ∷ is) all ok =
       All-append OutputOk (multi_entry m v before i) (joined (entries (multi_entry m v) (before ++ i ∷ []) is))
-        (entry_below_ok before i v.count all (All-head InputOk i is ok))
-        (entries_ok (before ++ i ∷ []) is (All-push InputOk before i all (All-head InputOk i is ok)) (All-tail InputOk i is ok))
+      (entry_below_ok before i v.count all (All-head InputOk i is ok))
+      (entries_ok (before ++ i ∷ []) is (All-push InputOk before i all (All-head InputOk i is ok)) (All-tail InputOk i is ok))
 
   pub multi_ok : (is : List I) → All InputOk is → All OutputOk (joined (multi m v is))
   unfolding multi
@@ -72,4 +72,4 @@ pub copy_entry_level : {I O S : Type 0} (m : Machine I O S) (v : Levels I O) (l 
 copy_entry_level m v l before i =
     let os = (handle_seen m (after m (seen v l before)) (v.sees l i)).outputs in
     subst (All (λ o. v.level_out o ≡ l)) (sym (copy_entry_is m v l before i))
-      (All-weaker (λ o. (v.level_out o == l) ≡ true) (λ o. v.level_out o ≡ l) (λ o e. eqb-true (v.level_out o) l e) (at_level v l os) (filter_passes (λ o. v.level_out o == l) os))
+    (All-weaker (λ o. (v.level_out o == l) ≡ true) (λ o. v.level_out o ≡ l) (λ o e. eqb-true (v.level_out o) l e) (at_level v l os) (filter_passes (λ o. v.level_out o == l) os))

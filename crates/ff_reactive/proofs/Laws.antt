@@ -14,7 +14,7 @@ module _ {I O S : Type 0} {m : Machine I O S} {v : Levels I O} {InputOk : I → 
 
   -- inputs that look the same to a level give it the same view
   pub noninterference : (l : ℕ) (is js : List I) → l < v.count → All InputOk is → All InputOk js → seen v l js ≡ seen v l is
-    → view v l (text_out v (multi m v is)) ≡ view v l (text_out v (multi m v js))
+      → view v l (text_out v (multi m v is)) ≡ view v l (text_out v (multi m v js))
   noninterference l is js lt ok ok' alike = view_is law l is lt ok ∙ ap (λ xs. text_of v (joined (low xs))) (sym alike) ∙ sym (view_is law l js lt ok')
     where
       low : List I → List (List O)
@@ -22,8 +22,8 @@ module _ {I O S : Type 0} {m : Machine I O S} {v : Levels I O} {InputOk : I → 
 
   -- where the plain machine's outputs at a level don't depend on what the level doesn't see, its own lines are the plain ones
   pub precision : (l : ℕ) (is : List I) → l < v.count → All InputOk is
-    → at_level v l (joined (plain m is)) ≡ at_level v l (joined (plain m (seen v l is)))
-    → only v l (text_out v (multi m v is)) ≡ text_of v (at_level v l (joined (plain m is)))
+      → at_level v l (joined (plain m is)) ≡ at_level v l (joined (plain m (seen v l is)))
+      → only v l (text_out v (multi m v is)) ≡ text_of v (at_level v l (joined (plain m is)))
   precision l is lt ok ignores = projection l is lt ok ∙ ap (text_of v) (sym ignores)
 
   -- the same of a text that is known to be that of the multi-executed run

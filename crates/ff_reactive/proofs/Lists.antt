@@ -1,11 +1,11 @@
 -- Lists that are joined, filtered and made entry by entry.
-use Rattle.std.proofs.Common.{◌≡◌, ℕ, zero, suc, ◌<◌, Bool, true, false, cond, ◌==◌, List, [], ◌∷◌, ◌++◌, filter, filter_map, flat_map, All, Option, Some, None, refl, sym, ap, ◌∙◌, append_assoc, append-nil, arith, eqb-true}
-use Rattle.std.proofs.lemmas.Bool.{ne_eqb, eq-eqb, cases_eq}
+use Rattle.std.proofs.Common.{◌≡◌, ℕ, zero, suc, ◌<◌, Bool, true, false, cond, List, [], ◌∷◌, ◌++◌, filter, filter_map, flat_map, All, Option, Some, None, refl, sym, ap, ◌∙◌, append_assoc, append-nil, arith}
+use Rattle.std.proofs.lemmas.Bool.{cases_eq}
 use Rattle.std.proofs.lemmas.List.Elements.{filter-append, All-head, All-tail}
 use Rattle.std.proofs.lemmas.List.Concat.{flat_map-append}
 use Rattle.std.specs.List.{cons_option}
 use Rattle.std.proofs.Common.{◌⊎◌, inl, inr}
-use Rattle.ff_reactive.specs.Runs.{entries, joined, last_or, last_entry}
+use Rattle.ff_reactive.specs.Runs.{entries, joined, last_or}
 use Rattle.ff_reactive.specs.Copies.{below}
 use Rattle.ff_reactive.specs.Text.{BeginsWith}
 

@@ -1,5 +1,5 @@
 -- What a loop over inputs, and within it over levels, keeps true: the text so far, and where the copies stand.
-use Rattle.std.proofs.Common.{◌≡◌, ℕ, zero, suc, ◌+◌, ◌<◌, ◌≤◌, ◌==◌, Bool, true, false, cond, take, drop, take-append-drop, Option, Some, None, List, [], ◌∷◌, ◌++◌, length, get_or, set, replicate, All, refl, sym, ap, subst, ◌∙◌, append_assoc, append-nil, add-one, arith, length-set, get_or-set_same, get_or-set_other}
+use Rattle.std.proofs.Common.{◌≡◌, ℕ, zero, suc, ◌+◌, ◌<◌, ◌≤◌, ◌==◌, Bool, true, false, cond, take, drop, take-append-drop, None, List, [], ◌∷◌, ◌++◌, length, get_or, set, All, sym, ap, ◌∙◌, append_assoc, append-nil, arith, length-set, get_or-set_same, get_or-set_other}
 use Rattle.std.proofs.lemmas.Bool.{cases_eq}
 use Rattle.std.proofs.lemmas.List.{take_more}
 use Rattle.std.proofs.lemmas.List.Elements.{filter_more}
@@ -20,7 +20,7 @@ module _ {I O : Type 0} (v : Levels I O) where
 
   -- and of those of them that belong to a level
   pub text_at_level_take_more : (l : ℕ) (os : List O) (j : ℕ) (d : O) → j < length os
-    → text_of v (at_level v l (take (j + 1) os)) ≡ text_of v (at_level v l (take j os)) ++ cond (v.level_out (get_or os j d) == l) (line_of v (get_or os j d)) []
+      → text_of v (at_level v l (take (j + 1) os)) ≡ text_of v (at_level v l (take j os)) ++ cond (v.level_out (get_or os j d) == l) (line_of v (get_or os j d)) []
   text_at_level_take_more l os j d lt =
       ap (text_of v) (filter_more (λ o. v.level_out o == l) os j d lt)
       ∙ text_of-append v (at_level v l (take j os)) (cond (v.level_out (get_or os j d) == l) (get_or os j d ∷ []) [])
@@ -68,7 +68,7 @@ module _ {I O S : Type 0} (m : Machine I O S) (v : Levels I O) where
 
   -- the text that one more level adds, from the state of its copy
   pub text_below_more_at : (before : List I) (i : I) (l : ℕ) (s : S) → s ≡ after m (seen v l before)
-    → text_below m v before i (l + 1) ≡ text_below m v before i l ++ text_of v (at_level v l (handle_seen m s (v.sees l i)).outputs)
+      → text_below m v before i (l + 1) ≡ text_below m v before i l ++ text_of v (at_level v l (handle_seen m s (v.sees l i)).outputs)
   text_below_more_at before i l s at =
       text_below_more before i l
       ∙ ap (λ os. text_below m v before i l ++ text_of v os) (copy_entry_is m v l before i ∙ ap (λ t. at_level v l (handle_seen m t (v.sees l i)).outputs) (sym at))
@@ -100,7 +100,7 @@ module _ {I O S : Type 0} (m : Machine I O S) (v : Levels I O) where
       from (inl e) rest = ([], ap (λ k. entry_below m v before i k) (sym e) ∙ sym (append-nil (entry_below m v before i l)))
       from (inr differ) rest =
           same_begins (entry_below m v before i (suc n)) (entry_below m v before i n ++ copy_entry m v n before i) (entry_below m v before i l) (entry_below_more_suc m v before i n)
-            (begins_and_more (entry_below m v before i n) (copy_entry m v n before i) (entry_below m v before i l) (rest (omega arith)))
+          (begins_and_more (entry_below m v before i n) (copy_entry m v n before i) (entry_below m v before i l) (rest (omega arith)))
 
   pub text_below_begins : (before : List I) (i : I) (js : List I) (l : ℕ) → l ≤ v.count → BeginsWith (text_out v (multi m v (before ++ i ∷ js))) (text_below m v before i l)
   text_below_begins before i js l low =
@@ -108,9 +108,9 @@ module _ {I O S : Type 0} (m : Machine I O S) (v : Levels I O) where
       let next = text_out v (multi m v (before ++ i ∷ [])) in
       let entry = entry_below m v before i in
       begins-trans whole next (text_below m v before i l)
-        (same_begins whole (text_out v (multi m v (before ++ i ∷ [] ++ js))) next (ap (λ xs. text_out v (multi m v xs)) (sym (append_assoc before (i ∷ []) js))) (text_begins (before ++ i ∷ []) js))
-        (same_begins next (text_below m v before i v.count) (text_below m v before i l) (text_more before i)
-          (begins_under (text_out v (multi m v before)) (text_of v (entry v.count)) (text_of v (entry l)) (text_of_begins v (entry v.count) (entry l) (entry_below_begins before i l v.count low))))
+      (same_begins whole (text_out v (multi m v (before ++ i ∷ [] ++ js))) next (ap (λ xs. text_out v (multi m v xs)) (sym (append_assoc before (i ∷ []) js))) (text_begins (before ++ i ∷ []) js))
+      (same_begins next (text_below m v before i v.count) (text_below m v before i l) (text_more before i)
+      (begins_under (text_out v (multi m v before)) (text_of v (entry v.count)) (text_of v (entry l)) (text_of_begins v (entry v.count) (entry l) (entry_below_begins before i l v.count low))))
 
   -- Where the copies stand: all at the start, the first of them as an input comes, one more, and all when it was handled.
   pub copies_start : (states : List S) → length states ≡ v.count → All (λ s. s ≡ m.start) states → AreCopies m v states [] 0 []
@@ -128,7 +128,7 @@ module _ {I O S : Type 0} (m : Machine I O S) (v : Levels I O) where
   copy_at states before more l d are lt = are.waiting l d (omega arith) lt
 
   pub copies_step : (states : List S) (before : List I) (i : I) (l : ℕ) (s d : S) → AreCopies m v states before l (before ++ i ∷ []) → l < v.count
-    → s ≡ (handle_seen m (get_or states l d) (v.sees l i)).after → AreCopies m v (set states l s) before (l + 1) (before ++ i ∷ [])
+      → s ≡ (handle_seen m (get_or states l d) (v.sees l i)).after → AreCopies m v (set states l s) before (l + 1) (before ++ i ∷ [])
   copies_step states before i l s d are lt made = record {
     long = length-set states l s ∙ are.long;
     done = λ k e low at_k. from k e low at_k (cases_eq k l);
@@ -145,7 +145,7 @@ module _ {I O S : Type 0} (m : Machine I O S) (v : Levels I O) where
 
   -- a level that doesn't see the input leaves its copy as it is
   pub copies_pass : (states : List S) (before : List I) (i : I) (l : ℕ) → AreCopies m v states before l (before ++ i ∷ []) → l < v.count
-    → v.sees l i ≡ None → AreCopies m v states before (l + 1) (before ++ i ∷ [])
+      → v.sees l i ≡ None → AreCopies m v states before (l + 1) (before ++ i ∷ [])
   copies_pass states before i l are lt unseen = record {
     long = are.long;
     done = λ k e low at_k. from k e low at_k (cases_eq k l);

@@ -1,7 +1,7 @@
 -- The names of the levels tell them apart.
-use Rattle.std.proofs.Common.{◌≡◌, ◌≢◌, ℕ, zero, suc, ◌<◌, Bool, true, false, ◌==◌, ◌&&◌, ◌||◌, ◌⊎◌, inl, inr, List, [], ◌∷◌, ◌++◌, bytes_eq, refl, sym, ap, ◌∙◌, arith}
+use Rattle.std.proofs.Common.{◌≡◌, ℕ, zero, suc, ◌<◌, Bool, true, false, ◌==◌, ◌&&◌, ◌||◌, ◌⊎◌, inl, inr, [], ◌∷◌, bytes_eq, refl, sym, ap, ◌∙◌, arith}
 use Rattle.std.specs.List.{list_any}
-use Rattle.std.proofs.lemmas.Bool.{cases_eq, eq-eqb, ne_eqb, cases_Bool, false_from_ne_true, and_left, and_right}
+use Rattle.std.proofs.lemmas.Bool.{cases_eq, eq-eqb, ne_eqb, false_from_ne_true, and_right}
 use Rattle.std.proofs.lemmas.List.Folds.{list_any-append}
 use Rattle.std.proofs.lemmas.Slice.Eq.{bytes_eq-Decides}
 use Rattle.std.proofs.Math.Bool.{and-true, or-false}
@@ -36,6 +36,7 @@ module _ {I O S : Type 0} {m : Machine I O S} {v : Levels I O} {InputOk : I → 
     where
       decides : (bytes_eq (v.name l) (v.name k) ≡ true → v.name l ≡ v.name k) × (v.name l ≡ v.name k → bytes_eq (v.name l) (v.name k) ≡ true)
       decides = bytes_eq-Decides (v.name l) (v.name k)
+
       from : (k ≡ l) ⊎ (k ≡ l → ⊥) → bytes_eq (v.name l) (v.name k) ≡ (k == l)
       from (inl e) = decides.1 (ap v.name (sym e)) ∙ sym (eq-eqb k l e)
       from (inr differ) =
@@ -46,5 +47,5 @@ module _ {I O S : Type 0} {m : Machine I O S} {v : Levels I O} {InputOk : I → 
   pub name_below : (k l : ℕ) → k < v.count → names_below v l (v.name k) ≡ v.leq k l
   name_below k l at_k =
       list_any_one_below (λ j. v.leq j l && bytes_eq (v.name j) (v.name k)) k v.count at_k
-        (λ j at_j differ. and_right (v.leq j l) (bytes_eq (v.name j) (v.name k)) (same_name k j at_k at_j ∙ ne_eqb k j (λ e. differ (sym e))))
+      (λ j at_j differ. and_right (v.leq j l) (bytes_eq (v.name j) (v.name k)) (same_name k j at_k at_j ∙ ne_eqb k j (λ e. differ (sym e))))
       ∙ ap (λ b. v.leq k l && b) (same_name k k at_k at_k ∙ eq-eqb k k refl) ∙ and-true (v.leq k l)

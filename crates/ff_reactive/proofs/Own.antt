@@ -1,5 +1,5 @@
 -- A level's own lines are those of the plain machine on what the level sees.
-use Rattle.std.proofs.Common.{◌≡◌, ℕ, ◌<◌, Bool, true, false, ◌==◌, Option, Some, None, List, [], ◌∷◌, ◌++◌, filter, flat_map, All, bytes_eq, refl, sym, ap, ◌∙◌, arith}
+use Rattle.std.proofs.Common.{◌≡◌, ℕ, ◌<◌, true, false, ◌==◌, Option, Some, None, List, [], ◌∷◌, ◌++◌, All, bytes_eq, refl, sym, ap, ◌∙◌}
 use Rattle.std.specs.List.{cons_option}
 use Rattle.std.proofs.lemmas.Bool.{eq-eqb, ne_eqb}
 use Rattle.std.proofs.lemmas.List.Elements.{filter-append, All-weaker}
@@ -20,10 +20,10 @@ module _ {I O S : Type 0} (m : Machine I O S) (v : Levels I O) where
   at_level-multi_entry l before i lt =
       filter-flat_map (λ o. v.level_out o == l) (λ k. copy_entry m v k before i) (below v.count)
       ∙ flat_map_one_below (λ k. at_level v l (copy_entry m v k before i)) l v.count lt
-          (λ k at_k differ. filter_none (λ o. v.level_out o == l) (copy_entry m v k before i)
-            (All-weaker (λ o. v.level_out o ≡ k) (λ o. (v.level_out o == l) ≡ false) (λ o e. ne_eqb (v.level_out o) l (λ same. differ (sym e ∙ same))) (copy_entry m v k before i) (copy_entry_level m v k before i)))
+      (λ k at_k differ. filter_none (λ o. v.level_out o == l) (copy_entry m v k before i)
+      (All-weaker (λ o. v.level_out o ≡ k) (λ o. (v.level_out o == l) ≡ false) (λ o e. ne_eqb (v.level_out o) l (λ same. differ (sym e ∙ same))) (copy_entry m v k before i) (copy_entry_level m v k before i)))
       ∙ filter_all (λ o. v.level_out o == l) (copy_entry m v l before i)
-          (All-weaker (λ o. v.level_out o ≡ l) (λ o. (v.level_out o == l) ≡ true) (λ o e. eq-eqb (v.level_out o) l e) (copy_entry m v l before i) (copy_entry_level m v l before i))
+      (All-weaker (λ o. v.level_out o ≡ l) (λ o. (v.level_out o == l) ≡ true) (λ o e. eq-eqb (v.level_out o) l e) (copy_entry m v l before i) (copy_entry_level m v l before i))
 
   at_level-entries : (l : ℕ) (before is : List I) → l < v.count → at_level v l (joined (entries (multi_entry m v) before is)) ≡ joined (entries (copy_entry m v l) before is)
   at_level-entries l before [] lt = refl
@@ -46,8 +46,9 @@ module _ {I O S : Type 0} (m : Machine I O S) (v : Levels I O) where
     where
       now : Handled O S
       now = handle_seen m (after m (seen v l before)) (v.sees l i)
+
       from : (o : Option I) → at_level v l (handle_seen m (after m (seen v l before)) o).outputs ++ at_level v l (joined (plain_from m (handle_seen m (after m (seen v l before)) o).after (seen v l is)))
-        ≡ at_level v l (joined (plain_from m (after m (seen v l before)) (cons_option o (seen v l is))))
+          ≡ at_level v l (joined (plain_from m (after m (seen v l before)) (cons_option o (seen v l is))))
       from None = refl
       from (Some x) =
           let s = after m (seen v l before) in
@@ -65,5 +66,5 @@ module _ {I O S : Type 0} {m : Machine I O S} {v : Levels I O} {InputOk : I → 
   only_is l is lt ok =
       pick-text_of v (bytes_eq (v.name l)) (joined (multi m v is)) (all_have_lines law is ok)
       ∙ ap (text_of v) (filter_agree_all (λ o. bytes_eq (v.name l) (v.name (v.level_out o))) (λ o. v.level_out o == l) (joined (multi m v is))
-          (All-weaker OutputOk (λ o. bytes_eq (v.name l) (v.name (v.level_out o)) ≡ (v.level_out o == l)) (λ o good. same_name law (v.level_out o) l (law.level_ok o good) lt) (joined (multi m v is)) (multi_ok law is ok))
-        ∙ at_level-multi m v l is lt)
+      (All-weaker OutputOk (λ o. bytes_eq (v.name l) (v.name (v.level_out o)) ≡ (v.level_out o == l)) (λ o good. same_name law (v.level_out o) l (law.level_ok o good) lt) (joined (multi m v is)) (multi_ok law is ok))
+      ∙ at_level-multi m v l is lt)

@@ -1,10 +1,15 @@
 -- A machine with two levels that is small enough to run by hand, and what the definitions make of it.
-use Rattle.std.proofs.Common.{◌≡◌, ℕ, suc, ◌+◌, ◌-◌, Bool, true, false, ◌==◌, nat_eq, nat_le, cond, Option, Some, None, List, [], ◌∷◌, ◌++◌, codes, refl}
-use Rattle.ff_reactive.specs.Runs.{Handled, Machine, plain, after, work_plain}
+use Rattle.std.proofs.Common.{◌≡◌, ℕ, suc, ◌+◌, ◌-◌, ◌≢◌, ◌<◌, ◌≤◌, ◌⊎◌, inl, inr, zero, Bool, true, false, ◌==◌, nat_eq, nat_le, cond, Some, None, option_and_then, List, [], ◌∷◌, get_or, codes, refl, sym, ap, subst, ◌∙◌, arith, le-leb}
+use Rattle.std.specs.Prelude.{⊤}
+use Rattle.std.proofs.lemmas.Bool.{leb-true}
+use Rattle.std.proofs.lemmas.List.Elements.{All-nil, All-cons}
+use Rattle.ff_reactive.specs.Runs.{Machine, plain, after, work_plain}
 use Rattle.ff_reactive.specs.Copies.{Levels, copy_entry, multi}
-use Rattle.ff_reactive.specs.Text.{lines, first_word, text_of, text_out, view, only}
+use Rattle.ff_reactive.specs.Text.{text_of, text_out, view, only}
 use Rattle.ff_reactive.specs.Turns.{Reactor, settle}
 use Rattle.ff_reactive.specs.Sharing.{work}
+use Rattle.ff_reactive.specs.Laws.{IsWord, IsLawful, IsNoninterfering}
+use Rattle.ff_reactive.proofs.Laws.{noninterfering}
 
 -- an output: its level and the number of opens before it
 record Line : Type 0 where
@@ -52,6 +57,15 @@ the_plain_run_leaks : text_out two (plain opens (1 ∷ 0 ∷ [])) ≡ codes "L 0
 unfolding text_out text_of plain
 the_plain_run_leaks = refl
 
+-- so L would see what H did, though L sees the same in both runs
+the_plain_view_without : view two 0 (text_out two (plain opens (0 ∷ []))) ≡ codes "L 0\n"
+unfolding text_out text_of plain view
+the_plain_view_without = refl
+
+the_plain_view_with : view two 0 (text_out two (plain opens (1 ∷ 0 ∷ []))) ≡ codes "L 0\nL 1\n"
+unfolding text_out text_of plain view
+the_plain_view_with = refl
+
 -- L's view is its own lines, and H's is all of them
 view_of_low : view two 0 (run_of (1 ∷ 0 ∷ [])) ≡ codes "L 0\n"
 unfolding text_out text_of multi copy_entry plain view
@@ -94,3 +108,68 @@ settles = refl
 
 settles_within : settle countdown 2 3 ≡ record { outputs = 3 ∷ 2 ∷ []; after = 1; turns = 2 }
 settles_within = refl
+
+-- The two levels fit the machine, so the laws speak of it. Inputs and outputs are those of the two levels.
+at_two : (l : ℕ) → l < 2 → (l ≡ 0) ⊎ (l ≡ 1)
+at_two zero lt = inl refl
+at_two (suc zero) lt = inr refl
+at_two (suc (suc l)) lt = absurd (omega arith)
+
+word_of : (l : ℕ) → l < 2 → IsWord (two.name l)
+word_of l lt = from (at_two l lt)
+  where
+    from : (l ≡ 0) ⊎ (l ≡ 1) → IsWord (two.name l)
+    from (inl e) = subst (λ n. IsWord (two.name n)) (sym e) (All-cons (λ b. (b ≢ 32) × (b ≢ 10)) 76 [] ((λ same. omega arith), (λ same. omega arith)) (All-nil (λ b. (b ≢ 32) × (b ≢ 10))))
+    from (inr e) = subst (λ n. IsWord (two.name n)) (sym e) (All-cons (λ b. (b ≢ 32) × (b ≢ 10)) 72 [] ((λ same. omega arith), (λ same. omega arith)) (All-nil (λ b. (b ≢ 32) × (b ≢ 10))))
+
+first_byte : List ℕ → ℕ
+first_byte bytes = get_or bytes 0 0
+
+names_apart : (k l : ℕ) → k < 2 → l < 2 → two.name k ≡ two.name l → k ≡ l
+unfolding first_byte
+names_apart zero zero at_k at_l e = refl
+names_apart zero (suc zero) at_k at_l e = let same : ◌≡◌ {A = ℕ} 76 72 = ap first_byte e in absurd (omega arith)
+names_apart (suc zero) zero at_k at_l e = let same : ◌≡◌ {A = ℕ} 72 76 = ap first_byte e in absurd (omega arith)
+names_apart (suc zero) (suc zero) at_k at_l e = refl
+names_apart (suc (suc k)) l at_k at_l e = absurd (omega arith)
+names_apart k (suc (suc l)) at_k at_l e = absurd (omega arith)
+
+lower_sees : (k l i : ℕ) → nat_le k l ≡ true → two.sees k i ≡ option_and_then (two.sees k) (two.sees l i)
+lower_sees k l i low = from (nat_le i k) refl
+  where
+    low_enough : i ≤ k → nat_le i l ≡ true
+    low_enough within = le-leb i l (omega (arith, leb-true k l low))
+
+    unseen : (b : Bool) → nat_le i k ≡ false → None ≡ option_and_then (two.sees k) (cond b (Some i) None)
+    unseen true high = ap (λ b. cond b (Some i) None) (sym high)
+    unseen false high = refl
+
+    from : (b : Bool) → nat_le i k ≡ b → cond b (Some i) None ≡ option_and_then (two.sees k) (two.sees l i)
+    from true within = ap (λ b. cond b (Some i) None) (sym within) ∙ ap (λ b. option_and_then (two.sees k) (cond b (Some i) None)) (sym (low_enough (leb-true i k within)))
+    from false high = unseen (nat_le i l) high
+
+abbrev IsLevel : ℕ → Type 0
+IsLevel i = i < 2
+
+abbrev HasLevel : Line → Type 0
+HasLevel o = o.level < 2
+
+sees_itself : (b : Bool) (i x : ℕ) → cond b (Some i) None ≡ Some x → i ≡ x
+sees_itself true i x e = grind arith
+sees_itself false i x e = grind arith
+
+opens_lawful : IsLawful opens two IsLevel (λ s. ⊤) HasLevel
+opens_lawful = record {
+  start_ok = tt;
+  handle_ok = λ s i at here. tt;
+  outputs_ok = λ s i at here. All-cons HasLevel (record { level = 0; number = s }) (record { level = 1; number = s } ∷ []) (omega arith) (All-cons HasLevel (record { level = 1; number = s }) [] (omega arith) (All-nil HasLevel));
+  sees_ok = λ l i x here e. subst IsLevel (sees_itself (nat_le i l) i x e) here;
+  sees_below = λ k l i at_k at_l here low. lower_sees k l i low;
+  level_ok = λ o ok. ok;
+  print_ok = λ o ok. All-cons (λ b. b ≢ 10) (48 + o.number) [] (λ e. omega arith) (All-nil (λ b. b ≢ 10));
+  name_ok = word_of;
+  names_differ = names_apart;
+}
+
+opens_noninterfering : IsNoninterfering opens two IsLevel
+opens_noninterfering = noninterfering opens_lawful

@@ -1,5 +1,5 @@
 -- The plain run and the state after it, as one more input comes.
-use Rattle.std.proofs.Common.{◌≡◌, ℕ, ◌+◌, List, [], ◌∷◌, ◌++◌, refl, sym, ap, ◌∙◌, add_assoc, add-zero, zero-add}
+use Rattle.std.proofs.Common.{◌≡◌, ◌+◌, List, [], ◌∷◌, ◌++◌, refl, sym, ap, ◌∙◌, add_assoc, add-zero, zero-add}
 use Rattle.ff_reactive.specs.Runs.{Machine, after_from, plain_from, turns_from, after, plain, work_plain}
 
 module _ {I O S : Type 0} (m : Machine I O S) where

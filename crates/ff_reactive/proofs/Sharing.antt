@@ -1,16 +1,16 @@
 -- The work of shared copies, as one more input comes, and where all copies are one.
-use Rattle.std.proofs.Common.{◌≡◌, ℕ, zero, suc, ◌+◌, ◌<◌, ◌≤◌, Bool, true, false, cond, not, ◌&&◌, Option, Some, None, List, [], ◌∷◌, ◌++◌, sum, sum_by, All, refl, sym, ap, ap₂, ◌∙◌, arith, add-zero, zero-add, append-nil}
+use Rattle.std.proofs.Common.{◌≡◌, ℕ, zero, suc, ◌+◌, ◌<◌, ◌≤◌, Bool, true, false, cond, not, ◌&&◌, Some, List, [], ◌∷◌, ◌++◌, sum, sum_by, All, refl, ap, ap₂, ◌∙◌, arith, add-zero, zero-add}
 use Rattle.std.specs.List.{list_all, cons_option}
 use Rattle.std.specs.Option.{option_eq}
 use Rattle.std.proofs.lemmas.List.Sums.{sum_by-append, sum_by_push}
 use Rattle.std.proofs.lemmas.List.Elements.{All-head, All-tail, All-push, All-nil}
 use Rattle.std.proofs.lemmas.List.Folds.{list_all-append}
-use Rattle.ff_reactive.specs.Runs.{Machine, entries, after, after_from, turns_from, work_plain}
+use Rattle.ff_reactive.specs.Runs.{Machine, entries, after, turns_from, work_plain}
 use Rattle.ff_reactive.specs.Copies.{Levels, below, seen}
 use Rattle.ff_reactive.specs.Loops.{handle_seen}
 use Rattle.ff_reactive.specs.Sharing.{see_alike, is_least, copy_turns, work_entry, work}
 use Rattle.ff_reactive.proofs.Lists.{entries-append}
-use Rattle.ff_reactive.proofs.Runs.{after_more, work_plain_more}
+use Rattle.ff_reactive.proofs.Runs.{after_more}
 
 module _ {I O S : Type 0} (m : Machine I O S) (v : Levels I O) (same : I → I → Bool) where
   pub work_start : work m v same [] ≡ 0
@@ -63,27 +63,27 @@ module _ {I O S : Type 0} (m : Machine I O S) (v : Levels I O) (same : I → I �
       ∙ all_see_alike k l is (All-tail (λ j. v.sees k j ≡ Some j) i is all_k) (All-tail (λ j. v.sees l j ≡ Some j) i is all_l)
 
   shared_entry : (before : List I) (i : I) → ((l : ℕ) → l < v.count → SeesAll v l before) → ((l : ℕ) → l < v.count → v.sees l i ≡ Some i)
-    → work_entry m v same before i ≡ (m.handle (after m before) i).turns
+      → work_entry m v same before i ≡ (m.handle (after m before) i).turns
   shared_entry before i all here =
       sum_by_first_below (λ l. cond (is_least m v same l (before ++ i ∷ [])) (copy_turns m v same l before i) 0) v.count some_level
-        (λ k pos at_k. ap (λ b. cond b (copy_turns m v same k before i) 0)
-          (list_all_fails_below (λ j. not (see_alike m v same j k (before ++ i ∷ []))) k pos (ap not (all_see_alike 0 k (before ++ i ∷ []) (more 0 some_level) (more k at_k)))))
+      (λ k pos at_k. ap (λ b. cond b (copy_turns m v same k before i) 0)
+      (list_all_fails_below (λ j. not (see_alike m v same j k (before ++ i ∷ []))) k pos (ap not (all_see_alike 0 k (before ++ i ∷ []) (more 0 some_level) (more k at_k)))))
       ∙ ap₂ (λ xs o. (handle_seen m (after m xs) o).turns) (seen_all v 0 before (all 0 some_level)) (here 0 some_level)
     where
       more : (l : ℕ) → l < v.count → SeesAll v l (before ++ i ∷ [])
       more l at_l = All-push (λ j. v.sees l j ≡ Some j) before i (all l at_l) (here l at_l)
 
   shared_entries : (before is : List I) → ((l : ℕ) → l < v.count → SeesAll v l before) → ((l : ℕ) → l < v.count → SeesAll v l is)
-    → sum (entries (work_entry m v same) before is) ≡ turns_from m (after m before) is
+      → sum (entries (work_entry m v same) before is) ≡ turns_from m (after m before) is
   shared_entries before [] all rest = refl
   shared_entries before (i ∷ is) all rest =
       sum_by-append (λ n. n) (work_entry m v same before i ∷ []) (entries (work_entry m v same) (before ++ i ∷ []) is)
       ∙ ap₂ (λ a b. a + b)
-          (zero-add (work_entry m v same before i) ∙ shared_entry before i all (λ l at_l. All-head (λ j. v.sees l j ≡ Some j) i is (rest l at_l)))
-          (shared_entries (before ++ i ∷ []) is
-            (λ l at_l. All-push (λ j. v.sees l j ≡ Some j) before i (all l at_l) (All-head (λ j. v.sees l j ≡ Some j) i is (rest l at_l)))
-            (λ l at_l. All-tail (λ j. v.sees l j ≡ Some j) i is (rest l at_l))
-          ∙ ap (λ s. turns_from m s is) (after_more m before i))
+      (zero-add (work_entry m v same before i) ∙ shared_entry before i all (λ l at_l. All-head (λ j. v.sees l j ≡ Some j) i is (rest l at_l)))
+      (shared_entries (before ++ i ∷ []) is
+      (λ l at_l. All-push (λ j. v.sees l j ≡ Some j) before i (all l at_l) (All-head (λ j. v.sees l j ≡ Some j) i is (rest l at_l)))
+      (λ l at_l. All-tail (λ j. v.sees l j ≡ Some j) i is (rest l at_l))
+      ∙ ap (λ s. turns_from m s is) (after_more m before i))
 
   -- on inputs that every level sees as they are, the work of all the copies is that of the one plain run
   pub work_shared : (is : List I) → ((l : ℕ) → l < v.count → SeesAll v l is) → work m v same is ≡ work_plain m is

@@ -1,8 +1,8 @@
 -- Turns until a reactor is quiet: a loop of them, and the bound that fuel gives.
-use Rattle.std.proofs.Common.{◌≡◌, ℕ, zero, suc, ◌+◌, ◌-◌, ◌<◌, ◌≤◌, Bool, true, false, cond, ◌⊎◌, inl, inr, List, [], ◌∷◌, ◌++◌, All, refl, sym, ap, subst, ◌∙◌, append_assoc, append-nil, add_assoc, add-zero, zero-add, add-one, arith, true≢false}
+use Rattle.std.proofs.Common.{◌≡◌, ℕ, zero, suc, ◌+◌, ◌-◌, ◌<◌, ◌≤◌, Bool, true, false, cond, ◌⊎◌, inl, inr, List, [], ◌++◌, All, refl, sym, ap, subst, ◌∙◌, append_assoc, append-nil, add-zero, zero-add, arith, true≢false}
 use Rattle.std.proofs.lemmas.List.Elements.{All-nil, All-append}
-use Rattle.ff_reactive.specs.Runs.{Handled, Machine}
-use Rattle.ff_reactive.specs.Turns.{Stepped, Reactor, settle, machine_of, KeepsOk, IsFuelled, turns_left, IsSettling}
+use Rattle.ff_reactive.specs.Runs.{Handled}
+use Rattle.ff_reactive.specs.Turns.{Reactor, settle, machine_of, KeepsOk, IsFuelled, turns_left, IsSettling}
 
 module _ {I O S : Type 0} (r : Reactor I O S) where
   -- no turn is made, and one turn comes before the rest
@@ -37,8 +37,9 @@ module _ {I O S : Type 0} (r : Reactor I O S) where
     where
       longer : suc n + k ≡ suc (n + k)
       longer = omega arith
+
       from : (b : Bool) → (r.quiet (settle r n (r.turn s).after).after ≡ true → settle r (n + k) (r.turn s).after ≡ settle r n (r.turn s).after)
-        → r.quiet (cond b (still s) (turned n s)).after ≡ true → cond b (still s) (turned (n + k) s) ≡ cond b (still s) (turned n s)
+          → r.quiet (cond b (still s) (turned n s)).after ≡ true → cond b (still s) (turned (n + k) s) ≡ cond b (still s) (turned n s)
       from true rest at_rest = refl
       from false rest at_rest =
           let onto : Handled O S → Handled O S = λ h. record { outputs = (r.turn s).outputs ++ h.outputs; after = h.after; turns = suc h.turns } in
@@ -56,7 +57,7 @@ module _ {I O S : Type 0} (r : Reactor I O S) where
       }
 
   pub settling_turn : (most : ℕ) (begun now : S) (outputs : List O) (turns : ℕ) → IsSettling r most begun now outputs turns → r.quiet now ≡ false → turns < most
-    → IsSettling r most begun (r.turn now).after (outputs ++ (r.turn now).outputs) (turns + 1)
+      → IsSettling r most begun (r.turn now).after (outputs ++ (r.turn now).outputs) (turns + 1)
   settling_turn most begun now outputs turns at busy room =
       let left = most - (turns + 1) in
       let fewer : most - turns ≡ suc left = omega arith in
@@ -70,7 +71,7 @@ module _ {I O S : Type 0} (r : Reactor I O S) where
       }
 
   pub settling_done : (most : ℕ) (begun now : S) (outputs : List O) (turns : ℕ) → IsSettling r most begun now outputs turns → r.quiet now ≡ true
-    → settle r most begun ≡ record { outputs = outputs; after = now; turns = turns }
+      → settle r most begun ≡ record { outputs = outputs; after = now; turns = turns }
   settling_done most begun now outputs turns at is_quiet =
       let end = settle_quiet (most - turns) now is_quiet in
       let outs : (settle r most begun).outputs ≡ outputs = at.outputs_so_far ∙ ap (λ h. outputs ++ h.outputs) end ∙ append-nil outputs in
@@ -80,7 +81,7 @@ module _ {I O S : Type 0} (r : Reactor I O S) where
 
   -- a turn that is due still has room among those that settle the state
   pub settling_room : (most : ℕ) (begun now : S) (outputs : List O) (turns : ℕ) → IsSettling r most begun now outputs turns
-    → r.quiet (settle r most begun).after ≡ true → r.quiet now ≡ false → turns < most
+      → r.quiet (settle r most begun).after ≡ true → r.quiet now ≡ false → turns < most
   settling_room most begun now outputs turns at settled busy = from (most - turns) refl
     where
       from : (left : ℕ) → most - turns ≡ left → turns < most
@@ -94,7 +95,7 @@ module _ {I O S : Type 0} {r : Reactor I O S} {InputOk : I → Type 0} {StateOk 
   settle_ok (suc n) s ok = from (r.quiet s) refl (settle_ok n (r.turn s).after)
     where
       from : (b : Bool) → r.quiet s ≡ b → (StateOk (r.turn s).after → StateOk (settle r n (r.turn s).after).after × All OutputOk (settle r n (r.turn s).after).outputs)
-        → StateOk (cond b (still r s) (turned r n s)).after × All OutputOk (cond b (still r s) (turned r n s)).outputs
+          → StateOk (cond b (still r s) (turned r n s)).after × All OutputOk (cond b (still r s) (turned r n s)).outputs
       from true is_quiet rest = (ok, All-nil OutputOk)
       from false busy rest =
           let next = rest (keeps.turn_ok s ok busy) in
@@ -110,13 +111,14 @@ module _ {I O S : Type 0} {r : Reactor I O S} {InputOk : I → Type 0} {StateOk 
 
   module _ {fuel : S → ℕ} {most : ℕ} (fuelled : IsFuelled r fuel most InputOk StateOk) where
     settle_enough_turn : (n : ℕ) (s : S) → StateOk s
-      → (fuel (r.turn s).after < fuel s → StateOk (r.turn s).after → r.quiet (settle r n (r.turn s).after).after ≡ true)
-      → r.quiet (settle r (suc n) s).after ≡ true
+        → (fuel (r.turn s).after < fuel s → StateOk (r.turn s).after → r.quiet (settle r n (r.turn s).after).after ≡ true)
+        → r.quiet (settle r (suc n) s).after ≡ true
     settle_enough_turn n s ok rest = from (r.quiet s) refl
       where
         busy_turn : r.quiet s ≡ false → (fuel (r.turn s).after < fuel s) ⊎ (r.quiet (r.turn s).after ≡ true) → r.quiet (settle r n (r.turn s).after).after ≡ true
         busy_turn busy (inl spent) = rest spent (keeps.turn_ok s ok busy)
         busy_turn busy (inr is_quiet) = ap (λ h. r.quiet h.after) (settle_quiet r n (r.turn s).after is_quiet) ∙ is_quiet
+
         from : (b : Bool) → r.quiet s ≡ b → r.quiet (cond b (still r s) (turned r n s)).after ≡ true
         from true is_quiet = is_quiet
         from false busy = busy_turn busy (fuelled.spends s ok busy)
@@ -145,6 +147,7 @@ module _ {I O S : Type 0} {r : Reactor I O S} {InputOk : I → Type 0} {StateOk 
         fewer : (b : Bool) → fuel (r.turn s).after < fuel s → cond b 0 (suc (fuel (r.turn s).after)) < suc (fuel s)
         fewer true spent = omega arith
         fewer false spent = omega arith
+
         from : (fuel (r.turn s).after < fuel s) ⊎ (r.quiet (r.turn s).after ≡ true) → turns_left r fuel (r.turn s).after < suc (fuel s)
         from (inl spent) = fewer (r.quiet (r.turn s).after) spent
         from (inr is_quiet) = subst (λ b. cond b 0 (suc (fuel (r.turn s).after)) < suc (fuel s)) (sym is_quiet) (omega arith)

@@ -26,9 +26,9 @@ module _ {I O S : Type 0} (m : Machine I O S) (v : Levels I O) where
     where
       from : (b : Bool) → v.leq k l ≡ b → filter (λ o. v.leq (v.level_out o) l) (copy_entry m v k before i) ≡ cond b (copy_entry m v k before i) []
       from true e = filter_all (λ o. v.leq (v.level_out o) l) (copy_entry m v k before i)
-        (All-weaker (λ o. v.level_out o ≡ k) (λ o. v.leq (v.level_out o) l ≡ true) (λ o at. ap (λ n. v.leq n l) at ∙ e) (copy_entry m v k before i) (copy_entry_level m v k before i))
+          (All-weaker (λ o. v.level_out o ≡ k) (λ o. v.leq (v.level_out o) l ≡ true) (λ o at. ap (λ n. v.leq n l) at ∙ e) (copy_entry m v k before i) (copy_entry_level m v k before i))
       from false e = filter_none (λ o. v.leq (v.level_out o) l) (copy_entry m v k before i)
-        (All-weaker (λ o. v.level_out o ≡ k) (λ o. v.leq (v.level_out o) l ≡ false) (λ o at. ap (λ n. v.leq n l) at ∙ e) (copy_entry m v k before i) (copy_entry_level m v k before i))
+          (All-weaker (λ o. v.level_out o ≡ k) (λ o. v.leq (v.level_out o) l ≡ false) (λ o at. ap (λ n. v.leq n l) at ∙ e) (copy_entry m v k before i) (copy_entry_level m v k before i))
 
   low-multi_entry : (l : ℕ) (before : List I) (i : I) → filter (λ o. v.leq (v.level_out o) l) (multi_entry m v before i) ≡ low_entry l before i
   low-multi_entry l before i =
@@ -79,16 +79,16 @@ module _ {I O S : Type 0} {m : Machine I O S} {v : Levels I O} {InputOk : I → 
       from k at_k false low = refl
 
   low_entries_seen : (l : ℕ) (before is : List I) → l < v.count → All InputOk before → All InputOk is
-    → joined (entries (low_entry m v l) before is) ≡ joined (entries (low_entry m v l) (seen v l before) (seen v l is))
+      → joined (entries (low_entry m v l) before is) ≡ joined (entries (low_entry m v l) (seen v l before) (seen v l is))
   low_entries_seen l before [] at_l all ok = refl
   low_entries_seen l before (i ∷ is) at_l all ok =
       ap (λ os. low_entry m v l before i ++ os)
-        (low_entries_seen l (before ++ i ∷ []) is at_l (All-push InputOk before i all (All-head InputOk i is ok)) (All-tail InputOk i is ok)
-        ∙ ap (λ xs. joined (entries (low_entry m v l) xs (seen v l is))) (seen_more v l before i))
+      (low_entries_seen l (before ++ i ∷ []) is at_l (All-push InputOk before i all (All-head InputOk i is ok)) (All-tail InputOk i is ok)
+      ∙ ap (λ xs. joined (entries (low_entry m v l) xs (seen v l is))) (seen_more v l before i))
       ∙ from (v.sees l i) refl
     where
       from : (o : Option I) → v.sees l i ≡ o → low_entry m v l before i ++ joined (entries (low_entry m v l) (seen v l before ++ cons_option o []) (seen v l is))
-        ≡ joined (entries (low_entry m v l) (seen v l before) (cons_option o (seen v l is)))
+          ≡ joined (entries (low_entry m v l) (seen v l before) (cons_option o (seen v l is)))
       from None e =
           ap₂ (λ os xs. os ++ joined (entries (low_entry m v l) xs (seen v l is))) (low_entry_unseen l before i at_l (All-head InputOk i is ok) e) (append-nil (seen v l before))
       from (Some x) e =
@@ -100,5 +100,5 @@ module _ {I O S : Type 0} {m : Machine I O S} {v : Levels I O} {InputOk : I → 
   view_is l is at_l ok =
       pick-text_of v (names_below v l) (joined (multi m v is)) (all_have_lines law is ok)
       ∙ ap (text_of v) (filter_agree_all (λ o. names_below v l (v.name (v.level_out o))) (λ o. v.leq (v.level_out o) l) (joined (multi m v is))
-          (All-weaker OutputOk (λ o. names_below v l (v.name (v.level_out o)) ≡ v.leq (v.level_out o) l) (λ o good. name_below law (v.level_out o) l (law.level_ok o good)) (joined (multi m v is)) (multi_ok law is ok))
-        ∙ low-multi m v l is ∙ low_entries_seen l [] is at_l (All-nil InputOk) ok)
+      (All-weaker OutputOk (λ o. names_below v l (v.name (v.level_out o)) ≡ v.leq (v.level_out o) l) (λ o good. name_below law (v.level_out o) l (law.level_ok o good)) (joined (multi m v is)) (multi_ok law is ok))
+      ∙ low-multi m v l is ∙ low_entries_seen l [] is at_l (All-nil InputOk) ok)

@@ -40,10 +40,10 @@ module _ {I O S : Type 0} (m : Machine I O S) (v : Levels I O) where
   -- of the plain machine on all the inputs.
   abbrev pub IsPrecise : List I → List ℕ → Type 0
   IsPrecise is text = (l : ℕ) → l < v.count
-    → at_level v l (joined (plain m is)) ≡ at_level v l (joined (plain m (seen v l is)))
-    → only v l text ≡ text_of v (at_level v l (joined (plain m is)))
+      → at_level v l (joined (plain m is)) ≡ at_level v l (joined (plain m (seen v l is)))
+      → only v l text ≡ text_of v (at_level v l (joined (plain m is)))
 
   -- Any two lists of inputs that look the same to a level give it the same view.
   abbrev pub IsNoninterfering : (I → Type 0) → Type 0
   IsNoninterfering InputOk = (l : ℕ) (is js : List I) → l < v.count → All InputOk is → All InputOk js → seen v l js ≡ seen v l is
-    → view v l (text_out v (multi m v is)) ≡ view v l (text_out v (multi m v js))
+      → view v l (text_out v (multi m v is)) ≡ view v l (text_out v (multi m v js))

@@ -19,17 +19,17 @@ module _ {I O S : Type 0} (r : Reactor I O S) where
   abbrev pub settle : ℕ → S → Handled O S
   settle zero s = record { outputs = []; after = s; turns = 0 }
   settle (suc most) s =
-    let rest = settle most (r.turn s).after in
-    cond (r.quiet s) (record { outputs = []; after = s; turns = 0 }) (record { outputs = (r.turn s).outputs ++ rest.outputs; after = rest.after; turns = suc rest.turns })
+      let rest = settle most (r.turn s).after in
+      cond (r.quiet s) (record { outputs = []; after = s; turns = 0 }) (record { outputs = (r.turn s).outputs ++ rest.outputs; after = rest.after; turns = suc rest.turns })
 
   -- The machine that the reactor is: it takes the input and makes turns until it is quiet, at most `most` of them.
   abbrev pub machine_of : ℕ → Machine I O S
   machine_of most = record {
     start = r.start;
     handle = λ s i.
-      let begun = r.begin s i in
-      let rest = settle most begun.after in
-      record { outputs = begun.outputs ++ rest.outputs; after = rest.after; turns = rest.turns };
+        let begun = r.begin s i in
+        let rest = settle most begun.after in
+        record { outputs = begun.outputs ++ rest.outputs; after = rest.after; turns = rest.turns };
   }
 
   -- From well formed states and inputs the reactor's steps give well formed states and outputs.

@@ -1,2 +1,54 @@
-//! Runs of reactive machines.
+//! Runs of reactive machines, alone and multi-executed, and what their text tells at each level.
+//!
+//! This crate has no functions. Its definitions (`specs/`) are what the contracts of the crates
+//! above cite, and its laws (`proofs/`) are proved once for every machine and for all levels, so
+//! that those crates only have to say which machine and which levels they have.
+//!
+//! # Definitions
+//!
+//! - `Runs`: a `Machine` has a state to start in and handles one input after another; handling an
+//!   input gives outputs, the state after it and a number of turns. `plain` is its run alone, one
+//!   entry of outputs for each input, `after` the state then, `work_plain` all its turns. The idea
+//!   is that of a reactive system, which puts out a list of outputs for each input (Bohannon and
+//!   Pierce, 2010).
+//! - `Copies`: `Levels` say how many levels there are, which is at or below which, what each sees
+//!   of an input, and which level an output belongs to. `seen` is all that a level sees, in order:
+//!   the projection of the inputs to a level (Bielova and others, 2011). Each level has a `copy` of
+//!   the machine, which handles only what the level sees and puts out only what belongs to the
+//!   level; `multi` is the run of all the copies together, for each input level by level. That is
+//!   secure multi-execution (Devriese and Piessens, 2010). The definition has no state: each entry
+//!   of a copy is read off a plain run over all that its level has seen up to then.
+//! - `Text`: `text_out` is the text of a run, a line for each output, headed by the name of the
+//!   output's level. `view` keeps the lines of a text whose first word names a level at or below a
+//!   given one, and `only` those whose first word names that level itself. Both read bytes and know
+//!   nothing of where these came from.
+//! - `Laws`: `IsLawful` is what the levels need in order to fit the machine. The claims on a text
+//!   are `IsProjection`, `IsSecure` and `IsPrecise`, and `IsNoninterfering` is the claim on all
+//!   pairs of lists of inputs.
+//! - `Turns`: a `Reactor` handles an input in turns until it is quiet, `settle` makes them, and
+//!   `machine_of` is the machine that it is. `IsFuelled` says that turns spend fuel, `IsSettling`
+//!   where a loop of turns stands.
+//! - `Loops`: `AreCopies` says where the states of all copies stand in a loop over inputs and
+//!   levels, and `text_below` is the text so far.
+//! - `Sharing`: `work` is the number of turns where copies that have seen the same so far are one
+//!   copy, and each turn of such a class is made once.
+//!
+//! # Laws
+//!
+//! Of levels that fit a machine, on well formed inputs (`proofs/Laws.antt`):
+//!
+//! - `projection`: a level's own lines are the text of the plain machine's outputs at that level,
+//!   on the inputs that the level sees.
+//! - `noninterference`: lists of inputs that look the same to a level give it the same view, byte
+//!   by byte, the order of lines between levels included.
+//! - `precision`: where the plain machine's outputs at a level don't depend on what the level
+//!   doesn't see, the level's own lines are those of the plain machine on all the inputs.
+//!
+//! `projected`, `secured` and `precised` say the same of any text that is known to be that of the
+//! multi-executed run, and `noninterfering` of all pairs. `proofs/Loops.antt` has the steps of
+//! loops that handle input after input and in it level after level, `proofs/Turns.antt` those of a
+//! loop of turns, with the bound that fuel gives: an input that brings at most `most` fuel is
+//! handled to its end in at most `most + 1` turns. `proofs/Sharing.antt` has the work of one more
+//! input, and shows that where all levels see all, the work is that of the one plain run.
+//! `proofs/Rows.antt` runs a machine of two levels by hand.
 #![tactic(auto)]
