@@ -46,43 +46,51 @@ module _ {I O S : Type 0} (r : Reactor I O S) where
           ap onto (rest at_rest)
 
   -- A loop of turns: before the first, after one more, and at a quiet state.
-  pub settling_start : (most : ℕ) (s : S) → IsSettling r most s s [] 0
-  settling_start most s =
+  pub settling_start : (most : ℕ) (s : S) (base : List O) → IsSettling r most s base s base 0
+  settling_start most s base =
       let all : most - 0 ≡ most = omega arith in
       record {
         within = omega arith;
-        outputs_so_far = ap (λ n. (settle r n s).outputs) (sym all);
+        outputs_so_far = ap (λ n. base ++ (settle r n s).outputs) (sym all);
         after_it = ap (λ n. (settle r n s).after) (sym all);
         turns_so_far = ap (λ n. (settle r n s).turns) (sym all) ∙ sym (zero-add (settle r (most - 0) s).turns);
       }
 
-  pub settling_turn : (most : ℕ) (begun now : S) (outputs : List O) (turns : ℕ) → IsSettling r most begun now outputs turns → r.quiet now ≡ false → turns < most
-      → IsSettling r most begun (r.turn now).after (outputs ++ (r.turn now).outputs) (turns + 1)
-  settling_turn most begun now outputs turns at busy room =
+  pub settling_turn : (most : ℕ) (begun : S) (base : List O) (now : S) (so_far : List O) (turns : ℕ) → IsSettling r most begun base now so_far turns
+      → r.quiet now ≡ false → turns < most → IsSettling r most begun base (r.turn now).after (so_far ++ (r.turn now).outputs) (turns + 1)
+  settling_turn most begun base now so_far turns at busy room =
       let left = most - (turns + 1) in
       let fewer : most - turns ≡ suc left = omega arith in
       let one : settle r (most - turns) now ≡ turned left now = ap (λ n. settle r n now) fewer ∙ settle_turn left now busy in
       let rest = settle r left (r.turn now).after in
       record {
         within = omega arith;
-        outputs_so_far = at.outputs_so_far ∙ ap (λ h. outputs ++ h.outputs) one ∙ sym (append_assoc outputs (r.turn now).outputs rest.outputs);
+        outputs_so_far = at.outputs_so_far ∙ ap (λ h. so_far ++ h.outputs) one ∙ sym (append_assoc so_far (r.turn now).outputs rest.outputs);
         after_it = at.after_it ∙ ap (λ h. h.after) one;
         turns_so_far = at.turns_so_far ∙ ap (λ h. turns + h.turns) one ∙ (omega arith);
       }
 
-  pub settling_done : (most : ℕ) (begun now : S) (outputs : List O) (turns : ℕ) → IsSettling r most begun now outputs turns → r.quiet now ≡ true
-      → settle r most begun ≡ record { outputs = outputs; after = now; turns = turns }
-  settling_done most begun now outputs turns at is_quiet =
-      let end = settle_quiet (most - turns) now is_quiet in
-      let outs : (settle r most begun).outputs ≡ outputs = at.outputs_so_far ∙ ap (λ h. outputs ++ h.outputs) end ∙ append-nil outputs in
-      let afters : (settle r most begun).after ≡ now = at.after_it ∙ ap (λ h. h.after) end in
-      let counts : (settle r most begun).turns ≡ turns = at.turns_so_far ∙ ap (λ h. turns + h.turns) end ∙ add-zero turns in
-      λ i. record { outputs = outs i; after = afters i; turns = counts i }
+  pub settling_done : (most : ℕ) (begun : S) (base : List O) (now : S) (so_far : List O) (turns : ℕ) → IsSettling r most begun base now so_far turns
+      → r.quiet now ≡ true → (so_far ≡ base ++ (settle r most begun).outputs) × (now ≡ (settle r most begun).after) × (turns ≡ (settle r most begun).turns)
+  settling_done most begun base now so_far turns at is_quiet =
+      let end = settle_quiet (most - turns) now is_quiet in (
+        sym (at.outputs_so_far ∙ ap (λ h. so_far ++ h.outputs) end ∙ append-nil so_far),
+        sym (at.after_it ∙ ap (λ h. h.after) end),
+        sym (at.turns_so_far ∙ ap (λ h. turns + h.turns) end ∙ add-zero turns),
+      )
+
+  -- the same where the loop follows the beginning of an input: then the input is handled
+  pub handling_done : (most : ℕ) (s : S) (i : I) (base : List O) (now : S) (so_far : List O) (turns : ℕ)
+      → IsSettling r most (r.begin s i).after (base ++ (r.begin s i).outputs) now so_far turns → r.quiet now ≡ true
+      → (so_far ≡ base ++ ((machine_of r most).handle s i).outputs) × (now ≡ ((machine_of r most).handle s i).after) × (turns ≡ ((machine_of r most).handle s i).turns)
+  handling_done most s i base now so_far turns at is_quiet =
+      let done = settling_done most (r.begin s i).after (base ++ (r.begin s i).outputs) now so_far turns at is_quiet in
+      (done.0 ∙ append_assoc base (r.begin s i).outputs (settle r most (r.begin s i).after).outputs, done.1, done.2)
 
   -- a turn that is due still has room among those that settle the state
-  pub settling_room : (most : ℕ) (begun now : S) (outputs : List O) (turns : ℕ) → IsSettling r most begun now outputs turns
+  pub settling_room : (most : ℕ) (begun : S) (base : List O) (now : S) (so_far : List O) (turns : ℕ) → IsSettling r most begun base now so_far turns
       → r.quiet (settle r most begun).after ≡ true → r.quiet now ≡ false → turns < most
-  settling_room most begun now outputs turns at settled busy = from (most - turns) refl
+  settling_room most begun base now so_far turns at settled busy = from (most - turns) refl
     where
       from : (left : ℕ) → most - turns ≡ left → turns < most
       from zero e = absurd (true≢false (sym settled ∙ ap r.quiet (at.after_it ∙ ap (λ n. (settle r n now).after) e) ∙ busy))

@@ -49,10 +49,10 @@ module _ {I O S : Type 0} (r : Reactor I O S) where
   abbrev pub turns_left : (S → ℕ) → S → ℕ
   turns_left fuel s = cond (r.quiet s) 0 (suc (fuel s))
 
-  -- Where a loop of turns stands that settles the state `begun` within `most` turns: it has made `turns` turns with these
-  -- outputs, and is at the state `now`. Settling `now` in what is left of the turns gives the rest.
-  pub record IsSettling (most : ℕ) (begun now : S) (outputs : List O) (turns : ℕ) : Type 0 where
+  -- Where a loop of turns stands that settles the state `begun` within `most` turns and puts its outputs behind `base`: it
+  -- has made `turns` turns, has `so_far`, and is at the state `now`. Settling `now` in the turns that are left gives the rest.
+  pub record IsSettling (most : ℕ) (begun : S) (base : List O) (now : S) (so_far : List O) (turns : ℕ) : Type 0 where
     pub within : turns ≤ most
-    pub outputs_so_far : (settle most begun).outputs ≡ outputs ++ (settle (most - turns) now).outputs
+    pub outputs_so_far : base ++ (settle most begun).outputs ≡ so_far ++ (settle (most - turns) now).outputs
     pub after_it : (settle most begun).after ≡ (settle (most - turns) now).after
     pub turns_so_far : (settle most begun).turns ≡ turns + (settle (most - turns) now).turns
