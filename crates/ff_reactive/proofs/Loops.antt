@@ -1,5 +1,5 @@
 -- What a loop over inputs, and within it over levels, keeps true: the text so far, and where the copies stand.
-use Rattle.std.proofs.Common.{◌≡◌, ℕ, zero, suc, ◌+◌, ◌<◌, ◌≤◌, ◌==◌, Bool, true, false, cond, take, drop, take-append-drop, None, List, [], ◌∷◌, ◌++◌, length, get_or, set, All, sym, ap, ◌∙◌, append_assoc, append-nil, arith, length-set, get_or-set_same, get_or-set_other}
+use Rattle.std.proofs.Common.{◌≡◌, ℕ, zero, suc, ◌+◌, ◌<◌, ◌≤◌, ◌==◌, Bool, true, false, cond, take, drop, take-append-drop, None, List, [], ◌∷◌, ◌++◌, length, get_or, set, All, sym, ap, subst, ◌∙◌, append_assoc, append-nil, arith, length-set, get_or-set_same, get_or-set_other}
 use Rattle.std.proofs.lemmas.Bool.{cases_eq}
 use Rattle.std.proofs.lemmas.List.{take_more}
 use Rattle.std.proofs.lemmas.List.Elements.{filter_more}
@@ -7,7 +7,7 @@ use Rattle.std.proofs.Common.{◌⊎◌, inl, inr}
 use Rattle.ff_reactive.specs.Runs.{Machine, entries, plain_from, after, plain}
 use Rattle.ff_reactive.specs.Copies.{Levels, seen, at_level, copy_entry, entry_below, multi_entry, multi}
 use Rattle.ff_reactive.specs.Text.{BeginsWith, text_of, text_out, line_of}
-use Rattle.ff_reactive.specs.Loops.{handle_seen, AreCopies, text_below}
+use Rattle.ff_reactive.specs.Loops.{handle_seen, AreCopies, text_below, RunsSoFar, RunsWithin}
 use Rattle.ff_reactive.proofs.Lists.{begins-trans, begins_under, begins_and_more, same_begins}
 use Rattle.ff_reactive.proofs.Runs.{after_start, plain_start, plain_more, plain-append}
 use Rattle.ff_reactive.proofs.Copies.{copy_entry_is, copy_after_more, entry_below_more, entry_below_more_suc, multi_start, multi_more, multi-append}
@@ -165,3 +165,28 @@ module _ {I O S : Type 0} (m : Machine I O S) (v : Levels I O) where
     done = λ k d none at_k. absurd (omega arith);
     waiting = λ k d low at_k. are.done k d at_k at_k;
   }
+
+  -- The copies and the text together: at the start, as an input comes, after one more level, and after all of them.
+  pub runs_start : (states : List S) (text : List ℕ) → length states ≡ v.count → All (λ s. s ≡ m.start) states → text ≡ [] → RunsSoFar m v states text []
+  runs_start states text long fresh empty = record { copies = copies_start states long fresh; text_is = empty ∙ sym text_start }
+
+  pub runs_begin : (states : List S) (text : List ℕ) (is : List I) (i : I) → RunsSoFar m v states text is → RunsWithin m v states text is i 0
+  runs_begin states text is i so_far = record { copies = copies_begin states is (is ++ i ∷ []) so_far.copies; text_is = so_far.text_is ∙ sym (text_below_start is i) }
+
+  pub runs_step : (states : List S) (text : List ℕ) (before : List I) (i : I) (l : ℕ) (s d : S) (added : List ℕ) → RunsWithin m v states text before i l → l < v.count
+      → s ≡ (handle_seen m (get_or states l d) (v.sees l i)).after → added ≡ text_of v (at_level v l (handle_seen m (get_or states l d) (v.sees l i)).outputs)
+      → RunsWithin m v (set states l s) (text ++ added) before i (l + 1)
+  runs_step states text before i l s d added within lt made printed =
+      let at = copy_at states before (before ++ i ∷ []) l d within.copies lt in
+      record {
+        copies = copies_step states before i l s d within.copies lt made;
+        text_is = ap (λ bs. bs ++ added) within.text_is ∙ ap (λ bs. text_below m v before i l ++ bs) printed ∙ sym (text_below_more_at before i l (get_or states l d) at);
+      }
+
+  pub runs_done : (states : List S) (text : List ℕ) (before : List I) (i : I) → RunsWithin m v states text before i v.count → RunsSoFar m v states text (before ++ i ∷ [])
+  runs_done states text before i within = record { copies = copies_done states before (before ++ i ∷ []) within.copies; text_is = within.text_is ∙ text_below_done before i }
+
+  -- the same with the inputs so far as the first of a list
+  pub runs_done_take : (states : List S) (text : List ℕ) (is : List I) (n : ℕ) (d : I) → n < length is
+      → RunsWithin m v states text (take n is) (get_or is n d) v.count → RunsSoFar m v states text (take (n + 1) is)
+  runs_done_take states text is n d lt within = subst (RunsSoFar m v states text) (sym (take_more is n d lt)) (runs_done states text (take n is) (get_or is n d) within)

@@ -1,5 +1,5 @@
 -- What a loop over inputs, and within it over levels, keeps true: where the copies stand, and the text so far.
-use Rattle.std.specs.Prelude.{◌≡◌, ℕ, ◌<◌, ◌≤◌, Option, Some, None, List, [], ◌++◌, length, slice_index_or}
+use Rattle.std.specs.Prelude.{◌≡◌, ℕ, ◌<◌, ◌≤◌, Option, Some, None, List, [], ◌∷◌, ◌++◌, length, slice_index_or}
 use Rattle.ff_reactive.specs.Runs.{Handled, Machine, after}
 use Rattle.ff_reactive.specs.Copies.{Levels, seen, entry_below, multi}
 use Rattle.ff_reactive.specs.Text.{text_of, text_out}
@@ -20,3 +20,13 @@ module _ {I O S : Type 0} (m : Machine I O S) (v : Levels I O) where
   -- The text of the multi-executed run over `before`, and of what the levels below l put out for the next input i.
   abbrev pub text_below : List I → I → ℕ → List ℕ
   text_below before i l = text_out v (multi m v before) ++ text_of v (entry_below m v before i l)
+
+  -- A loop over inputs has put out the text over `is`, and each copy has handled all that its level sees of them.
+  pub record RunsSoFar (states : List S) (text : List ℕ) (is : List I) : Type 0 where
+    pub copies : AreCopies states is 0 is
+    pub text_is : text ≡ text_out v (multi m v is)
+
+  -- The loop over levels inside it has done this for `before`, and for the next input i at the levels below l.
+  pub record RunsWithin (states : List S) (text : List ℕ) (before : List I) (i : I) (l : ℕ) : Type 0 where
+    pub copies : AreCopies states before l (before ++ i ∷ [])
+    pub text_is : text ≡ text_below before i l
