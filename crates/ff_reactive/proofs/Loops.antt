@@ -173,14 +173,15 @@ module _ {I O S : Type 0} (m : Machine I O S) (v : Levels I O) where
   pub runs_begin : (states : List S) (text : List ℕ) (is : List I) (i : I) → RunsSoFar m v states text is → RunsWithin m v states text is i 0
   runs_begin states text is i so_far = record { copies = copies_begin states is (is ++ i ∷ []) so_far.copies; text_is = so_far.text_is ∙ sym (text_below_start is i) }
 
-  pub runs_step : (states : List S) (text : List ℕ) (before : List I) (i : I) (l : ℕ) (s d : S) (added : List ℕ) → RunsWithin m v states text before i l → l < v.count
-      → s ≡ (handle_seen m (get_or states l d) (v.sees l i)).after → added ≡ text_of v (at_level v l (handle_seen m (get_or states l d) (v.sees l i)).outputs)
-      → RunsWithin m v (set states l s) (text ++ added) before i (l + 1)
-  runs_step states text before i l s d added within lt made printed =
+  pub runs_step : (states : List S) (text longer : List ℕ) (before : List I) (i : I) (l : ℕ) (s d : S) → RunsWithin m v states text before i l → l < v.count
+      → s ≡ (handle_seen m (get_or states l d) (v.sees l i)).after → longer ≡ text ++ text_of v (at_level v l (handle_seen m (get_or states l d) (v.sees l i)).outputs)
+      → RunsWithin m v (set states l s) longer before i (l + 1)
+  runs_step states text longer before i l s d within lt made printed =
       let at = copy_at states before (before ++ i ∷ []) l d within.copies lt in
+      let added = text_of v (at_level v l (handle_seen m (get_or states l d) (v.sees l i)).outputs) in
       record {
         copies = copies_step states before i l s d within.copies lt made;
-        text_is = ap (λ bs. bs ++ added) within.text_is ∙ ap (λ bs. text_below m v before i l ++ bs) printed ∙ sym (text_below_more_at before i l (get_or states l d) at);
+        text_is = printed ∙ ap (λ bs. bs ++ added) within.text_is ∙ sym (text_below_more_at before i l (get_or states l d) at);
       }
 
   pub runs_done : (states : List S) (text : List ℕ) (before : List I) (i : I) → RunsWithin m v states text before i v.count → RunsSoFar m v states text (before ++ i ∷ [])
