@@ -184,10 +184,16 @@ module _ {I O S : Type 0} (m : Machine I O S) (v : Levels I O) where
         text_is = printed ∙ ap (λ bs. bs ++ added) within.text_is ∙ sym (text_below_more_at before i l (get_or states l d) at);
       }
 
-  pub runs_done : (states : List S) (text : List ℕ) (before : List I) (i : I) → RunsWithin m v states text before i v.count → RunsSoFar m v states text (before ++ i ∷ [])
-  runs_done states text before i within = record { copies = copies_done states before (before ++ i ∷ []) within.copies; text_is = within.text_is ∙ text_below_done before i }
+  pub runs_done : (states : List S) (text : List ℕ) (before : List I) (i : I) (l : ℕ) → l ≡ v.count → RunsWithin m v states text before i l
+      → RunsSoFar m v states text (before ++ i ∷ [])
+  runs_done states text before i l all within =
+      record {
+        copies = copies_done states before (before ++ i ∷ []) (subst (λ n. AreCopies m v states before n (before ++ i ∷ [])) all within.copies);
+        text_is = within.text_is ∙ ap (text_below m v before i) all ∙ text_below_done before i;
+      }
 
   -- the same with the inputs so far as the first of a list
-  pub runs_done_take : (states : List S) (text : List ℕ) (is : List I) (n : ℕ) (d : I) → n < length is
-      → RunsWithin m v states text (take n is) (get_or is n d) v.count → RunsSoFar m v states text (take (n + 1) is)
-  runs_done_take states text is n d lt within = subst (RunsSoFar m v states text) (sym (take_more is n d lt)) (runs_done states text (take n is) (get_or is n d) within)
+  pub runs_done_take : (states : List S) (text : List ℕ) (is : List I) (n : ℕ) (d : I) (l : ℕ) → n < length is → l ≡ v.count
+      → RunsWithin m v states text (take n is) (get_or is n d) l → RunsSoFar m v states text (take (n + 1) is)
+  runs_done_take states text is n d l lt all within =
+      subst (RunsSoFar m v states text) (sym (take_more is n d lt)) (runs_done states text (take n is) (get_or is n d) l all within)
