@@ -11,24 +11,34 @@ use Rattle.ff_reactive.specs.Loops.{handle_seen, AreCopies, text_below, RunsSoFa
 use Rattle.ff_reactive.proofs.Lists.{begins-trans, begins_under, begins_and_more, same_begins}
 use Rattle.ff_reactive.proofs.Runs.{after_start, plain_start, plain_more, plain-append}
 use Rattle.ff_reactive.proofs.Copies.{copy_entry_is, copy_after_more, entry_below_more, entry_below_more_suc, multi_start, multi_more, multi-append}
-use Rattle.ff_reactive.proofs.Text.{text_of_none, text_of-cons, text_of_begins, text_of-append, text_of_push, text_out_none, text_out_push, text_out-append}
+use Rattle.ff_reactive.proofs.Text.{text_of_none, text_of_begins, text_of-append, text_of_push, text_out_none, text_out_push, text_out-append}
 
 module _ {I O : Type 0} (v : Levels I O) where
-  -- the text of the first outputs of a list, as one more comes
-  pub text_of_take_more : (os : List O) (j : ℕ) (d : O) → j < length os → text_of v (take (j + 1) os) ≡ text_of v (take j os) ++ line_of v (get_or os j d)
-  text_of_take_more os j d lt = ap (text_of v) (take_more os j d lt) ∙ text_of_push v (take j os) (get_or os j d)
+  -- A loop that prints the outputs of a list behind the text `base`: one more output.
+  pub text_printed : (os : List O) (j : ℕ) (d : O) (base text : List ℕ) → j < length os → text ≡ base ++ text_of v (take j os)
+      → text ++ line_of v (get_or os j d) ≡ base ++ text_of v (take (j + 1) os)
+  text_printed os j d base text lt so_far =
+      ap (λ bs. bs ++ line_of v (get_or os j d)) so_far
+      ∙ append_assoc base (text_of v (take j os)) (line_of v (get_or os j d))
+      ∙ ap (λ bs. base ++ bs) (sym (text_of_push v (take j os) (get_or os j d)) ∙ ap (text_of v) (sym (take_more os j d lt)))
 
-  -- and of those of them that belong to a level
-  pub text_at_level_take_more : (l : ℕ) (os : List O) (j : ℕ) (d : O) → j < length os
-      → text_of v (at_level v l (take (j + 1) os)) ≡ text_of v (at_level v l (take j os)) ++ cond (v.level_out (get_or os j d) == l) (line_of v (get_or os j d)) []
-  text_at_level_take_more l os j d lt =
-      ap (text_of v) (filter_more (λ o. v.level_out o == l) os j d lt)
-      ∙ text_of-append v (at_level v l (take j os)) (cond (v.level_out (get_or os j d) == l) (get_or os j d ∷ []) [])
-      ∙ ap (λ bs. text_of v (at_level v l (take j os)) ++ bs) (from (v.level_out (get_or os j d) == l))
-    where
-      from : (b : Bool) → text_of v (cond b (get_or os j d ∷ []) []) ≡ cond b (line_of v (get_or os j d)) []
-      from true = text_of-cons v (get_or os j d) [] ∙ ap (λ bs. line_of v (get_or os j d) ++ bs) (text_of_none v) ∙ append-nil (line_of v (get_or os j d))
-      from false = text_of_none v
+  -- the first outputs of a level, as one more output of any level comes
+  at_level_more : (l : ℕ) (os : List O) (j : ℕ) (d : O) (b : Bool) → j < length os → (v.level_out (get_or os j d) == l) ≡ b
+      → at_level v l (take (j + 1) os) ≡ at_level v l (take j os) ++ cond b (get_or os j d ∷ []) []
+  at_level_more l os j d b lt e = filter_more (λ o. v.level_out o == l) os j d lt ∙ ap (λ t. at_level v l (take j os) ++ cond t (get_or os j d ∷ []) []) e
+
+  -- A loop that prints those outputs of a list that belong to a level: one more output, which does, and one that doesn't.
+  pub text_kept : (l : ℕ) (os : List O) (j : ℕ) (d : O) (base text : List ℕ) → j < length os → (v.level_out (get_or os j d) == l) ≡ true
+      → text ≡ base ++ text_of v (at_level v l (take j os)) → text ++ line_of v (get_or os j d) ≡ base ++ text_of v (at_level v l (take (j + 1) os))
+  text_kept l os j d base text lt here so_far =
+      ap (λ bs. bs ++ line_of v (get_or os j d)) so_far
+      ∙ append_assoc base (text_of v (at_level v l (take j os))) (line_of v (get_or os j d))
+      ∙ ap (λ bs. base ++ bs) (sym (text_of_push v (at_level v l (take j os)) (get_or os j d)) ∙ ap (text_of v) (sym (at_level_more l os j d true lt here)))
+
+  pub text_dropped : (l : ℕ) (os : List O) (j : ℕ) (d : O) (base text : List ℕ) → j < length os → (v.level_out (get_or os j d) == l) ≡ false
+      → text ≡ base ++ text_of v (at_level v l (take j os)) → text ≡ base ++ text_of v (at_level v l (take (j + 1) os))
+  text_dropped l os j d base text lt elsewhere so_far =
+      so_far ∙ ap (λ ps. base ++ text_of v ps) (sym (append-nil (at_level v l (take j os))) ∙ sym (at_level_more l os j d false lt elsewhere))
 
 module _ {I O S : Type 0} (m : Machine I O S) (v : Levels I O) where
   -- the text of the plain run over no input, over one more, and over more
