@@ -86,18 +86,19 @@ filter_map_push h (y ∷ ys) x = ap (cons_option (h y)) (filter_map_push h ys x)
     onto None = refl
     onto (Some z) = refl
 
--- a list begins with itself, with what a list that it begins with begins with, and with what comes before more
-pub begins_itself : {X : Type 0} (xs : List X) → BeginsWith xs xs
-begins_itself xs = ([], sym (append-nil xs))
+-- A list begins with itself, and with what a list that it begins with begins with; so do both behind the same list, and
+-- the longer one with more behind it.
+pub BeginsWith-refl : {X : Type 0} (xs : List X) → BeginsWith xs xs
+BeginsWith-refl xs = ([], sym (append-nil xs))
 
-pub begins-trans : {X : Type 0} (xs ys zs : List X) → BeginsWith xs ys → BeginsWith ys zs → BeginsWith xs zs
-begins-trans xs ys zs outer inner = (inner.0 ++ outer.0, outer.1 ∙ ap (λ ws. ws ++ outer.0) inner.1 ∙ append_assoc zs inner.0 outer.0)
+pub BeginsWith-trans : {X : Type 0} (xs ys zs : List X) → BeginsWith xs ys → BeginsWith ys zs → BeginsWith xs zs
+BeginsWith-trans xs ys zs outer inner = (inner.0 ++ outer.0, outer.1 ∙ ap (λ ws. ws ++ outer.0) inner.1 ∙ append_assoc zs inner.0 outer.0)
 
-pub begins_under : {X : Type 0} (front xs ys : List X) → BeginsWith xs ys → BeginsWith (front ++ xs) (front ++ ys)
-begins_under front xs ys begins = (begins.0, ap (λ ws. front ++ ws) begins.1 ∙ sym (append_assoc front ys begins.0))
+pub BeginsWith-under : {X : Type 0} (front xs ys : List X) → BeginsWith xs ys → BeginsWith (front ++ xs) (front ++ ys)
+BeginsWith-under front xs ys begins = (begins.0, ap (λ ws. front ++ ws) begins.1 ∙ sym (append_assoc front ys begins.0))
 
-pub begins_and_more : {X : Type 0} (xs ys zs : List X) → BeginsWith xs zs → BeginsWith (xs ++ ys) zs
-begins_and_more xs ys zs begins = (begins.0 ++ ys, ap (λ ws. ws ++ ys) begins.1 ∙ append_assoc zs begins.0 ys)
+pub BeginsWith-append : {X : Type 0} (xs ys zs : List X) → BeginsWith xs zs → BeginsWith (xs ++ ys) zs
+BeginsWith-append xs ys zs begins = (begins.0 ++ ys, ap (λ ws. ws ++ ys) begins.1 ∙ append_assoc zs begins.0 ys)
 
-pub same_begins : {X : Type 0} (xs ys zs : List X) → xs ≡ ys → BeginsWith ys zs → BeginsWith xs zs
-same_begins xs ys zs e begins = (begins.0, e ∙ begins.1)
+pub BeginsWith-same : {X : Type 0} (xs ys zs : List X) → xs ≡ ys → BeginsWith ys zs → BeginsWith xs zs
+BeginsWith-same xs ys zs e begins = (begins.0, e ∙ begins.1)

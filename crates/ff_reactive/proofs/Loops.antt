@@ -1,14 +1,14 @@
 -- What a loop over inputs, and within it over levels, keeps true: the text so far, and where the copies stand.
-use Rattle.std.proofs.Common.{◌≡◌, ℕ, zero, suc, ◌+◌, ◌<◌, ◌≤◌, ◌==◌, Bool, true, false, cond, take, drop, take-append-drop, None, List, [], ◌∷◌, ◌++◌, length, get_or, set, All, sym, ap, subst, ◌∙◌, append_assoc, append-nil, arith, length-set, get_or-set_same, get_or-set_other}
+use Rattle.std.proofs.Common.{◌≡◌, ℕ, zero, suc, ◌+◌, ◌<◌, ◌≤◌, ◌==◌, Bool, true, false, cond, take, drop, take-append-drop, None, List, [], ◌∷◌, ◌++◌, length, get_or, set, All, refl, sym, ap, subst, ◌∙◌, append_assoc, append-nil, arith, length-set, get_or-set_same, get_or-set_other}
 use Rattle.std.proofs.lemmas.Bool.{cases_eq}
 use Rattle.std.proofs.lemmas.List.{take_more}
-use Rattle.std.proofs.lemmas.List.Elements.{filter_more}
+use Rattle.std.proofs.lemmas.List.Elements.{filter_more, filter-append}
 use Rattle.std.proofs.Common.{◌⊎◌, inl, inr}
 use Rattle.ff_reactive.specs.Runs.{Machine, entries, plain_from, after, plain}
 use Rattle.ff_reactive.specs.Copies.{Levels, seen, at_level, copy_entry, entry_below, multi_entry, multi}
 use Rattle.ff_reactive.specs.Text.{BeginsWith, text_of, text_out, line_of}
 use Rattle.ff_reactive.specs.Loops.{handle_seen, AreCopies, text_below, RunsSoFar, RunsWithin}
-use Rattle.ff_reactive.proofs.Lists.{begins-trans, begins_under, begins_and_more, same_begins}
+use Rattle.ff_reactive.proofs.Lists.{BeginsWith-trans, BeginsWith-under, BeginsWith-append, BeginsWith-same}
 use Rattle.ff_reactive.proofs.Runs.{after_start, plain_start, plain_more, plain-append}
 use Rattle.ff_reactive.proofs.Copies.{copy_entry_is, copy_after_more, entry_below_more, entry_below_more_suc, multi_start, multi_more, multi-append}
 use Rattle.ff_reactive.proofs.Text.{text_of_none, text_of_begins, text_of-append, text_of_push, text_out_none, text_out_push, text_out-append}
@@ -39,6 +39,14 @@ module _ {I O : Type 0} (v : Levels I O) where
       → text ≡ base ++ text_of v (at_level v l (take j os)) → text ≡ base ++ text_of v (at_level v l (take (j + 1) os))
   text_dropped l os j d base text lt elsewhere so_far =
       so_far ∙ ap (λ ps. base ++ text_of v ps) (sym (append-nil (at_level v l (take j os))) ∙ sym (at_level_more l os j d false lt elsewhere))
+
+  -- the first outputs are the beginning, also of those that belong to a level
+  take_begins : (j : ℕ) (os : List O) → BeginsWith os (take j os)
+  take_begins j os = (drop j os, sym (take-append-drop j os))
+
+  at_level_take_begins : (l j : ℕ) (os : List O) → BeginsWith (at_level v l os) (at_level v l (take j os))
+  at_level_take_begins l j os =
+      (at_level v l (drop j os), ap (at_level v l) (sym (take-append-drop j os)) ∙ filter-append (λ o. v.level_out o == l) (take j os) (drop j os))
 
 module _ {I O S : Type 0} (m : Machine I O S) (v : Levels I O) where
   -- the text of the plain run over no input, over one more, and over more
@@ -109,18 +117,40 @@ module _ {I O S : Type 0} (m : Machine I O S) (v : Levels I O) where
       from : (l ≡ suc n) ⊎ (l ≡ suc n → ⊥) → (l ≤ n → BeginsWith (entry_below m v before i n) (entry_below m v before i l)) → BeginsWith (entry_below m v before i (suc n)) (entry_below m v before i l)
       from (inl e) rest = ([], ap (λ k. entry_below m v before i k) (sym e) ∙ sym (append-nil (entry_below m v before i l)))
       from (inr differ) rest =
-          same_begins (entry_below m v before i (suc n)) (entry_below m v before i n ++ copy_entry m v n before i) (entry_below m v before i l) (entry_below_more_suc m v before i n)
-          (begins_and_more (entry_below m v before i n) (copy_entry m v n before i) (entry_below m v before i l) (rest (omega arith)))
+          BeginsWith-same (entry_below m v before i (suc n)) (entry_below m v before i n ++ copy_entry m v n before i) (entry_below m v before i l) (entry_below_more_suc m v before i n)
+          (BeginsWith-append (entry_below m v before i n) (copy_entry m v n before i) (entry_below m v before i l) (rest (omega arith)))
 
   pub text_below_begins : (before : List I) (i : I) (js : List I) (l : ℕ) → l ≤ v.count → BeginsWith (text_out v (multi m v (before ++ i ∷ js))) (text_below m v before i l)
   text_below_begins before i js l low =
       let whole = text_out v (multi m v (before ++ i ∷ js)) in
       let next = text_out v (multi m v (before ++ i ∷ [])) in
       let entry = entry_below m v before i in
-      begins-trans whole next (text_below m v before i l)
-      (same_begins whole (text_out v (multi m v (before ++ i ∷ [] ++ js))) next (ap (λ xs. text_out v (multi m v xs)) (sym (append_assoc before (i ∷ []) js))) (text_begins (before ++ i ∷ []) js))
-      (same_begins next (text_below m v before i v.count) (text_below m v before i l) (text_more before i)
-      (begins_under (text_out v (multi m v before)) (text_of v (entry v.count)) (text_of v (entry l)) (text_of_begins v (entry v.count) (entry l) (entry_below_begins before i l v.count low))))
+      BeginsWith-trans whole next (text_below m v before i l)
+      (BeginsWith-same whole (text_out v (multi m v (before ++ i ∷ [] ++ js))) next (ap (λ xs. text_out v (multi m v xs)) (sym (append_assoc before (i ∷ []) js))) (text_begins (before ++ i ∷ []) js))
+      (BeginsWith-same next (text_below m v before i v.count) (text_below m v before i l) (text_more before i)
+      (BeginsWith-under (text_out v (multi m v before)) (text_of v (entry v.count)) (text_of v (entry l)) (text_of_begins v (entry v.count) (entry l) (entry_below_begins before i l v.count low))))
+
+  -- and in the middle of a level, with the outputs that were gone through so far
+  pub text_level_begins : (before : List I) (i : I) (js : List I) (l : ℕ) (s : S) (j : ℕ) → l < v.count → s ≡ after m (seen v l before)
+      → BeginsWith (text_out v (multi m v (before ++ i ∷ js))) (text_below m v before i l ++ text_of v (at_level v l (take j (handle_seen m s (v.sees l i)).outputs)))
+  text_level_begins before i js l s j lt at =
+      let os = (handle_seen m s (v.sees l i)).outputs in
+      let so_far = text_below m v before i l in
+      let part = so_far ++ text_of v (at_level v l (take j os)) in
+      BeginsWith-trans (text_out v (multi m v (before ++ i ∷ js))) (text_below m v before i (l + 1)) part (text_below_begins before i js (l + 1) (omega arith))
+      (BeginsWith-same (text_below m v before i (l + 1)) (so_far ++ text_of v (at_level v l os)) part (text_below_more_at before i l s at)
+      (BeginsWith-under so_far (text_of v (at_level v l os)) (text_of v (at_level v l (take j os))) (text_of_begins v (at_level v l os) (at_level v l (take j os)) (at_level_take_begins v l j os))))
+
+  pub plain_text_entry_begins : (before : List I) (i : I) (js : List I) (j : ℕ)
+      → BeginsWith (text_out v (plain m (before ++ i ∷ js))) (text_out v (plain m before) ++ text_of v (take j (m.handle (after m before) i).outputs))
+  plain_text_entry_begins before i js j =
+      let os = (m.handle (after m before) i).outputs in
+      let next = text_out v (plain m (before ++ i ∷ [])) in
+      let part = text_out v (plain m before) ++ text_of v (take j os) in
+      BeginsWith-trans (text_out v (plain m (before ++ i ∷ js))) next part
+      (BeginsWith-same (text_out v (plain m (before ++ i ∷ js))) (text_out v (plain m (before ++ i ∷ [] ++ js))) next (ap (λ xs. text_out v (plain m xs)) (sym (append_assoc before (i ∷ []) js))) (plain_text_begins (before ++ i ∷ []) js))
+      (BeginsWith-same next (text_out v (plain m before) ++ text_of v os) part (plain_text_more before i)
+      (BeginsWith-under (text_out v (plain m before)) (text_of v os) (text_of v (take j os)) (text_of_begins v os (take j os) (take_begins v j os))))
 
   -- Where the copies stand: all at the start, the first of them as an input comes, one more, and all when it was handled.
   pub copies_start : (states : List S) → length states ≡ v.count → All (λ s. s ≡ m.start) states → AreCopies m v states [] 0 []
@@ -192,6 +222,16 @@ module _ {I O S : Type 0} (m : Machine I O S) (v : Levels I O) where
       record {
         copies = copies_step states before i l s d within.copies lt made;
         text_is = printed ∙ ap (λ bs. bs ++ added) within.text_is ∙ sym (text_below_more_at before i l (get_or states l d) at);
+      }
+
+  -- a level that doesn't see the input leaves its copy and the text as they are
+  pub runs_pass : (states : List S) (text : List ℕ) (before : List I) (i : I) (l : ℕ) → RunsWithin m v states text before i l → l < v.count → v.sees l i ≡ None
+      → RunsWithin m v states text before i (l + 1)
+  runs_pass states text before i l within lt unseen =
+      let same_text = text_below_more_at before i l (after m (seen v l before)) refl ∙ ap (λ o. text_below m v before i l ++ text_of v (at_level v l (handle_seen m (after m (seen v l before)) o).outputs)) unseen in
+      record {
+        copies = copies_pass states before i l within.copies lt unseen;
+        text_is = within.text_is ∙ sym (same_text ∙ ap (λ bs. text_below m v before i l ++ bs) (text_of_none v) ∙ append-nil (text_below m v before i l));
       }
 
   pub runs_done : (states : List S) (text : List ℕ) (before : List I) (i : I) (l : ℕ) → l ≡ v.count → RunsWithin m v states text before i l

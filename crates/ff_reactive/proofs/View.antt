@@ -18,9 +18,6 @@ module _ {I O S : Type 0} (m : Machine I O S) (v : Levels I O) where
   abbrev pub low_entry : ℕ → List I → I → List O
   low_entry l before i = flat_map (λ k. cond (v.leq k l) (copy_entry m v k before i) []) (below v.count)
 
-  is_low : ℕ → O → Bool
-  is_low l o = v.leq (v.level_out o) l
-
   low_part : (l k : ℕ) (before : List I) (i : I) → filter (λ o. v.leq (v.level_out o) l) (copy_entry m v k before i) ≡ cond (v.leq k l) (copy_entry m v k before i) []
   low_part l k before i = from (v.leq k l) refl
     where
