@@ -1,15 +1,16 @@
 -- A machine with two levels that is small enough to run by hand, and what the definitions make of it.
 use Rattle.std.proofs.Common.{◌≡◌, ℕ, suc, ◌+◌, ◌-◌, ◌≢◌, ◌<◌, ◌≤◌, ◌⊎◌, inl, inr, zero, Bool, true, false, ◌==◌, nat_eq, nat_le, cond, Some, None, option_and_then, List, [], ◌∷◌, get_or, codes, refl, sym, ap, subst, ◌∙◌, arith, le-leb}
 use Rattle.std.specs.Prelude.{⊤}
-use Rattle.std.proofs.lemmas.Bool.{leb-true}
+use Rattle.std.proofs.lemmas.Bool.{leb-true, eqb-true, eqb-false}
 use Rattle.std.proofs.lemmas.List.Elements.{All-nil, All-cons}
 use Rattle.ff_reactive.specs.Runs.{Machine, plain, after, work_plain}
 use Rattle.ff_reactive.specs.Copies.{Levels, copy_entry, multi}
 use Rattle.ff_reactive.specs.Text.{text_of, text_out, view, only}
-use Rattle.ff_reactive.specs.Turns.{Reactor, settle}
+use Rattle.ff_reactive.specs.Turns.{Reactor, settle, machine_of, KeepsOk, IsFuelled}
 use Rattle.ff_reactive.specs.Sharing.{work}
 use Rattle.ff_reactive.specs.Laws.{IsWord, IsLawful, IsNoninterfering}
 use Rattle.ff_reactive.proofs.Laws.{noninterfering}
+use Rattle.ff_reactive.proofs.Turns.{handle_quiet}
 
 -- an output: its level and the number of opens before it
 record Line : Type 0 where
@@ -108,6 +109,25 @@ settles = refl
 
 settles_within : settle countdown 2 3 ≡ record { outputs = 3 ∷ 2 ∷ []; after = 1; turns = 2 }
 settles_within = refl
+
+-- each of its turns spends one of the numbers that are left, so it is quiet after at most one turn more than it was given
+counts_ok : KeepsOk countdown (λ i. i ≤ 5) (λ s. ⊤) (λ o. ⊤)
+counts_ok = record {
+  start_ok = tt;
+  begin_ok = λ s i at here. tt;
+  begin_outputs = λ s i at here. All-nil (λ o. ⊤);
+  turn_ok = λ s at busy. tt;
+  turn_outputs = λ s at busy. All-cons (λ o. ⊤) s [] tt (All-nil (λ o. ⊤));
+}
+
+counts_down : IsFuelled countdown (λ s. s) 5 (λ i. i ≤ 5) (λ s. ⊤)
+counts_down = record { brings = λ s i at here. here; spends = λ s at busy. inl (spent s busy) }
+  where
+    spent : (s : ℕ) → (s == 0) ≡ false → s - 1 < s
+    spent s busy = let some : s ≢ 0 = eqb-false s 0 busy in omega arith
+
+counts_to_the_end : (i : ℕ) → i ≤ 5 → ((machine_of countdown 6).handle 0 i).after ≡ 0
+counts_to_the_end i few = eqb-true ((machine_of countdown 6).handle 0 i).after 0 (handle_quiet counts_ok counts_down 0 i tt few)
 
 -- The two levels fit the machine, so the laws speak of it. Inputs and outputs are those of the two levels.
 at_two : (l : ℕ) → l < 2 → (l ≡ 0) ⊎ (l ≡ 1)

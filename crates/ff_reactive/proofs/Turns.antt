@@ -1,5 +1,5 @@
 -- Turns until a reactor is quiet: a loop of them, and the bound that fuel gives.
-use Rattle.std.proofs.Common.{◌≡◌, ℕ, zero, suc, ◌+◌, ◌-◌, ◌<◌, ◌≤◌, Bool, true, false, cond, ◌⊎◌, inl, inr, List, [], ◌++◌, All, refl, sym, ap, subst, ◌∙◌, append_assoc, append-nil, add-zero, zero-add, arith, true≢false}
+use Rattle.std.proofs.Common.{◌≡◌, ℕ, zero, suc, ◌+◌, ◌-◌, ◌<◌, ◌≤◌, Bool, true, false, cond, ◌⊎◌, inl, inr, List, [], ◌++◌, All, refl, sym, ap, subst, ◌∙◌, append_assoc, append-nil, add-zero, zero-add, add-one, arith, true≢false}
 use Rattle.std.proofs.lemmas.List.Elements.{All-nil, All-append}
 use Rattle.ff_reactive.specs.Runs.{Handled}
 use Rattle.ff_reactive.specs.Turns.{Reactor, settle, machine_of, KeepsOk, IsFuelled, turns_left, IsSettling}
@@ -131,22 +131,25 @@ module _ {I O S : Type 0} {r : Reactor I O S} {InputOk : I → Type 0} {StateOk 
         from true is_quiet = is_quiet
         from false busy = busy_turn busy (fuelled.spends s ok busy)
 
+    settle_enough_suc : (n : ℕ) (s : S) → StateOk s → fuel s ≤ n → r.quiet (settle r (suc n) s).after ≡ true
+    settle_enough_suc zero s ok within = settle_enough_turn zero s ok (λ spent next_ok. absurd (omega arith))
+    settle_enough_suc (suc n) s ok within = settle_enough_turn (suc n) s ok (λ spent next_ok. settle_enough_suc n (r.turn s).after next_ok (omega arith))
+
     -- one turn more than there is fuel is enough to be quiet
-    pub settle_enough : (n : ℕ) (s : S) → StateOk s → fuel s ≤ n → r.quiet (settle r (suc n) s).after ≡ true
-    settle_enough zero s ok within = settle_enough_turn zero s ok (λ spent next_ok. absurd (omega arith))
-    settle_enough (suc n) s ok within = settle_enough_turn (suc n) s ok (λ spent next_ok. settle_enough n (r.turn s).after next_ok (omega arith))
+    pub settle_enough : (n : ℕ) (s : S) → StateOk s → fuel s ≤ n → r.quiet (settle r (n + 1) s).after ≡ true
+    settle_enough n s ok within = ap (λ k. r.quiet (settle r k s).after) (add-one n) ∙ settle_enough_suc n s ok within
 
     -- so the machine handles each input to its end in at most `most + 1` turns, and would do the same with more of them
-    pub handle_quiet : (s : S) (i : I) → StateOk s → InputOk i → r.quiet ((machine_of r (suc most)).handle s i).after ≡ true
+    pub handle_quiet : (s : S) (i : I) → StateOk s → InputOk i → r.quiet ((machine_of r (most + 1)).handle s i).after ≡ true
     handle_quiet s i ok good = settle_enough most (r.begin s i).after (keeps.begin_ok s i ok good) (fuelled.brings s i ok good)
 
-    pub handle_turns : (s : S) (i : I) → ((machine_of r (suc most)).handle s i).turns ≤ most + 1
-    handle_turns s i = omega (arith, settle_turns r (suc most) (r.begin s i).after)
+    pub handle_turns : (s : S) (i : I) → ((machine_of r (most + 1)).handle s i).turns ≤ most + 1
+    handle_turns s i = settle_turns r (most + 1) (r.begin s i).after
 
-    pub handle_more : (k : ℕ) (s : S) (i : I) → StateOk s → InputOk i → (machine_of r (suc most + k)).handle s i ≡ (machine_of r (suc most)).handle s i
+    pub handle_more : (k : ℕ) (s : S) (i : I) → StateOk s → InputOk i → (machine_of r (most + 1 + k)).handle s i ≡ (machine_of r (most + 1)).handle s i
     handle_more k s i ok good =
         let onto : Handled O S → Handled O S = λ h. record { outputs = (r.begin s i).outputs ++ h.outputs; after = h.after; turns = h.turns } in
-        ap onto (settle_more r (suc most) k (r.begin s i).after (handle_quiet s i ok good))
+        ap onto (settle_more r (most + 1) k (r.begin s i).after (handle_quiet s i ok good))
 
     -- each turn brings the end nearer
     pub turns_left_falls : (s : S) → StateOk s → r.quiet s ≡ false → turns_left r fuel (r.turn s).after < turns_left r fuel s
