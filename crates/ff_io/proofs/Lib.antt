@@ -1,3 +1,5 @@
 pub mod Joins
-pub mod Writing
+pub mod PendingLemmas
 pub mod Reading
+pub mod TapeLemmas
+pub mod Writing

@@ -4,3 +4,6 @@ pub mod Counts
 pub mod Port
 pub mod Shelf
 pub mod Whole
+pub mod Pending
+pub mod Tape
+pub mod Memory

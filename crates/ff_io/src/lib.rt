@@ -5,8 +5,13 @@
 //! failure comes only where the count for that kind of call rose.
 #![tactic(auto)]
 
+mod counts;
+mod mem_port;
 mod outside;
+mod source;
+mod tape;
 mod whole;
 
+pub use mem_port::MemPort;
 pub use outside::{Failed, Port, Shelf, Sink};
 pub use whole::{All, AllFail, put_all, read_all};

@@ -1,0 +1,17 @@
+use Rattle.ff_io.proofs.TapeLemmas.{put_kept}
+use Rattle.ff_io.proofs.tape.Tape.keep_put.Goals as goal
+
+pub invariant_of-self : goal.invariant_of-self
+invariant_of-self c =
+    let t = c.self.inside in
+    let now = c.keep.new in
+    let e = c.keep.ensures in
+    (put_kept c.keep.result t.steps.items now.steps.items t.got.items t.put.items c.keep.new.side.items c.args.bytes.now c.self.invariant e.side e.steps e.err).0
+
+pub returns-clause-ok : goal.returns-clause-ok
+returns-clause-ok c =
+    let t = c.self.inside in
+    let now = c.keep.new in
+    let e = c.keep.ensures in
+    rw (← c.self.view_is)
+    (put_kept c.keep.result t.steps.items now.steps.items t.got.items t.put.items c.keep.new.side.items c.args.bytes.now c.self.invariant e.side e.steps e.err).1
