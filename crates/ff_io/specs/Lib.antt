@@ -7,3 +7,4 @@ pub mod Whole
 pub mod Pending
 pub mod Tape
 pub mod Memory
+pub mod MemFiles

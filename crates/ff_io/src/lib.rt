@@ -7,11 +7,15 @@
 
 mod counts;
 mod mem_port;
+mod mem_shelf;
+mod mem_sink;
 mod outside;
 mod source;
 mod tape;
 mod whole;
 
 pub use mem_port::MemPort;
+pub use mem_shelf::MemShelf;
+pub use mem_sink::MemSink;
 pub use outside::{Failed, Port, Shelf, Sink};
 pub use whole::{All, AllFail, put_all, read_all};
