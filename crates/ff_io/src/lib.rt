@@ -6,16 +6,23 @@
 #![tactic(auto)]
 
 mod counts;
+mod dir_shelf;
 mod mem_port;
 mod mem_shelf;
 mod mem_sink;
 mod outside;
+mod retry;
 mod source;
+mod std_err;
+mod std_port;
 mod tape;
 mod whole;
 
+pub use dir_shelf::DirShelf;
 pub use mem_port::MemPort;
 pub use mem_shelf::MemShelf;
 pub use mem_sink::MemSink;
 pub use outside::{Failed, Port, Shelf, Sink};
+pub use std_err::StdErr;
+pub use std_port::StdPort;
 pub use whole::{All, AllFail, put_all, read_all};

@@ -1,0 +1,53 @@
+//! The working folder as a shelf.
+ghost use Rattle.std.specs.Prelude.{◌≡◌, ◌≤◌, length, IfOk};
+
+use std::fs;
+use std::io;
+use std::io::{Seek, SeekFrom};
+use std::rt::Files;
+
+use super::counts::fail;
+use super::outside::{Failed, Shelf};
+use super::retry::read_retrying;
+
+/// The files of the working folder, opened by their names as they are given. It tells no content.
+/// An error counts as a fault, for all names together.
+#[derive(Drop)]
+pub struct DirShelf<'a, R: Files> {
+    runtime: &'a R,
+    faults: u64,
+}
+
+impl<'a, R: Files> DirShelf<'a, R> {
+    /// The working folder of this runtime, with no fault yet.
+    pub fn new(rt: &'a R) -> DirShelf<'a, R> {
+        DirShelf {
+            runtime: rt,
+            faults: 0,
+        }
+    }
+}
+
+impl<R: Files> Shelf for DirShelf<'_, R> {
+    ghost use Rattle.std.specs.Prelude.{None};
+
+    ghost files = { λ _. None };
+
+    ghost faults = { λ s _. s.faults };
+
+    fn fetch(&mut self, name: &str, at: u64, into: &mut [u8]) -> Result<usize, Failed> {
+        match read_at(self.runtime, name, at, into) {
+            Ok(n) => Ok(n),
+            Err(_) => fail(&mut self.faults),
+        }
+    }
+}
+
+// Reads the named file at an offset in bytes.
+fn read_at<R: Files>(rt: &R, name: &str, at: u64, into: &mut [u8]) -> io::Result<usize>
+    ensures { IfOk result (λ n. n ≤ length into.new) }
+{
+    let mut file = fs::open(rt, name)?;
+    file.seek(SeekFrom::Start(at))?;
+    read_retrying(&mut file, into)
+}

@@ -1,0 +1,44 @@
+//! Standard error as a sink.
+ghost use Rattle.std.specs.Prelude.{◌≡◌};
+
+use std::io::Eprint;
+use std::str;
+
+use super::counts::fail;
+use super::outside::{Failed, Sink};
+
+/// Standard error. It tells no content. An error counts as a fault, and so does a piece that
+/// isn't UTF-8, since the runtime takes text alone.
+#[derive(Drop)]
+pub struct StdErr<'a, R: Eprint> {
+    runtime: &'a R,
+    faults: u64,
+}
+
+impl<'a, R: Eprint> StdErr<'a, R> {
+    /// The standard error of this runtime, with no fault yet.
+    pub fn new(rt: &'a R) -> StdErr<'a, R> {
+        StdErr {
+            runtime: rt,
+            faults: 0,
+        }
+    }
+}
+
+impl<R: Eprint> Sink for StdErr<'_, R> {
+    ghost use Rattle.std.specs.Prelude.{None};
+
+    ghost put = { λ _. None };
+
+    ghost faults = { λ s. s.faults };
+
+    fn write(&mut self, piece: &[u8]) -> Result<usize, Failed> {
+        let Ok(text) = str::from_utf8(piece) else {
+            return fail(&mut self.faults);
+        };
+        match self.runtime.eprint(text) {
+            Ok(()) => Ok(piece.len()),
+            Err(_) => fail(&mut self.faults),
+        }
+    }
+}
