@@ -1,5 +1,6 @@
 -- Pieces of one call after those of another: what two calls on one port do together.
-use Rattle.std.proofs.Common.{◌≡◌, ℕ, false, ◌||◌, List, [], ◌∷◌, ◌++◌, Option, Some, None, refl, ap, sym, append-nil, append_assoc}
+use Rattle.std.proofs.Common.{◌≡◌, ℕ, Bool, true, false, ◌||◌, List, [], ◌∷◌, ◌++◌, Option, Some, None, IfSome, refl, ap, sym, append-nil, append_assoc}
+use Rattle.std.specs.Io.KnownBytes.{IsAtEnd}
 use Rattle.ff_io.specs.Pieces.{Piece, got_of, put_of, has_end, AllPut, IsReading}
 use Rattle.ff_io.specs.Pieces.Piece.{Got, Put}
 use Rattle.ff_io.specs.Port.{Adds, Leaves, Gains}
@@ -78,3 +79,22 @@ Leaves-trans before mid (Some rest) xs ys h k = rw (h, k) (ap Some (sym (append_
 pub Gains-trans : (before mid now : Option (List ℕ)) (xs ys : List ℕ) → Gains before mid xs → Gains mid now ys → Gains before now (xs ++ ys)
 Gains-trans None mid now xs ys h k = rw (k, h) refl
 Gains-trans (Some put) mid now xs ys h k = rw (k, h) (ap Some (append_assoc put xs ys))
+
+-- reads and then writes: what was got, put and seen
+pub got_of-then_put : (xs ys : List Piece) → AllPut ys → got_of (xs ++ ys) ≡ got_of xs
+got_of-then_put xs ys h = rw (got_of-append xs ys, got_of-AllPut ys h) (append-nil (got_of xs))
+
+pub put_of-after_reading : (xs ys : List Piece) → IsReading xs → put_of (xs ++ ys) ≡ put_of ys
+put_of-after_reading xs ys h = rw (put_of-append xs ys, put_of-IsReading xs h) refl
+
+pub has_end-then_put : (xs ys : List Piece) → AllPut ys → has_end (xs ++ ys) ≡ has_end xs
+has_end-then_put xs ys h = rw (has_end-append xs ys, has_end-AllPut ys h) (or-false (has_end xs))
+  where
+    or-false : (b : Bool) → (b || false) ≡ b
+    or-false true = refl
+    or-false false = refl
+
+-- where the end was seen and a port tells what is to come, that was what was got
+pub rest_was_got : (before now : Option (List ℕ)) (bytes : List ℕ) → Leaves before now bytes → IsAtEnd now → IfSome before (λ rest. rest ≡ bytes)
+rest_was_got before None bytes left none = rw left tt
+rest_was_got before (Some rest) bytes left none = rw (left, none) (append-nil bytes)

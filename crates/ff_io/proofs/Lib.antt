@@ -1,3 +1,4 @@
+pub mod FrontLemmas
 pub mod Joins
 pub mod PendingLemmas
 pub mod Reading

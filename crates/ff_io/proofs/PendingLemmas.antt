@@ -29,7 +29,7 @@ add_fits [] offset n place bound fits = omega arith
 add_fits (v ∷ vectors) offset n place bound fits =
     let some : 0 < length (drop offset v.items) = omega (arith, length-drop offset v.items) in
     let left : n ≤ length (drop offset v.items) =
-        rw (left_over-some (drop offset v.items) (nonempty (byte_lists vectors)) some) at bound in
+    rw (left_over-some (drop offset v.items) (nonempty (byte_lists vectors)) some) at bound in
     let long = v.ok.0 in
     let within = v.ok.1 in
     let small = v.small in

@@ -1,14 +1,12 @@
 //! The working folder as a shelf.
-ghost use Rattle.std.specs.Prelude.{◌≡◌, ◌≤◌, length, IfOk};
-
-use std::fs;
-use std::io;
-use std::io::{Seek, SeekFrom};
-use std::rt::Files;
+ghost use Rattle.std.specs.Prelude.{◌≡◌, ℕ, List, ◌≤◌, length, IfOk};
 
 use super::counts::fail;
 use super::outside::{Failed, Shelf};
 use super::retry::read_retrying;
+use std::io::{Seek, SeekFrom};
+use std::rt::Files;
+use std::{fs, io};
 
 /// The files of the working folder, opened by their names as they are given. It tells no content.
 /// An error counts as a fault, for all names together.
@@ -20,7 +18,9 @@ pub struct DirShelf<'a, R: Files> {
 
 impl<'a, R: Files> DirShelf<'a, R> {
     /// The working folder of this runtime, with no fault yet.
-    pub fn new(rt: &'a R) -> DirShelf<'a, R> {
+    pub fn new(rt: &'a R) -> DirShelf<'a, R>
+        ensures { (name : List ℕ) → ⟦<DirShelf<'a, R> as Shelf>⟧.faults result name ≡ 0 }
+    {
         DirShelf {
             runtime: rt,
             faults: 0,

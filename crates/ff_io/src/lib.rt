@@ -26,3 +26,6 @@ pub use outside::{Failed, Port, Shelf, Sink};
 pub use std_err::StdErr;
 pub use std_port::StdPort;
 pub use whole::{All, AllFail, put_all, read_all};
+
+#[cfg(test)]
+mod tests;

@@ -7,13 +7,12 @@ ghost use Rattle.ff_io.specs.Port.{Adds, Leaves, AtEnd, bytes_of, pieces_got, pi
 ghost use Rattle.ff_io.specs.Pending.{nonempty, joined, byte_lists, front_piece, without_front};
 ghost use Rattle.ff_io.specs.Memory.{fresh_port, after_read, after_bad_read, after_write, after_bad_write};
 
-use std::alloc::{AllocError, Global};
-use std::marker::Model;
-
 use super::counts::{fail, next_count};
 use super::outside::{Failed, Port};
 use super::source::Source;
 use super::tape::Tape;
+use std::alloc::{AllocError, Global};
+use std::marker::Model;
 
 /// A port in memory. A read skips empty pieces, and gives as many bytes of the current piece as
 /// fit and none of the next one. A write takes at most `grain` bytes. Reads and writes are
@@ -39,15 +38,15 @@ impl Model for MemPort {
     ghost Value = { PortState };
 
     ghost view = { λ p. record {
-        pieces = p.source;
-        log = p.tape;
-        bad_reads = p.bad_reads.items;
-        bad_writes = p.bad_writes.items;
-        grain = p.grain;
-        reads = p.reads;
-        writes = p.writes;
-        read_faults = p.read_faults;
-        write_faults = p.write_faults;
+      pieces = p.source;
+      log = p.tape;
+      bad_reads = p.bad_reads.items;
+      bad_writes = p.bad_writes.items;
+      grain = p.grain;
+      reads = p.reads;
+      writes = p.writes;
+      read_faults = p.read_faults;
+      write_faults = p.write_faults;
     } };
 
     ghost invariant = { λ p. 1 ≤ p.grain };

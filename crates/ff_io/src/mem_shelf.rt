@@ -3,10 +3,9 @@ ghost use Rattle.std.specs.Prelude.{◌≡◌, ℕ, ◌-◌, ◌≤◌, ◌<◌,
 ghost use Rattle.ff_io.specs.Counts.{next_count as next_count_of, HasCause};
 ghost use Rattle.ff_io.specs.Shelf.{Gives, IsPart};
 
-use std::collections::BTreeMap;
-
 use super::counts::{fail, next_count};
 use super::outside::{Failed, Shelf};
+use std::collections::BTreeMap;
 
 /// A shelf in memory. A fetch gives as many bytes as fit. Fetches are numbered from 1, and fail
 /// exactly where they are listed or the name isn't there. A listed failure counts for every name,

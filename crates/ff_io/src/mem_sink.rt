@@ -4,11 +4,10 @@ ghost use Rattle.ff_io.specs.Counts.{next_count as next_count_of, HasCause};
 ghost use Rattle.ff_io.specs.Port.{Gains, bytes_of};
 ghost use Rattle.ff_io.specs.Memory.{fresh_sink, after_put, after_bad_put};
 
-use std::alloc::Global;
-use std::marker::Model;
-
 use super::counts::{fail, next_count};
 use super::outside::{Failed, Sink};
+use std::alloc::Global;
+use std::marker::Model;
 
 /// A sink in memory. A write takes all of its piece. Writes are numbered from 1, and the listed
 /// ones fail; so does one that finds no memory for what it keeps.
@@ -26,10 +25,10 @@ impl Model for MemSink {
     ghost Value = { SinkState };
 
     ghost view = { λ s. record {
-        put = s.put.items;
-        bad_writes = s.bad_writes.items;
-        writes = s.writes;
-        faults = s.faults;
+      put = s.put.items;
+      bad_writes = s.bad_writes.items;
+      writes = s.writes;
+      faults = s.faults;
     } };
 }
 

@@ -1,11 +1,10 @@
 //! Standard error as a sink.
 ghost use Rattle.std.specs.Prelude.{◌≡◌};
 
-use std::io::Eprint;
-use std::str;
-
 use super::counts::fail;
 use super::outside::{Failed, Sink};
+use std::io::Eprint;
+use std::str;
 
 /// Standard error. It tells no content. An error counts as a fault, and so does a piece that
 /// isn't UTF-8, since the runtime takes text alone.
@@ -17,7 +16,9 @@ pub struct StdErr<'a, R: Eprint> {
 
 impl<'a, R: Eprint> StdErr<'a, R> {
     /// The standard error of this runtime, with no fault yet.
-    pub fn new(rt: &'a R) -> StdErr<'a, R> {
+    pub fn new(rt: &'a R) -> StdErr<'a, R>
+        ensures { ⟦<StdErr<'a, R> as Sink>⟧.faults result ≡ 0 }
+    {
         StdErr {
             runtime: rt,
             faults: 0,

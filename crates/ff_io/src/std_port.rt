@@ -1,11 +1,10 @@
 //! Standard input and output as a port.
 ghost use Rattle.std.specs.Prelude.{◌≡◌};
 
-use std::io::{Input, Print};
-
 use super::counts::fail;
 use super::outside::{Failed, Port};
 use super::retry::{read_retrying, write_retrying};
+use std::io::{Input, Print};
 
 /// Standard input and output. It tells no content. An error counts as a fault, and so does a
 /// write that takes nothing; an interrupted read or write is tried again.
@@ -29,7 +28,10 @@ impl<R: Input + Print> Drop for StdPort<'_, R> {
 
 impl<'a, R: Input + Print> StdPort<'a, R> {
     /// The port of this runtime, with no fault yet.
-    pub fn new(rt: &'a R) -> StdPort<'a, R> {
+    pub fn new(rt: &'a R) -> StdPort<'a, R>
+        ensures reads { ⟦<StdPort<'a, R> as Port>⟧.read_faults result ≡ 0 }
+        ensures writes { ⟦<StdPort<'a, R> as Port>⟧.write_faults result ≡ 0 }
+    {
         StdPort {
             runtime: rt,
             reader: rt.reader(),

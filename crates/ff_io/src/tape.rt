@@ -73,12 +73,22 @@ impl Tape {
         ensures ok { OnOk result (self.new ≡ self.old ++ Put bytes.now ∷ []) }
         ensures err { OnErr result (self.new ≡ self.old) }
     {
-        keep(&mut self.put, &mut self.steps, bytes, Step::Out(bytes.len()))
+        keep(
+            &mut self.put,
+            &mut self.steps,
+            bytes,
+            Step::Out(bytes.len()),
+        )
     }
 }
 
 // Adds the bytes to one side and the step to the steps, or neither.
-fn keep(side: &mut Vec<u8>, steps: &mut Vec<Step>, bytes: &[u8], step: Step) -> Result<(), AllocError>
+fn keep(
+    side: &mut Vec<u8>,
+    steps: &mut Vec<Step>,
+    bytes: &[u8],
+    step: Step,
+) -> Result<(), AllocError>
     ensures side { OnOk result (side.new.items ≡ side.old.items ++ bytes.now) }
     ensures steps { OnOk result (steps.new.items ≡ steps.old.items ++ step ∷ []) }
     ensures err { OnErr result ((side.new.items ≡ side.old.items) × (steps.new.items ≡ steps.old.items)) }
