@@ -1,9 +1,8 @@
 -- The parts of an address are the only ones, and an address has no fault.
-use Rattle.std.proofs.Common.{◌≡◌, ◌≢◌, ◌⊎◌, ◌≤◌, ◌<◌, ℕ, Bool, true, false, not, ◌==◌, List, [], ◌∷◌, ◌++◌, length, slice_get, Option, Some, None, Result, Ok, Err, IfOk, IfErr, IsTrue, inl, inr, refl, sym, ap, ◌∙◌, subst, arith, append-nil, get_or, drop, lit<}
+use Rattle.std.proofs.Common.{◌≡◌, ◌≢◌, ◌⊎◌, ◌≤◌, ◌<◌, ℕ, true, not, ◌==◌, List, [], ◌∷◌, ◌++◌, length, slice_get, Some, Result, Ok, Err, IfOk, IfErr, inl, inr, refl, sym, ap, ◌∙◌, subst, arith, append-nil, get_or, drop, lit<}
 use Rattle.std.specs.List.{list_all}
 use Rattle.std.proofs.lemmas.Bool.{and_parts}
-use Rattle.ff_name.specs.Spelling.{IsDomain}
-use Rattle.ff_name.specs.Address.{blank, scheme, stands_in_request, IsRequest, IsWellSpelled, printed, Spells, as_printed, with_no_request, Parts, PartFaults, no_domain, wrong_byte, too_long, ArePassed, request_or_slash, Faults, no_scheme, in_parts}
+use Rattle.ff_name.specs.Address.{blank, scheme, Spells, as_printed, with_no_request, Parts, PartFaults, no_domain, wrong_byte, too_long, ArePassed, request_or_slash, Faults, no_scheme, in_parts}
 use Rattle.ff_name.specs.declared.urls.Url.{Url}
 use Rattle.ff_name.specs.declared.urls.Url.TheVariants.{Blank, At}
 use Rattle.ff_name.specs.declared.urls.UrlFault.{UrlFault}

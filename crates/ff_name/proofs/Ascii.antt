@@ -1,7 +1,7 @@
 -- What is spelled in ASCII is UTF-8.
-use Rattle.std.proofs.Common.{◌≡◌, ℕ, ◌<◌, ◌≤◌, ◌==◌, ◌||◌, Bool, true, List, [], ◌∷◌, ◌++◌, IsTrue, arith, refl, subst, sym, ◌∙◌, ap, get_or, not}
+use Rattle.std.proofs.Common.{◌≡◌, ℕ, ◌<◌, ◌==◌, ◌||◌, Bool, true, List, [], ◌∷◌, arith, refl, subst, sym, ◌∙◌, get_or, not}
 use Rattle.std.specs.List.{list_all, All, join_with_byte}
-use Rattle.std.specs.Str.{IsAscii, IsUtf8}
+use Rattle.std.specs.Str.{IsUtf8}
 use Rattle.std.proofs.lemmas.Str.{IsUtf8-from_ascii}
 use Rattle.std.proofs.lemmas.Str.Ascii.{IsAscii-from_all}
 use Rattle.std.proofs.lemmas.Bool.{and_parts, and_from}
@@ -9,7 +9,7 @@ use Rattle.std.proofs.lemmas.List.Sums.{AllPass-from_list_all}
 use Rattle.std.proofs.lemmas.Bool.Decides.{nat_tests}
 use Rattle.std.proofs.lemmas.List.Folds.{list_all-append}
 use Rattle.ff_name.specs.Address.{stands_in_request}
-use Rattle.ff_name.specs.Spelling.{IsName, is_named, begins_name, stands_in_name, stands_in_label, is_label, IsDomain}
+use Rattle.ff_name.specs.Spelling.{IsName, begins_name, stands_in_name, stands_in_label, is_label, IsDomain}
 
 -- what a test says of each element that it passes
 pub All-from_test : (test : ℕ → Bool) (P : ℕ → Type 0) → ((b : ℕ) → test b ≡ true → P b) → (bytes : List ℕ) → list_all test bytes ≡ true → All P bytes

@@ -1,6 +1,6 @@
 -- A domain is the parts of its bytes between the dots.
-use Rattle.std.proofs.Common.{◌≡◌, ◌≢◌, ◌↔◌, ℕ, ◌<◌, ◌≤◌, ◌+◌, Bool, true, false, List, [], ◌∷◌, ◌++◌, IsTrue, length, ◌==◌, arith, rules, refl, sym, ap, ◌∙◌, subst}
-use Rattle.std.specs.List.{list_all, All, join_with_byte, slice_split, count_by}
+use Rattle.std.proofs.Common.{◌≡◌, ◌≢◌, ℕ, ◌≤◌, true, false, List, [], ◌∷◌, length, ◌==◌, arith, refl, sym, ap, ◌∙◌, subst}
+use Rattle.std.specs.List.{list_all, All, join_with_byte, slice_split}
 use Rattle.std.proofs.lemmas.List.Splits.{slice_split_none, slice_split_at, length-slice_split, join_with_byte-slice_split}
 use Rattle.std.proofs.lemmas.Bool.{and_parts}
 use Rattle.std.proofs.lemmas.Bool.Decides.{nat_tests}

@@ -7,6 +7,12 @@ use crate::texts::{NoMemory, Text};
 use std::alloc::Global;
 use std::marker::Model;
 
+/// The most bytes that a domain may have.
+const MOST_DOMAIN_BYTES: usize = 253;
+
+/// The most bytes that a label may have.
+const MOST_LABEL_BYTES: usize = 63;
+
 /// A domain: labels joined by dots, at most 253 bytes in all. A label has 1 to 63 lower-case
 /// letters, digits or dashes, and neither begins nor ends with a dash. It is seen as the list of
 /// its bytes.
@@ -73,7 +79,7 @@ impl Domain {
 pub(crate) fn is_domain(bytes: &[u8]) -> bool
     ensures { IsTrue result ↔ IsDomain bytes.now }
 {
-    bytes.len() <= 253 && has_labels(bytes)
+    bytes.len() <= MOST_DOMAIN_BYTES && has_labels(bytes)
 }
 
 fn has_labels(bytes: &[u8]) -> bool
@@ -85,7 +91,7 @@ fn has_labels(bytes: &[u8]) -> bool
 fn is_label(label: &[u8]) -> bool
     ensures { result ≡ spelling.is_label label.now }
 {
-    if label.is_empty() || label.len() > 63 {
+    if label.is_empty() || label.len() > MOST_LABEL_BYTES {
         return false;
     }
     label[0] != b'-' && label[label.len() - 1] != b'-' && all_stand_in_label(label)

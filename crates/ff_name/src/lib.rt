@@ -4,6 +4,8 @@
 mod domains;
 mod levels;
 mod names;
+#[cfg(test)]
+mod tests;
 mod texts;
 mod urls;
 

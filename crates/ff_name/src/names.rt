@@ -7,6 +7,9 @@ use crate::texts::{NoMemory, Text};
 use std::alloc::Global;
 use std::marker::Model;
 
+/// The most bytes that a name may have.
+const MOST_NAME_BYTES: usize = 64;
+
 /// A name of a variable, a node or a window: a letter of ASCII or `_`, then letters, digits, `_`
 /// or `-`, at most 64 bytes in all. It is seen as the list of its bytes.
 #[derive(Debug, PartialEq, Eq, PartialOrd, Ord, Hash, Drop)]
@@ -62,7 +65,7 @@ impl Name {
 fn is_name(bytes: &[u8]) -> bool
     ensures { IsTrue result ↔ IsName bytes.now }
 {
-    bytes.len() <= 64 && is_named(bytes)
+    bytes.len() <= MOST_NAME_BYTES && is_named(bytes)
 }
 
 fn is_named(bytes: &[u8]) -> bool

@@ -11,6 +11,9 @@ use crate::texts::{NoMemory, Text};
 use std::alloc::Global;
 use thiserror::Error;
 
+/// The most bytes that a request text may have.
+const MOST_REQUEST_BYTES: usize = 2048;
+
 /// An address: `about:blank`, or a domain and a request text.
 #[derive(Debug, PartialEq, Eq, Hash, Drop)]
 pub enum Url {
@@ -45,7 +48,10 @@ impl Url {
     /// The address that these bytes spell, or the first fault in the order of `UrlFault`.
     pub fn read(alloc: Global, bytes: &[u8]) -> Result<Url, UrlFault>
         ensures found { IfOk result (Spells bytes.now) }
+        ensures well_spelled { IfOk result IsWellSpelled }
         ensures only { (url : Url) → Spells bytes.now url → (result ≡ Ok url) ⊎ (result ≡ Err UrlFault.NoMemory) }
+        // What is printed for an address is read back as that address.
+        ensures again { (url : Url) → IsWellSpelled url → bytes.now ≡ printed url → (result ≡ Ok url) ⊎ (result ≡ Err UrlFault.NoMemory) }
         ensures fault { IfErr result (λ fault. (fault ≡ UrlFault.NoMemory) ⊎ Faults bytes.now fault) }
         ensures exact { (fault : UrlFault) → Faults bytes.now fault → result ≡ Err fault }
     {
@@ -142,7 +148,7 @@ fn check_parts(host: &[u8], request: &[u8]) -> Result<(), UrlFault>
     if !all_stand_in_request(request) {
         return Err(UrlFault::Uri);
     }
-    if request.len() > 2048 {
+    if request.len() > MOST_REQUEST_BYTES {
         return Err(UrlFault::Long);
     }
     Ok(())

@@ -1,6 +1,6 @@
-use Rattle.std.proofs.Common.{◌≡◌, true, inr}
-use Rattle.ff_name.specs.Address.{no_scheme}
-use Rattle.ff_name.proofs.Addresses.{found_blank, only_blank, no_fault_blank, none_without_scheme, only_scheme, found_at, only_at, fault_at, exact_at}
+use Rattle.std.proofs.Common.{◌≡◌, true, inr, subst, sym}
+use Rattle.ff_name.specs.Address.{no_scheme, Spells, as_printed}
+use Rattle.ff_name.proofs.Addresses.{found_blank, found_at, only_at, fault_at, exact_at}
 use Rattle.ff_name.proofs.urls.Url.read.Goals as goal
 
 pub returns-then-is_blank-clause-found : goal.returns-then-is_blank-clause-found
@@ -29,3 +29,9 @@ pub returns-clause-exact : goal.returns-clause-exact
 returns-clause-exact c =
     exact_at c.args.bytes.now c.in-Some.rest.now c.split_at_slash.result.0.now c.split_at_slash.result.1.now
     c.in-Some.ensures c.split_at_slash.ensures c.read_parts.result c.read_parts.ensures.found c.read_parts.ensures.fault
+
+pub returns-clause-again : goal.returns-clause-again
+returns-clause-again c url well e =
+    only_at c.args.bytes.now c.in-Some.rest.now c.split_at_slash.result.0.now c.split_at_slash.result.1.now
+    c.in-Some.ensures c.split_at_slash.ensures c.read_parts.result c.read_parts.ensures.found c.read_parts.ensures.fault
+    url (subst (λ bytes. Spells bytes url) (sym e) (as_printed url well))
