@@ -1,0 +1,85 @@
+// The lowest level: up to sixteen cells side by side.
+ghost use Rattle.std.specs.Prelude.{◌≡◌, ◌≤◌, ℕ, length};
+ghost use Rattle.std.proofs.Common.{arith};
+ghost use Rattle.ff_cow.specs.Tower.{leaf_cells, IsLeaf};
+
+use crate::cell::{Cell, NoMemory};
+use crate::level::{Level, WIDTH, Writable};
+use ff_steps::Steps;
+use std::alloc::Global;
+use std::sync::ledger::Ledger;
+
+#[derive(Drop)]
+pub(crate) struct Leaf<V> {
+    cells: Vec<V>,
+}
+
+impl<V> Level<V> for Leaf<V> {
+    ghost capacity = { 16 };
+
+    ghost cells = { leaf_cells };
+
+    ghost is_valid = { IsLeaf };
+
+    fn empty(alloc: Global) -> Leaf<V> {
+        Leaf {
+            cells: Vec::new(alloc),
+        }
+    }
+
+    fn at(&self, i: usize, _room: usize) -> &V {
+        &self.cells[i]
+    }
+}
+
+impl<V: Drop> Writable<V> for Leaf<V> {
+    ghost copied = { length };
+
+    fn duplicate<C: Ledger>(
+        &self,
+        alloc: Global,
+        copies: &mut Steps<C>,
+    ) -> Result<Leaf<V>, NoMemory>
+    where
+        V: Cell<C>,
+    {
+        let mut cells = Vec::with_capacity(alloc, WIDTH)?;
+        for cell in &self.cells {
+            cells.push(cell.copy(copies)?)?;
+        }
+        Ok(Leaf { cells })
+    }
+
+    fn set<C: Ledger>(
+        &mut self,
+        i: usize,
+        _room: usize,
+        value: V,
+        _alloc: Global,
+        _copies: &mut Steps<C>,
+    ) -> Result<(), V>
+    where
+        V: Cell<C>,
+    {
+        self.cells[i] = value;
+        Ok(())
+    }
+
+    fn push<C: Ledger>(
+        &mut self,
+        _count: usize,
+        _room: usize,
+        value: V,
+        _alloc: Global,
+        _copies: &mut Steps<C>,
+    ) -> Result<(), V>
+    where
+        V: Cell<C>,
+    {
+        self.cells.push(value).map_err(|refused| refused.value)
+    }
+
+    ghost few = { λ node valid. valid };
+
+    ghost fewer = { λ node valid space. Prim.omega arith };
+}

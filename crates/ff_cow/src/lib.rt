@@ -1,0 +1,16 @@
+//! A list that is shared between forks, and copied only where one of them writes.
+//!
+//! A [`CowVec`] is a list in contracts. It is held as a tree of `Rc` nodes, sixteen to a node and five
+//! levels high, so it has at most [`MOST_CELLS`] cells. A fork shares the nodes with the list that it
+//! came from: it copies no cell. A write copies only the shared nodes between the root and its cell, and
+//! with them the cells of at most one leaf. A counter of type `Steps` says how many cells were copied.
+#![tactic(auto)]
+
+mod branch;
+mod cell;
+mod cow_vec;
+mod leaf;
+mod level;
+
+pub use cell::{Cell, NoMemory};
+pub use cow_vec::{CowVec, MOST_CELLS, PushFail};
