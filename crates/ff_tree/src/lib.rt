@@ -1,0 +1,10 @@
+//! Expressions, documents and operators: the trees that scripts and pages are written in.
+#![tactic(auto)]
+
+mod op;
+mod same;
+mod tree;
+
+pub use op::Op;
+pub use same::{same_docs, same_names};
+pub use tree::{Body, Doc, Docs, Expr, Exprs, Handler, Handlers, Lit, Names};

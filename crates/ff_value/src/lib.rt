@@ -1,0 +1,22 @@
+//! The values that the browser's stores, scripts, inputs and outputs are made of.
+//!
+//! The texts, names and addresses of `ff_name` and the expressions and documents of `ff_tree` are exported again, so that
+//! a user of values names this crate alone.
+#![tactic(auto)]
+
+mod fault;
+mod ids;
+mod input;
+mod output;
+mod reply;
+mod value;
+
+pub use fault::Fault;
+pub use ff_name::{Domain, Level, Name, NoMemory, Text, Url, UrlFault};
+pub use ff_shared::{Shared, SharedList};
+pub use ff_tree::{Body, Doc, Docs, Expr, Exprs, Handler, Handlers, Lit, Names, Op};
+pub use ids::{ActId, Ids, NodeId, PageId, WinId};
+pub use input::{Act, Input, Offers};
+pub use output::{Out, Pair, Pairs, Seen, Shown};
+pub use reply::{CookieOp, Cookies, Resp};
+pub use value::{Code, Codes, Val, Vals};

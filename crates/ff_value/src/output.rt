@@ -1,0 +1,244 @@
+ghost use Rattle.std.specs.Prelude.{◌≡◌, ◌↔◌, IfOk, IsTrue};
+
+use crate::fault::Fault;
+use ff_name::{Domain, NoMemory, Text, Url};
+use ff_shared::SharedList;
+use std::cmp::{Eq, PartialEq};
+
+/// What the user sees of a node.
+#[derive(Debug, Drop)]
+pub enum Seen {
+    Text(Text),
+    /// A link with its address and its label.
+    Link(Url, Text),
+    TextBox(Text),
+    Button(Text),
+    /// A division with what is seen of its parts.
+    Div(Shown),
+}
+
+/// What the user sees of a page.
+pub type Shown = SharedList<Seen>;
+
+impl Seen {
+    /// An equal view that shares its parts. Its one refusal is a count of owners that is full.
+    pub fn copy(&self) -> Result<Seen, NoMemory>
+        ensures { IfOk result (λ seen. seen ≡ self.now) }
+    {
+        match self {
+            Seen::Text(text) => Ok(Seen::Text(text.copy()?)),
+            Seen::Link(url, label) => Ok(Seen::Link(url.copy()?, label.copy()?)),
+            Seen::TextBox(text) => Ok(Seen::TextBox(text.copy()?)),
+            Seen::Button(label) => Ok(Seen::Button(label.copy()?)),
+            Seen::Div(parts) => Ok(Seen::Div(parts.copy()?)),
+        }
+    }
+}
+
+/// A key and its value, as of a cookie.
+#[derive(Debug, Drop)]
+pub struct Pair {
+    pub key: Text,
+    pub value: Text,
+}
+
+/// A list of keys and values.
+pub type Pairs = SharedList<Pair>;
+
+impl Pair {
+    /// An equal pair. Its one refusal is a count of owners that is full.
+    pub fn copy(&self) -> Result<Pair, NoMemory>
+        ensures { IfOk result (λ pair. pair ≡ self.now) }
+    {
+        Ok(Pair {
+            key: self.key.copy()?,
+            value: self.value.copy()?,
+        })
+    }
+}
+
+/// What a browser puts out. A window's number is its position among the open windows, from 0.
+#[derive(Debug, Drop)]
+pub enum Out {
+    /// A window was opened.
+    Opened,
+    /// A window was closed.
+    Closed(u32),
+    /// A window shows a new page.
+    Loaded(u32, Url, Shown),
+    /// A window's page was changed.
+    Updated(u32, Shown),
+    /// A script of a window's page failed.
+    Error(u32, Fault),
+    /// The input's fuel was spent.
+    Stopped,
+    /// A request to a domain: the request text, its cookies in byte order of keys, and its body.
+    Send(Domain, Text, Pairs, Text),
+}
+
+impl Out {
+    /// An equal output that shares its content. Its one refusal is a count of owners that is full.
+    pub fn copy(&self) -> Result<Out, NoMemory>
+        ensures { IfOk result (λ out. out ≡ self.now) }
+    {
+        match self {
+            Out::Opened => Ok(Out::Opened),
+            Out::Closed(win) => Ok(Out::Closed(*win)),
+            Out::Loaded(win, url, shown) => Ok(Out::Loaded(*win, url.copy()?, shown.copy()?)),
+            Out::Updated(win, shown) => Ok(Out::Updated(*win, shown.copy()?)),
+            Out::Error(win, fault) => Ok(Out::Error(*win, *fault)),
+            Out::Stopped => Ok(Out::Stopped),
+            Out::Send(domain, request, cookies, body) => Ok(Out::Send(
+                domain.copy()?,
+                request.copy()?,
+                cookies.copy()?,
+                body.copy()?,
+            )),
+        }
+    }
+}
+
+impl PartialEq for Pair {
+    ghost use Rattle.ff_value.specs.contracts.output.Pair.{the_row};
+    ghost use Rattle.ff_shared.specs.Content.{same_content, same_content-per};
+
+    ghost eq = { same_content the_row.coded };
+
+    ghost laws = { same_content-per the_row.coded };
+
+    fn eq(&self, other: &Pair) -> bool
+        ensures { IsTrue result ↔ (self.now ≡ other.now) }
+    {
+        self.key == other.key && self.value == other.value
+    }
+}
+
+impl Eq for Pair {
+    ghost use Rattle.ff_value.specs.contracts.output.Pair.{the_row};
+    ghost use Rattle.ff_shared.specs.Content.{same_content-equiv};
+
+    ghost laws = { same_content-equiv the_row.coded };
+}
+
+impl PartialEq for Seen {
+    ghost use Rattle.ff_value.specs.contracts.output.Seen.{the_row};
+    ghost use Rattle.ff_shared.specs.Content.{same_content, same_content-per};
+
+    ghost eq = { same_content the_row.coded };
+
+    ghost laws = { same_content-per the_row.coded };
+
+    fn eq(&self, other: &Seen) -> bool
+        ensures { IsTrue result ↔ (self.now ≡ other.now) }
+    {
+        same_seen(self, other)
+    }
+}
+
+impl Eq for Seen {
+    ghost use Rattle.ff_value.specs.contracts.output.Seen.{the_row};
+    ghost use Rattle.ff_shared.specs.Content.{same_content-equiv};
+
+    ghost laws = { same_content-equiv the_row.coded };
+}
+
+impl PartialEq for Out {
+    ghost use Rattle.ff_value.specs.contracts.output.Out.{the_row};
+    ghost use Rattle.ff_shared.specs.Content.{same_content, same_content-per};
+
+    ghost eq = { same_content the_row.coded };
+
+    ghost laws = { same_content-per the_row.coded };
+
+    fn eq(&self, other: &Out) -> bool
+        ensures { IsTrue result ↔ (self.now ≡ other.now) }
+    {
+        match self {
+            Out::Opened => matches!(other, Out::Opened),
+            Out::Closed(win) => match other {
+                Out::Closed(win2) => *win == *win2,
+                _ => false,
+            },
+            Out::Loaded(win, url, shown) => match other {
+                Out::Loaded(win2, url2, shown2) => *win == *win2
+                    && *url == *url2
+                    && same_shown(shown.as_slice(), shown2.as_slice()),
+                _ => false,
+            },
+            Out::Updated(win, shown) => match other {
+                Out::Updated(win2, shown2) => *win == *win2
+                    && same_shown(shown.as_slice(), shown2.as_slice()),
+                _ => false,
+            },
+            Out::Error(win, fault) => match other {
+                Out::Error(win2, fault2) => *win == *win2 && *fault == *fault2,
+                _ => false,
+            },
+            Out::Stopped => matches!(other, Out::Stopped),
+            Out::Send(domain, request, cookies, body) => match other {
+                Out::Send(domain2, request2, cookies2, body2) => *domain == *domain2
+                    && *request == *request2
+                    && same_pairs(cookies, cookies2)
+                    && *body == *body2,
+                _ => false,
+            },
+        }
+    }
+}
+
+impl Eq for Out {
+    ghost use Rattle.ff_value.specs.contracts.output.Out.{the_row};
+    ghost use Rattle.ff_shared.specs.Content.{same_content-equiv};
+
+    ghost laws = { same_content-equiv the_row.coded };
+}
+
+/// Whether two views are equal.
+#[cycle(same)]
+fn same_seen(a: &Seen, b: &Seen) -> bool
+    ensures { IsTrue result ↔ (a.now ≡ b.now) }
+{
+    match a {
+        Seen::Text(text) => match b {
+            Seen::Text(text2) => *text == *text2,
+            _ => false,
+        },
+        Seen::Link(url, label) => match b {
+            Seen::Link(url2, label2) => *url == *url2 && *label == *label2,
+            _ => false,
+        },
+        Seen::TextBox(text) => match b {
+            Seen::TextBox(text2) => *text == *text2,
+            _ => false,
+        },
+        Seen::Button(label) => match b {
+            Seen::Button(label2) => *label == *label2,
+            _ => false,
+        },
+        Seen::Div(parts) => match b {
+            Seen::Div(parts2) => same_shown(parts.as_slice(), parts2.as_slice()),
+            _ => false,
+        },
+    }
+}
+
+#[cycle(same)]
+fn same_shown(xs: &[Seen], ys: &[Seen]) -> bool
+    ensures { IsTrue result ↔ (xs.now ≡ ys.now) }
+{
+    if xs.len() != ys.len() {
+        return false;
+    }
+    for i in 0..xs.len() {
+        if !same_seen(&xs[i], &ys[i]) {
+            return false;
+        }
+    }
+    true
+}
+
+fn same_pairs(xs: &Pairs, ys: &Pairs) -> bool
+    ensures { IsTrue result ↔ (xs.now ≡ ys.now) }
+{
+    *xs == *ys
+}
