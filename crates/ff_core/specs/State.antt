@@ -1,0 +1,40 @@
+-- What clauses see of a browser, and the room that it has.
+use Rattle.std.specs.Prelude.{ℕ, Bool, true, false, ◌&&◌, nat_lt, List, [], ◌∷◌, ◌++◌, length, count_by, bytes_eq}
+use Rattle.ff_value.specs.declared.ids.WinId.{WinId}
+use Rattle.ff_core.specs.declared.browser.Pending.{Pending}
+
+pub record State : Type 0 where
+  -- the open windows, in the order in which they were opened
+  pub windows : List WinId
+  -- the requests that wait for their replies, the oldest first
+  pub pending : List Pending
+  -- whether the browser takes an input
+  pub quiet : Bool
+
+-- no window, no request, and quiet
+abbrev pub empty : State
+empty = record { windows = []; pending = []; quiet = true }
+
+-- fewer than 64 windows are open
+abbrev pub has_window_room : State → Bool
+has_window_room s = nat_lt (length s.windows) 64
+
+-- how many of the requests are to the domain
+abbrev pub waiting : List Pending → List ℕ → ℕ
+waiting pending domain = count_by (λ p. bytes_eq p.domain domain) pending
+
+-- fewer than 4,096 requests wait in all, and fewer than 256 of them for the domain
+abbrev pub have_room : List Pending → List ℕ → Bool
+have_room pending domain = nat_lt (length pending) 4096 && nat_lt (waiting pending domain) 256
+
+-- the number of the next window: as many were opened before it
+abbrev pub next_window : State → WinId
+next_window s = record { 0 = length s.windows }
+
+-- the state with one window more, the last of all
+abbrev pub with_window : State → State
+with_window s = record s { windows = s.windows ++ next_window s ∷ [] }
+
+-- the state with one request more, the last of all
+abbrev pub with_request : State → List ℕ → List ℕ → WinId → State
+with_request s domain uri window = record s { pending = s.pending ++ record { domain = domain; uri = uri; window = window } ∷ [] }
