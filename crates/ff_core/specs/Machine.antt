@@ -6,19 +6,27 @@ use Rattle.ff_value.specs.declared.input.Act.TheVariants.{Opens}
 use Rattle.ff_value.specs.declared.input.Input.{Input}
 use Rattle.ff_value.specs.declared.output.Out.{Out}
 use Rattle.ff_value.specs.declared.output.Out.TheVariants.{Opened, Send}
+use Rattle.ff_name.specs.Spelling.{IsDomain}
+use Rattle.ff_name.specs.Address.{IsRequest, IsWellSpelled}
 use Rattle.ff_name.specs.declared.urls.Url.{Url}
 use Rattle.ff_name.specs.declared.urls.Url.TheVariants.{Blank, At}
 use Rattle.ff_value.specs.declared.ids.WinId.{WinId}
 use Rattle.ff_core.specs.State.{State, empty, has_window_room, have_room, next_window, with_window, with_request}
 
--- the act opens a window
+-- the act opens a window at a well spelled address
 abbrev pub IsOpening : Act → Type 0
-IsOpening (Opens url) = ⊤
+IsOpening (Opens url) = IsWellSpelled url
 IsOpening other = ⊥
 
--- an input of a kind that is built: it opens a window
+-- a well spelled input of a kind that is built
 abbrev pub IsBuilt : Input → Type 0
 IsBuilt i = IsOpening i.act
+
+-- an output of a kind that is built: a window was opened, or a request without cookies and with an empty body is sent
+abbrev pub IsOutput : Out → Type 0
+IsOutput Opened = ⊤
+IsOutput (Send domain uri cookies body) = IsDomain domain × IsRequest uri × (cookies ≡ []) × (body ≡ [])
+IsOutput other = ⊥
 
 -- sends a request for a window, where there is room for it
 abbrev pub send : State → List ℕ → List ℕ → WinId → Stepped Out State

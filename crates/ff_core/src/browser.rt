@@ -82,6 +82,7 @@ impl Browser {
         requires quiet { IsTrue self.old.quiet }
         requires built { IsBuilt input.now }
         ensures state { OnOk result (self.new ≡ (reactor.begin self.old input.now).after) }
+        ensures busy { OnOk result (self.new.quiet ≡ false) }
         ensures outputs { OnOk result (outs.new.items ≡ outs.old.items ++ (reactor.begin self.old input.now).outputs) }
         ensures refused { OnErr result (AppendsFront outs.old.items outs.new.items (reactor.begin self.old input.now).outputs) }
     {
@@ -97,6 +98,7 @@ impl Browser {
     pub fn turn<L: Ledger>(&mut self, turns: &mut Steps<L>)
         requires { self.old.quiet ≡ false }
         ensures state { self.new ≡ (reactor.turn self.old).after }
+        ensures quiet { self.new.quiet ≡ true }
         ensures outputs { (reactor.turn self.old).outputs ≡ [] }
         ensures counted { turns.new ≡ turns.old + 1 }
     {
