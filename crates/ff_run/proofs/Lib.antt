@@ -1,0 +1,10 @@
+pub mod Commands
+pub mod Cuts
+pub mod Ends
+pub mod Executing
+pub mod Feeding
+pub mod Lawful
+pub mod OneLine
+pub mod Printing
+pub mod Tags
+pub mod Unique
