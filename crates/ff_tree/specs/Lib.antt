@@ -1,1 +1,3 @@
 pub mod Ops
+pub mod Spelled
+pub mod Weight

@@ -3,8 +3,12 @@
 
 mod op;
 mod same;
+#[cfg(test)]
+mod tests;
 mod tree;
+mod weigh;
 
 pub use op::Op;
 pub use same::{same_docs, same_names};
 pub use tree::{Body, Doc, Docs, Expr, Exprs, Handler, Handlers, Lit, Names};
+pub use weigh::{ITEM, string_weight, weight_doc, weight_docs, weight_expr};

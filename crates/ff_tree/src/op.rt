@@ -1,5 +1,7 @@
-ghost use Rattle.std.specs.Prelude.{◌≡◌, ◌↔◌, ℕ, IsTrue};
+ghost use Rattle.std.specs.Prelude.{◌≡◌, ◌↔◌, find};
+ghost use Rattle.std.specs.Str.{bytes_eq};
 ghost use Rattle.ff_tree.specs.Ops.{word_of, arity_of, is_pure_op};
+ghost use Rattle.ff_tree.specs.declared.op.Op.{Op};
 
 /// An operator of the script language.
 #[derive(Clone, Copy, Debug, PartialEq, Eq)]
@@ -43,6 +45,48 @@ pub enum Op {
     Listen,
     Ask,
 }
+
+/// Every operator, in the order of `Op`.
+pub(crate) const ALL: [Op; 38] = [
+    Op::Add,
+    Op::Sub,
+    Op::Mul,
+    Op::Div,
+    Op::Rem,
+    Op::Less,
+    Op::AtMost,
+    Op::Equal,
+    Op::Not,
+    Op::Cat,
+    Op::Len,
+    Op::Byte,
+    Op::Cut,
+    Op::Str,
+    Op::Num,
+    Op::Cookie,
+    Op::SetCookie,
+    Op::DelCookie,
+    Op::SelfWindow,
+    Op::Opener,
+    Op::Live,
+    Op::Url,
+    Op::Page,
+    Op::Window,
+    Op::Open,
+    Op::OpenNamed,
+    Op::Go,
+    Op::Close,
+    Op::Kind,
+    Op::Text,
+    Op::SetText,
+    Op::Count,
+    Op::Child,
+    Op::Find,
+    Op::Nth,
+    Op::Insert,
+    Op::Listen,
+    Op::Ask,
+];
 
 impl Op {
     /// The operator's word in the notation.
@@ -89,6 +133,13 @@ impl Op {
             Op::Listen => "listen",
             Op::Ask => "ask",
         }
+    }
+
+    /// The operator with that word, or `None` where no operator has it.
+    pub fn by_word(word: &[u8]) -> Option<Op>
+        ensures { (op : Op) → (result ≡ Some op) ↔ (word_of op ≡ word.now) }
+    {
+        find_word(&ALL, word)
     }
 
     /// How many operands the operator takes, from 0 to 3.
@@ -141,4 +192,11 @@ impl Op {
                 | Op::Num
         )
     }
+}
+
+/// The first of some operators that has the word.
+fn find_word(ops: &[Op], word: &[u8]) -> Option<Op>
+    ensures { result ≡ find (λ op. bytes_eq (word_of op) word.now) ops.now }
+{
+    ops.iter().copied().find(|op| op.word().as_bytes() == word)
 }
