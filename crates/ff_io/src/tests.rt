@@ -7,6 +7,7 @@ use std::process::Abort;
 use std::test::Fail;
 use std::{fs, io};
 
+// The pieces, each with its own memory.
 fn pieces_of(alloc: Global, texts: &[&[u8]]) -> Result<Vec<Vec<u8>>, AllocError> {
     let mut pieces = Vec::new(alloc);
     for text in texts {
@@ -15,82 +16,94 @@ fn pieces_of(alloc: Global, texts: &[&[u8]]) -> Result<Vec<Vec<u8>>, AllocError>
     Ok(pieces)
 }
 
-#[test]
-fn a_port_in_memory_reads_and_writes(rt: HostRuntime) -> Result<(), Fail> {
-    let alloc = rt.alloc();
+// A port of the pieces `ab`, nothing and `cde`, whose third read and second write fail.
+fn failing_port(alloc: Global) -> Result<MemPort, AllocError> {
     let pieces = pieces_of(alloc, &[b"ab", b"", b"cde"])?;
-    let mut port = MemPort::new(alloc, pieces, vec![in alloc; 3]?, vec![in alloc; 2]?, 2);
+    Ok(MemPort::new(alloc, pieces, vec![in alloc; 3]?, vec![in alloc; 2]?, 2))
+}
+
+#[test]
+fn reads_of_a_port_in_memory(rt: HostRuntime) -> Result<(), Fail> {
+    let mut port = failing_port(rt.alloc())?;
     for want in [Ok(2), Ok(2), Err(Failed), Ok(1), Ok(0)] {
         assert_eq!(rt; port.read(&mut [0; 2]), want);
     }
-    for (piece, want) in [(b"xyz", Ok(2)), (b"zzz", Err(Failed)), (b"zww", Ok(2))] {
-        assert_eq!(rt; port.write(piece), want, "{piece:?}");
-    }
     assert_eq!(rt; port.got_bytes(), b"abcde".as_slice());
-    assert_eq!(rt; port.put_bytes(), b"xyzw".as_slice());
     Ok(())
 }
 
-fn read_case(rt: &impl Abort, alloc: Global, limit: u64, want: (&[u8], bool)) -> Result<(), Fail> {
-    let mut port = MemPort::new(
-        alloc,
-        pieces_of(alloc, &[b"ab", b"cd"])?,
-        Vec::new(alloc),
-        Vec::new(alloc),
-        1,
-    );
-    let all = read_all(alloc, &mut port, limit)?;
-    assert_eq!(rt; all.bytes.as_slice(), want.0);
-    assert_eq!(rt; all.ended, want.1);
+#[test]
+fn writes_of_a_port_in_memory(rt: HostRuntime) -> Result<(), Fail> {
+    let mut port = failing_port(rt.alloc())?;
+    for want in [Ok(2), Err(Failed), Ok(2)] {
+        assert_eq!(rt; port.write(b"xyz"), want);
+    }
+    assert_eq!(rt; port.put_bytes(), b"xyxy".as_slice());
     Ok(())
 }
 
 #[test]
 fn a_port_is_read_to_its_end_or_past_the_limit(rt: HostRuntime) -> Result<(), Fail> {
-    read_case(&rt, rt.alloc(), 4, (b"abcd", true))?;
-    read_case(&rt, rt.alloc(), 3, (b"abcd", false))?;
-    read_case(&rt, rt.alloc(), 2, (b"abc", false))?;
+    for (limit, length, ended) in [(4, 4, true), (3, 4, false), (2, 3, false)] {
+        let pieces = pieces_of(rt.alloc(), &[b"ab", b"cd"])?;
+        let mut port = MemPort::new(
+            rt.alloc(),
+            pieces,
+            Vec::new(rt.alloc()),
+            Vec::new(rt.alloc()),
+            1,
+        );
+        let all = read_all(rt.alloc(), &mut port, limit)?;
+        assert_eq!(rt;
+            (all.bytes.len(), all.ended),
+            (length, ended),
+            "limit {limit}"
+        );
+    }
     Ok(())
 }
 
 #[test]
-fn failing_calls_of_a_port(rt: HostRuntime) -> Result<(), Fail> {
-    let alloc = rt.alloc();
-    let pieces = pieces_of(alloc, &[b"ab"])?;
-    let mut port = MemPort::new(alloc, pieces, vec![in alloc; 2]?, vec![in alloc; 3]?, 1);
-    let failed = match read_all(alloc, &mut port, 9) {
-        Ok(_) => None,
-        Err(why) => Some(why),
-    };
+fn a_failing_read_ends_the_reading(rt: HostRuntime) -> Result<(), Fail> {
+    let mut port = failing_port(rt.alloc())?;
+    let failed = read_all(rt.alloc(), &mut port, 9).err();
     assert_eq!(rt; failed, Some(AllFail::Read));
-    assert_eq!(rt; port.got_bytes(), b"ab".as_slice());
-    assert_eq!(rt; put_all(&mut port, b"xyz"), Err(Failed));
-    assert_eq!(rt; port.put_bytes(), b"xy".as_slice());
-    assert_eq!(rt; put_all(&mut port, b"zw"), Ok(()));
-    assert_eq!(rt; port.put_bytes(), b"xyzw".as_slice());
+    Ok(())
+}
+
+#[test]
+fn a_failing_write_leaves_a_front(rt: HostRuntime) -> Result<(), Fail> {
+    let mut port = failing_port(rt.alloc())?;
+    for want in [Err(Failed), Ok(())] {
+        assert_eq!(rt; put_all(&mut port, b"xyz"), want);
+    }
+    assert_eq!(rt; port.put_bytes(), b"xyxyz".as_slice());
     Ok(())
 }
 
 #[test]
 fn a_sink_in_memory(rt: HostRuntime) -> Result<(), Fail> {
-    let alloc = rt.alloc();
-    let mut sink = MemSink::new(alloc, vec![in alloc; 2]?);
-    for (piece, want) in [(b"ab", Ok(2)), (b"cd", Err(Failed)), (b"ef", Ok(2))] {
-        assert_eq!(rt; sink.write(piece), want, "{piece:?}");
+    let mut sink = MemSink::new(rt.alloc(), vec![in rt.alloc(); 2]?);
+    for want in [Ok(2), Err(Failed), Ok(2)] {
+        assert_eq!(rt; sink.write(b"ab"), want);
     }
-    assert_eq!(rt; sink.put_bytes(), b"abef".as_slice());
+    assert_eq!(rt; sink.put_bytes(), b"abab".as_slice());
     Ok(())
 }
 
-#[test]
-fn a_shelf_in_memory(rt: HostRuntime) -> Result<(), Fail> {
-    let alloc = rt.alloc();
+// A shelf with the file `p.json`, which holds `abc`, whose third fetch fails.
+fn failing_shelf(alloc: Global) -> Result<MemShelf, AllocError> {
     let mut files = BTreeMap::new(alloc);
     files.insert(
         String::from_str(alloc, "p.json")?,
         Vec::from_slice(alloc, b"abc")?,
     )?;
-    let mut shelf = MemShelf::new(files, vec![in alloc; 3]?);
+    Ok(MemShelf::new(files, vec![in alloc; 3]?))
+}
+
+#[test]
+fn a_shelf_in_memory(rt: HostRuntime) -> Result<(), Fail> {
+    let mut shelf = failing_shelf(rt.alloc())?;
     let cases = [
         ("p.json", 0, Ok(2)),
         ("p.json", 2, Ok(1)),
@@ -145,36 +158,38 @@ impl Print for Fake {
 }
 
 #[test]
-fn standard_input_and_output(rt: HostRuntime) -> Result<(), Fail> {
-    let mut port = StdPort::new(&Fake);
-    let all = read_all(rt.alloc(), &mut port, 9)?;
+fn standard_input_is_read_whole(rt: HostRuntime) -> Result<(), Fail> {
+    let all = read_all(rt.alloc(), &mut StdPort::new(&Fake), 9)?;
     assert_eq!(rt; all.bytes.as_slice(), b"hi".as_slice());
-    assert!(rt; all.ended);
-    assert_eq!(rt; put_all(&mut port, b"yes"), Ok(()));
-    assert_eq!(rt; put_all(&mut port, b"!no"), Err(Failed));
     Ok(())
 }
 
 #[test]
-fn standard_error_takes_text(rt: HostRuntime) -> Result<(), Fail> {
+fn standard_output_may_fail(rt: HostRuntime) {
+    let mut port = StdPort::new(&Fake);
+    for (bytes, want) in [(b"yes", Ok(())), (b"!no", Err(Failed))] {
+        assert_eq!(rt; put_all(&mut port, bytes), want);
+    }
+}
+
+#[test]
+fn standard_error_takes_text(rt: HostRuntime) {
     let mut sink = StdErr::new(&rt);
-    assert_eq!(rt; sink.write(b"one line\n"), Ok(9));
-    assert_eq!(rt; sink.write(&[0xff]), Err(Failed));
-    Ok(())
+    for (bytes, want) in [(b"ok\n", Ok(3)), (b"\xffk\n", Err(Failed))] {
+        assert_eq!(rt; sink.write(bytes), want);
+    }
 }
 
 #[test]
 fn the_working_folder(rt: HostRuntime) -> Result<(), Fail> {
     fs::write(&rt, "ff_io_test_shelf.txt", "abc")?;
     let mut shelf = DirShelf::new(&rt);
-    let mut into = [0u8; 8];
-    let found = shelf.fetch("ff_io_test_shelf.txt", 1, &mut into);
+    for (name, want) in [
+        ("ff_io_test_shelf.txt", Ok(2)),
+        ("ff_io_no_such_file.txt", Err(Failed)),
+    ] {
+        assert_eq!(rt; shelf.fetch(name, 1, &mut [0; 8]), want, "{name}");
+    }
     fs::remove_file(&rt, "ff_io_test_shelf.txt")?;
-    assert_eq!(rt; found, Ok(2));
-    assert_eq!(rt; &into[..2], b"bc".as_slice());
-    assert_eq!(rt;
-        shelf.fetch("ff_io_test_shelf.txt", 0, &mut into),
-        Err(Failed)
-    );
     Ok(())
 }
