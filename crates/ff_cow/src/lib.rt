@@ -14,3 +14,6 @@ mod level;
 
 pub use cell::{Cell, NoMemory};
 pub use cow_vec::{CowVec, MOST_CELLS, PushFail};
+
+#[cfg(test)]
+mod tests;
