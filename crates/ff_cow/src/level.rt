@@ -9,8 +9,8 @@ use std::sync::ledger::Ledger;
 /// How many cells a leaf has room for, and how many nodes a branch has room for.
 pub(crate) const WIDTH: usize = 16;
 
-/// A node that can be read. `capacity` is how many cells a full node of this level has; callers pass it down
-/// as `room`.
+/// A node that can be read. `capacity` is how many cells a full node of this level has; a caller passes it
+/// down as `room`.
 pub(crate) trait Level<V>: Sized {
     ghost capacity: { ℕ };
 
@@ -89,6 +89,7 @@ pub(crate) trait Writable<V>: Level<V> + Drop {
         ensures later { copies.old ≤ copies.new }
         ensures copies { copies.new + copied (Self.cells self.old) ≤ copies.old + 15 };
 
+    // what `set` and `push` may count together with a copy of the node before them
     ghost few: { (node : Self) → Self.is_valid node → copied (Self.cells node) ≤ 16 };
 
     ghost fewer: { (node : Self) → Self.is_valid node → length (Self.cells node) < Self.capacity → copied (Self.cells node) ≤ 15 };
