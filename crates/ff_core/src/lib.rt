@@ -8,3 +8,6 @@
 mod browser;
 
 pub use browser::{Browser, NoMemory, Pending};
+
+#[cfg(test)]
+mod tests;
