@@ -1,5 +1,5 @@
 -- A list to which nothing was appended.
-use Rattle.std.proofs.Common.{◌≡◌, List, [], ◌++◌, refl, sym, append-nil, ◌∙◌}
+use Rattle.std.proofs.Common.{◌≡◌, List, [], refl, sym, append-nil, ◌∙◌}
 use Rattle.ff_name.specs.Output.{AppendsFront}
 
 -- the empty front was appended

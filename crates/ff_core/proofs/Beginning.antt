@@ -1,5 +1,5 @@
 -- Taking an input leaves a browser that isn't quiet, and puts outputs of the kinds that are built.
-use Rattle.std.proofs.Common.{◌≡◌, Bool, true, false, cond, List, [], ◌∷◌, All, refl, ℕ}
+use Rattle.std.proofs.Common.{◌≡◌, Bool, true, false, cond, List, [], All, refl, ℕ}
 use Rattle.std.proofs.lemmas.List.Elements.{All-nil, All-cons}
 use Rattle.ff_reactive.specs.Turns.{Stepped}
 use Rattle.ff_name.specs.Spelling.{IsDomain}
@@ -13,7 +13,7 @@ use Rattle.ff_value.specs.declared.input.Input.{Input}
 use Rattle.ff_value.specs.declared.output.Out.{Out}
 use Rattle.ff_value.specs.declared.output.Out.TheVariants.{Opened}
 use Rattle.ff_core.specs.State.{State, has_window_room, have_room, next_window, with_window}
-use Rattle.ff_core.specs.Machine.{IsOpening, IsBuilt, IsOutput, send, visit, open_window, perform, begin}
+use Rattle.ff_core.specs.Machine.{IsOpening, IsBuilt, IsOutput, send, visit, perform, begin}
 
 -- the state isn't quiet, and the outputs are of the kinds that are built
 pub record IsBegun (step : Stepped Out State) : Type 0 where

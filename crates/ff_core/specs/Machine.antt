@@ -1,5 +1,5 @@
 -- One browser as a reactor: what it makes of an input, and what one of its turns is.
-use Rattle.std.specs.Prelude.{◌≡◌, ℕ, Bool, true, false, cond, List, [], ◌∷◌, ◌++◌, ⊤}
+use Rattle.std.specs.Prelude.{◌≡◌, ℕ, true, false, cond, List, [], ◌∷◌, ⊤}
 use Rattle.ff_reactive.specs.Turns.{Stepped, Reactor}
 use Rattle.ff_value.specs.declared.input.Act.{Act}
 use Rattle.ff_value.specs.declared.input.Act.TheVariants.{Opens}

@@ -1,5 +1,5 @@
 -- What clauses see of a browser, and the room that it has.
-use Rattle.std.specs.Prelude.{ℕ, Bool, true, false, ◌&&◌, nat_lt, List, [], ◌∷◌, ◌++◌, length, count_by, bytes_eq}
+use Rattle.std.specs.Prelude.{ℕ, Bool, true, ◌&&◌, nat_lt, List, [], ◌∷◌, ◌++◌, length, count_by, bytes_eq}
 use Rattle.ff_value.specs.declared.ids.WinId.{WinId}
 use Rattle.ff_core.specs.declared.browser.Pending.{Pending}
 
