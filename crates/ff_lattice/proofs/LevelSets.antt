@@ -142,3 +142,7 @@ count_below bits (suc k) =
 -- a set holds as many levels as bits are set
 pub ones-levels_of : (bits : ℕ) → bits < 2 ^ 16 → ones bits ≡ length (levels_of bits)
 ones-levels_of bits in_bits = ap ones (sym (mod-eq_of_lt in_bits)) ∙ count_below bits 16
+
+-- a test that nothing passes makes the empty set
+pub levels_where_none : (p : ℕ → Bool) → ((l : ℕ) → p l ≡ false) → levels_where p ≡ []
+levels_where_none p none = filter_none 16 p none

@@ -1,2 +1,9 @@
+pub mod Built
+pub mod Closure
+pub mod Faults
 pub mod LevelSets
+pub mod NameLemmas
+pub mod Orders
+pub mod Tables
 pub mod Two
+pub mod Words

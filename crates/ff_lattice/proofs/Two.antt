@@ -4,7 +4,8 @@ use Rattle.std.proofs.lemmas.Bool.{false≢true}
 use Rattle.std.proofs.lemmas.Bool.Decides.{nat_tests}
 use Rattle.ff_lattice.specs.Bounds.{HasJoin, HasMeet}
 use Rattle.ff_lattice.specs.LevelSet.{has, below, levels_where, IsLevelSet}
-use Rattle.ff_lattice.specs.Order.{Order, leq, name, two, AtOrBelow, is_level_name, IsOrder, IsKept}
+use Rattle.ff_lattice.specs.Order.{Order, leq, name, two, AtOrBelow, is_level_name, IsOrder}
+use Rattle.ff_lattice.specs.Rows.{IsKept}
 
 each_of_two : (P : ℕ → Type 0) → P 0 → P 1 → (l : ℕ) → l < 2 → P l
 each_of_two P first second zero h = first
@@ -114,8 +115,28 @@ two-turned (suc (suc a)) zero = none_past_low (suc (suc a)) (omega arith)
 two-turned (suc (suc a)) (suc zero) = none_past_high (suc (suc a)) (omega arith)
 two-turned (suc (suc a)) (suc (suc b)) = refl
 
+under-set : (l : ℕ) → IsLevelSet (get_or under_two l [])
+unfolding below
+under-set zero = refl
+under-set (suc zero) = refl
+under-set (suc (suc l)) = refl
+
+in_low : (b : ℕ) → has (0 ∷ []) b ≡ true → b < 2
+in_low b h = grind (arith, nat_tests)
+
+under-within : (a b : ℕ) → has (get_or under_two a []) b ≡ true → b < 2
+under-within zero b h = in_low b h
+under-within (suc zero) b h = in_both b h
+under-within (suc (suc a)) b h = absurd (false≢true h)
+
 two-is_kept : IsKept two under_two
-two-is_kept = record { valid = two-is_order; rows = refl; turned = two-turned }
+two-is_kept = record {
+  valid = two-is_order;
+  turned = record {
+    rows = record { few = omega arith; count = refl; set = under-set; within = under-within };
+    turned = λ a b. two-turned a b;
+  };
+}
 
 -- the same of fields that are equal to these
 pub kept_from_fields : (names above under : List (List ℕ)) → names ≡ (two).names → above ≡ (two).above → under ≡ under_two → IsKept (record { names = names; above = above }) under

@@ -1,4 +1,4 @@
--- Chains of a relation, bounds of two levels, and what a lattice is. A level is a number below n.
+-- Chains of a relation, bounds of two levels, what a lattice is, and the first place or pair that shows something.
 use Rattle.std.specs.Prelude.{◌≡◌, ℕ, ◌<◌}
 
 -- b is reached from a by steps of the relation, or by none
@@ -29,8 +29,42 @@ HasJoin R n a b = (c : ℕ) × IsJoin R n a b c
 abbrev pub HasMeet : (ℕ → ℕ → Type 0) → ℕ → ℕ → ℕ → Type 0
 HasMeet R n a b = HasJoin (Flip R) n a b
 
+-- no level is the join
+abbrev pub LacksJoin : (ℕ → ℕ → Type 0) → ℕ → ℕ → ℕ → Type 0
+LacksJoin R n a b = ¬ HasJoin R n a b
+
+-- no level is the meet
+abbrev pub LacksMeet : (ℕ → ℕ → Type 0) → ℕ → ℕ → ℕ → Type 0
+LacksMeet R n a b = LacksJoin (Flip R) n a b
+
+-- each is below the other
+abbrev pub AreCyclic : (ℕ → ℕ → Type 0) → ℕ → ℕ → Type 0
+AreCyclic R a b = R a b × R b a
+
 -- no two levels are each below the other, and every two have a join and a meet
 pub record IsLattice (R : ℕ → ℕ → Type 0) (n : ℕ) : Type 0 where
   pub antisymmetric : (a b : ℕ) → a < n → b < n → R a b → R b a → a ≡ b
   pub joins : (a b : ℕ) → a < n → b < n → HasJoin R n a b
   pub meets : (a b : ℕ) → a < n → b < n → HasMeet R n a b
+
+-- the least place below n that shows P
+pub record IsFirst (n : ℕ) (P : ℕ → Type 0) (place : ℕ) : Type 0 where
+  pub within : place < n
+  pub shows : P place
+  pub first : (k : ℕ) → k < place → ¬ P k
+
+-- no two levels, the lesser before the greater, show P
+abbrev pub NoPair : ℕ → (ℕ → ℕ → Type 0) → Type 0
+NoPair n P = (a b : ℕ) → a < b → b < n → ¬ P a b
+
+-- every two levels, the lesser before the greater, show P
+abbrev pub EachPair : ℕ → (ℕ → ℕ → Type 0) → Type 0
+EachPair n P = (a b : ℕ) → a < b → b < n → P a b
+
+-- the least pair that shows P: the least a that has a b after it, and for it the least b
+pub record IsLeastPair (n : ℕ) (P : ℕ → ℕ → Type 0) (a b : ℕ) : Type 0 where
+  pub ordered : a < b
+  pub within : b < n
+  pub shows : P a b
+  pub least_first : (c d : ℕ) → c < a → c < d → d < n → ¬ P c d
+  pub least_second : (d : ℕ) → a < d → d < b → ¬ P a d

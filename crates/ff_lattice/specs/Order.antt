@@ -1,10 +1,10 @@
 -- The order of the levels as a value: their names, and for each level the set of those at or above it.
-use Rattle.std.specs.Prelude.{◌≡◌, ℕ, ◌<◌, ◌≤◌, Bool, true, false, ◌&&◌, List, [], ◌∷◌, length, get_or, nat_le, codes}
+use Rattle.std.specs.Prelude.{◌≡◌, ℕ, ◌<◌, ◌≤◌, zero, suc, Bool, true, false, not, ◌&&◌, ◌||◌, List, [], ◌∷◌, length, get_or, nat_le, codes, if◌then◌else◌}
 use Rattle.std.specs.List.{list_all}
 use Rattle.std.specs.Char.{is_ascii_alphabetic}
 use Rattle.ff_name.specs.Spelling.{stands_in_name}
 use Rattle.ff_lattice.specs.Bounds.{IsLattice}
-use Rattle.ff_lattice.specs.LevelSet.{has, IsLevelSet}
+use Rattle.ff_lattice.specs.LevelSet.{has, below, IsLevelSet}
 
 pub record Order : Type 0 where
   pub names : List (List ℕ)
@@ -30,6 +30,31 @@ two = record { names = codes "L" ∷ codes "H" ∷ []; above = (0 ∷ 1 ∷ []) 
 abbrev pub AtOrBelow : Order → ℕ → ℕ → Type 0
 AtOrBelow order a b = leq order a b ≡ true
 
+-- the one level below n that passes a test
+unfoldable pub pick : (ℕ → Bool) → ℕ → ℕ
+pick passes zero = 0
+pick passes (suc n) = if passes n then n else pick passes n
+
+-- whether c is the least level above a and b, in an order of n levels
+abbrev pub is_least_above : (ℕ → ℕ → Bool) → ℕ → ℕ → ℕ → ℕ → Bool
+is_least_above at_or_below n a b c = at_or_below a c && at_or_below b c && list_all (λ d. not (at_or_below a d && at_or_below b d) || at_or_below c d) (below n)
+
+-- the least level that a and b are both at or below
+unfoldable pub join : Order → ℕ → ℕ → ℕ
+join order a b = pick (is_least_above (leq order) (size order) a b) (size order)
+
+-- the greatest level that is at or below both a and b
+unfoldable pub meet : Order → ℕ → ℕ → ℕ
+meet order a b = pick (is_least_above (λ x y. leq order y x) (size order) a b) (size order)
+
+-- the level at or below each
+unfoldable pub bottom : Order → ℕ
+bottom order = pick (λ l. list_all (leq order l) (below (size order))) (size order)
+
+-- the level at or above each
+unfoldable pub top : Order → ℕ
+top order = pick (λ l. list_all (λ m. leq order m l) (below (size order))) (size order)
+
 -- a level's name: a letter, and then at most 31 letters, digits, `_` and `-`
 abbrev pub is_level_name : List ℕ → Bool
 is_level_name [] = false
@@ -47,9 +72,3 @@ pub record IsOrder (order : Order) : Type 0 where
   pub reflexive : (a : ℕ) → a < size order → AtOrBelow order a a
   pub transitive : (a b c : ℕ) → AtOrBelow order a b → AtOrBelow order b c → AtOrBelow order a c
   pub lattice : IsLattice (AtOrBelow order) (size order)
-
--- an order, and for each level the set of those at or below it
-pub record IsKept (order : Order) (under : List (List ℕ)) : Type 0 where
-  pub valid : IsOrder order
-  pub rows : length under ≡ size order
-  pub turned : (a b : ℕ) → has (get_or under b []) a ≡ leq order a b

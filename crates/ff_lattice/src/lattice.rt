@@ -1,7 +1,13 @@
-ghost use Rattle.std.specs.Prelude.{◌≡◌, ◌≢◌, ℕ, ◌<◌, ◌≤◌, IfOk, IfSome, IfNone, List, [], ◌∷◌, codes};
-ghost use Rattle.ff_lattice.specs.Order.{Order, size, leq, name, two, IsOrder};
+ghost use Rattle.std.specs.Prelude.{◌≡◌, ◌≢◌, ℕ, ◌<◌, ◌≤◌, ◌⊎◌, length, IfOk, IfErr, IsErrOf, IfSome, IfNone, List, [], ◌∷◌, codes};
+ghost use Rattle.ff_lattice.specs.Bounds.{IsLattice, IsJoin, IsMeet};
+ghost use Rattle.ff_lattice.specs.LevelSet.{levels_where};
+ghost use Rattle.ff_lattice.specs.Levels.{AreApart, AreLevels, Reaches, IsFault, IsLatticeOf};
+ghost use Rattle.ff_lattice.specs.Order.{Order, size, leq, name, join, meet, bottom, top, two, AtOrBelow, IsOrder};
 
-use crate::{LevelSet, NoMemory};
+use crate::bounds::{check_order, join_in};
+use crate::names::{check_names, distinct_names};
+use crate::rows::{close, given_rows, turned};
+use crate::{LatticeFault, LevelSet, NoMemory, Pair};
 use ff_name::{Level, Text};
 use indexmap::IndexSet;
 use std::alloc::Global;
@@ -16,7 +22,8 @@ pub struct Lattice {
 }
 
 impl Model for Lattice {
-    ghost use Rattle.ff_lattice.specs.Order.{Order, IsKept};
+    ghost use Rattle.ff_lattice.specs.Order.{Order};
+    ghost use Rattle.ff_lattice.specs.Rows.{IsKept};
 
     ghost Value = { Order };
 
@@ -41,6 +48,39 @@ impl Lattice {
         })
     }
 
+    /// The lattice of these levels, in which the low level of each pair is at or below the high one: the least such order
+    /// that is reflexive and transitive. Its refusals, in their order: there are no names; more than 16; a name that isn't a
+    /// letter followed by at most 31 letters, digits, `_` or `-`; a name that stands before; a pair of a name that is no
+    /// level; two levels that are each at or below the other; two with no join; two with no meet. Want of memory may come in
+    /// place of any of these.
+    pub fn build(alloc: Global, names: &[Text], below: &[Pair]) -> Result<Lattice, LatticeFault>
+        ensures ok { IfOk result (IsLatticeOf names.now below.now) }
+        ensures fault { IfErr result (λ fault. fault ≢ LatticeFault.NoMemory → IsFault names.now below.now fault) }
+        ensures accepts { AreLevels names.now below.now → IsLattice (Reaches names.now below.now) (length names.now) → IfErr result (λ fault. fault ≡ LatticeFault.NoMemory) }
+        ensures only { (fault : LatticeFault) → IsFault names.now below.now fault → IsErrOf result fault ⊎ IsErrOf result LatticeFault.NoMemory }
+    {
+        check_names(names)?;
+        let levels = distinct_names(alloc, names)?;
+        Lattice::of_levels(alloc, levels, below)
+    }
+
+    /// The lattice of levels with names of their own.
+    fn of_levels(
+        alloc: Global,
+        names: IndexSet<Text>,
+        below: &[Pair],
+    ) -> Result<Lattice, LatticeFault>
+        requires { AreApart names.keys }
+        ensures ok { IfOk result (IsLatticeOf names.keys below.now) }
+        ensures fault { IfErr result (λ fault. fault ≢ LatticeFault.NoMemory → IsFault names.keys below.now fault) }
+    {
+        let mut up = given_rows(alloc, &names, below)?;
+        close(&mut up);
+        let down = turned(alloc, &up)?;
+        check_order(&names, &up, &down)?;
+        Ok(Lattice { names, up, down })
+    }
+
     /// How many levels there are: 1 to 16.
     pub fn size(&self) -> u8
         ensures value { result ≡ size self.now }
@@ -56,6 +96,66 @@ impl Lattice {
         ensures { result ≡ leq self.now a.0 b.0 }
     {
         self.up[a.0 as usize].has(b)
+    }
+
+    /// The least level that both `a` and `b` are at or below.
+    pub fn join(&self, a: Level, b: Level) -> Level
+        requires first { a.0 < size self.now }
+        requires second { b.0 < size self.now }
+        ensures value { result.0 ≡ join self.now a.0 b.0 }
+        ensures bound { IsJoin (AtOrBelow self.now) (size self.now) a.0 b.0 result.0 }
+    {
+        match join_in(&self.up, a, b) {
+            Some(level) => level,
+            None => unreachable!(),
+        }
+    }
+
+    /// The greatest level that is at or below both `a` and `b`.
+    pub fn meet(&self, a: Level, b: Level) -> Level
+        requires first { a.0 < size self.now }
+        requires second { b.0 < size self.now }
+        ensures value { result.0 ≡ meet self.now a.0 b.0 }
+        ensures bound { IsMeet (AtOrBelow self.now) (size self.now) a.0 b.0 result.0 }
+    {
+        match join_in(&self.down, a, b) {
+            Some(level) => level,
+            None => unreachable!(),
+        }
+    }
+
+    /// The level that is at or below each.
+    pub fn bottom(&self) -> Level
+        ensures value { result.0 ≡ bottom self.now }
+        ensures within { result.0 < size self.now }
+        ensures least { (l : ℕ) → l < size self.now → AtOrBelow self.now result.0 l }
+    {
+        let mut least = Level(0);
+        for number in 1..self.size() {
+            least = self.meet(least, Level(number));
+        }
+        least
+    }
+
+    /// The level that is at or above each.
+    pub fn top(&self) -> Level
+        ensures value { result.0 ≡ top self.now }
+        ensures within { result.0 < size self.now }
+        ensures greatest { (l : ℕ) → l < size self.now → AtOrBelow self.now l result.0 }
+    {
+        let mut greatest = Level(0);
+        for number in 1..self.size() {
+            greatest = self.join(greatest, Level(number));
+        }
+        greatest
+    }
+
+    /// The levels that are at or above `l`.
+    pub fn up(&self, l: Level) -> LevelSet
+        requires { l.0 < size self.now }
+        ensures { result ≡ levels_where (leq self.now l.0) }
+    {
+        self.up[l.0 as usize]
     }
 
     /// The name of the level `l`.

@@ -1,0 +1,40 @@
+use Rattle.std.proofs.Common.{◌≡◌, ◌++◌, ℕ, List, sym, ◌∙◌, subst, length, take, drop}
+use Rattle.std.proofs.lemmas.List.{take_at}
+use Rattle.std.proofs.lemmas.Result.{err_from_is_err_and}
+use Rattle.ff_lattice.specs.Bounds.{IsLattice}
+use Rattle.ff_lattice.specs.Levels.{IsOrderFault, IsLatticeOf}
+use Rattle.ff_lattice.specs.Rows.{Related, Closes, AreTurned, IsKept}
+use Rattle.ff_lattice.proofs.Built.{fault_from_order, kept_is, lattice_is}
+use Rattle.ff_lattice.proofs.lattice.Lattice.of_levels.Goals as goal
+
+pub returns-in_err-check_order-clause-fault : goal.returns-in_err-check_order-clause-fault
+returns-in_err-check_order-clause-fault c =
+    let closes : Closes c.in_ok-up.up.items c.close.new.rows = subst (λ (old : List (List ℕ)). Closes old c.close.new.rows) c.deref_mut.ensures.value c.close.ensures in
+    let after : take c.in_ok-up.up.len (c.close.new.rows ++ drop (length c.close.new.rows) c.in_ok-up.up.items) ≡ c.close.new.rows =
+    take_at c.close.new.rows (drop (length c.close.new.rows) c.in_ok-up.up.items) c.in_ok-up.up.len (closes.rows.count ∙ sym c.in_ok-up.up.ok.0) in
+    let p = err_from_is_err_and c.from_residual-in_err-check_order.result c.from_residual-in_err-check_order.ensures.1 in
+    rw (p.1, p.2) (λ named.
+    fault_from_order c.args.names.keys c.args.below.now c.in_ok-up.up.items c.close.new.rows c.requires c.in_ok-up.ensures.ok closes c.in_err-check_order.field-0.0
+    (subst (λ (up : List (List ℕ)). IsOrderFault c.args.names.keys (Related up) c.in_err-check_order.field-0.0) (c.deref-2.ensures.value ∙ after) (c.in_err-check_order.ensures.fault named)))
+
+pub invariant_of-result : goal.invariant_of-result
+invariant_of-result c =
+    let closes : Closes c.in_ok-up.up.items c.close.new.rows = subst (λ (old : List (List ℕ)). Closes old c.close.new.rows) c.deref_mut.ensures.value c.close.ensures in
+    let after : take c.in_ok-up.up.len (c.close.new.rows ++ drop (length c.close.new.rows) c.in_ok-up.up.items) ≡ c.close.new.rows =
+    take_at c.close.new.rows (drop (length c.close.new.rows) c.in_ok-up.up.items) c.in_ok-up.up.len (closes.rows.count ∙ sym c.in_ok-up.up.ok.0) in
+    let lattice : IsLattice (Related c.close.new.rows) (length c.args.names.keys) =
+    subst (λ (up : List (List ℕ)). IsLattice (Related up) (length c.args.names.keys)) (c.deref-2.ensures.value ∙ after) c.in_ok-check_order.ensures.ok in
+    let turned : AreTurned c.close.new.rows c.in_ok-down.down.items =
+    subst (λ (up : List (List ℕ)). AreTurned up c.in_ok-down.down.items) (c.deref.ensures.value ∙ after) c.in_ok-down.ensures in
+    subst (λ (up : List (List ℕ)). IsKept (record { names = c.args.names.keys; above = up }) c.in_ok-down.down.items) (sym after)
+    (kept_is c.args.names.keys c.args.below.now c.in_ok-up.up.items c.close.new.rows c.requires c.in_ok-up.ensures.ok closes lattice c.in_ok-down.down.items turned)
+
+pub returns-clause-ok : goal.returns-clause-ok
+returns-clause-ok c =
+    let closes : Closes c.in_ok-up.up.items c.close.new.rows = subst (λ (old : List (List ℕ)). Closes old c.close.new.rows) c.deref_mut.ensures.value c.close.ensures in
+    let after : take c.in_ok-up.up.len (c.close.new.rows ++ drop (length c.close.new.rows) c.in_ok-up.up.items) ≡ c.close.new.rows =
+    take_at c.close.new.rows (drop (length c.close.new.rows) c.in_ok-up.up.items) c.in_ok-up.up.len (closes.rows.count ∙ sym c.in_ok-up.up.ok.0) in
+    let lattice : IsLattice (Related c.close.new.rows) (length c.args.names.keys) =
+    subst (λ (up : List (List ℕ)). IsLattice (Related up) (length c.args.names.keys)) (c.deref-2.ensures.value ∙ after) c.in_ok-check_order.ensures.ok in
+    subst (λ (up : List (List ℕ)). IsLatticeOf c.args.names.keys c.args.below.now (record { names = c.args.names.keys; above = up })) (sym after)
+    (lattice_is c.args.names.keys c.args.below.now c.in_ok-up.up.items c.close.new.rows c.requires c.in_ok-up.ensures.ok closes lattice)

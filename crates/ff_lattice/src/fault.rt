@@ -1,0 +1,54 @@
+ghost use Rattle.ff_lattice.specs.declared.fault.LatticeFault.TheVariants.{NoMemory};
+ghost use Rattle.std.specs.Prelude.{◌≡◌};
+
+use ff_name::Text;
+use std::alloc::{AllocError, AllocFailed};
+use thiserror::Error;
+
+/// Why names and pairs are no lattice, in the order in which the faults come.
+#[derive(Debug, PartialEq, Eq, Drop, Error)]
+pub enum LatticeFault {
+    /// There are no names.
+    #[error("there are no levels")]
+    NoLevels,
+    /// There are more than 16 names.
+    #[error("there are more than 16 levels")]
+    TooMany,
+    /// The first place, from 0, whose name isn't a letter followed by at most 31 letters, digits, `_` or `-`.
+    #[error("the name at place {0} isn't that of a level")]
+    BadName(u32),
+    /// The first name that stands before, too.
+    #[error("a level is named twice")]
+    Repeated(Text),
+    /// The first name in the pairs that is no level, the low one of a pair before the high one.
+    #[error("a pair names no level")]
+    Unknown(Text),
+    /// The least two levels that are each at or below the other.
+    #[error("two levels are each below the other")]
+    Cycle(Text, Text),
+    /// The least two levels with no least upper bound.
+    #[error("two levels have no join")]
+    NoJoin(Text, Text),
+    /// The least two levels with no greatest lower bound.
+    #[error("two levels have no meet")]
+    NoMeet(Text, Text),
+    /// There was no memory.
+    #[error("out of memory")]
+    NoMemory,
+}
+
+impl From<AllocError> for LatticeFault {
+    ghost from_gives = { λ _ fault. fault ≡ NoMemory };
+
+    fn from(_refused: AllocError) -> LatticeFault {
+        LatticeFault::NoMemory
+    }
+}
+
+impl<T: Drop> From<AllocFailed<T>> for LatticeFault {
+    ghost from_gives = { λ _ fault. fault ≡ NoMemory };
+
+    fn from(_refused: AllocFailed<T>) -> LatticeFault {
+        LatticeFault::NoMemory
+    }
+}

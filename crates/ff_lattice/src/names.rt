@@ -1,0 +1,87 @@
+ghost use Rattle.std.specs.Prelude.{◌≡◌, ◌≢◌, ℕ, ◌<◌, ◌&&◌, List, OnOk, IfOk, IfErr, length};
+ghost use Rattle.std.specs.List.{list_all};
+ghost use Rattle.ff_lattice.specs.Levels.{AreNamed, AreApart, IsFault, IsLevel, nth};
+ghost use Rattle.ff_lattice.specs.Order.{is_level_name};
+ghost use Rattle.ff_lattice.specs.declared.pair.Pair.{Pair};
+ghost use Rattle.ff_name.specs.Spelling.{stands_in_name};
+
+use crate::LatticeFault;
+use ff_name::{Level, Text};
+use indexmap::IndexSet;
+use std::alloc::Global;
+
+/// The most levels that a lattice has.
+const MOST_LEVELS: usize = 16;
+
+/// Whether a byte may stand after the first letter of a level's name.
+fn stands_in_level_name(byte: u8) -> bool
+    ensures { result ≡ stands_in_name byte }
+{
+    byte.is_ascii_alphanumeric() || byte == b'_' || byte == b'-'
+}
+
+/// Whether each byte may stand after the first letter of a level's name.
+fn all_stand_in_level_name(bytes: &[u8]) -> bool
+    ensures { result ≡ list_all stands_in_name bytes.now }
+{
+    bytes.iter().all(|byte| stands_in_level_name(*byte))
+}
+
+/// Whether the bytes are a letter followed by at most 31 letters, digits, `_` or `-`.
+fn is_level_name(bytes: &[u8]) -> bool
+    ensures { result ≡ is_level_name bytes.now }
+{
+    match bytes.split_first() {
+        None => false,
+        Some((first, rest)) => {
+            first.is_ascii_alphabetic() && all_stand_in_level_name(rest) && rest.len() <= 31
+        }
+    }
+}
+
+/// Tests how many names there are and how each is spelled.
+pub(crate) fn check_names(names: &[Text]) -> Result<(), LatticeFault>
+    ensures ok { OnOk result (AreNamed names.now) }
+    ensures fault { IfErr result (λ fault. (below : List Pair) → IsFault names.now below fault) }
+{
+    if names.is_empty() {
+        return Err(LatticeFault::NoLevels);
+    }
+    if names.len() > MOST_LEVELS {
+        return Err(LatticeFault::TooMany);
+    }
+    for (place, name) in names.iter().enumerate() {
+        if !is_level_name(name.as_bytes()) {
+            return Err(LatticeFault::BadName(place as u32));
+        }
+    }
+    Ok(())
+}
+
+/// The names as a set in their order, where no name is repeated.
+pub(crate) fn distinct_names(alloc: Global, names: &[Text]) -> Result<IndexSet<Text>, LatticeFault>
+    requires { AreNamed names.now }
+    ensures ok { IfOk result (λ levels. (levels.keys ≡ names.now) × AreApart names.now) }
+    ensures fault { IfErr result (λ fault. fault ≢ LatticeFault.NoMemory → (below : List Pair) → IsFault names.now below fault) }
+{
+    let mut levels = IndexSet::new(alloc);
+    for name in names {
+        let (_, is_new) = levels.insert_full(name.copy()?)?;
+        if !is_new {
+            return Err(LatticeFault::Repeated(name.copy()?));
+        }
+    }
+    Ok(levels)
+}
+
+/// The level of this name.
+pub(crate) fn level_named(levels: &IndexSet<Text>, name: &Text) -> Result<Level, LatticeFault>
+    requires { length levels.now.keys < 256 }
+    ensures ok { IfOk result (λ l. (l.0 < length levels.now.keys) × (nth levels.now.keys l.0 ≡ name.now)) }
+    ensures fault { IfErr result (λ fault. fault ≢ LatticeFault.NoMemory → (fault ≡ LatticeFault.Unknown name.now) × (¬ IsLevel levels.now.keys name.now)) }
+{
+    match levels.get_index_of(name) {
+        Some(place) => Ok(Level(place as u8)),
+        None => Err(LatticeFault::Unknown(name.copy()?)),
+    }
+}

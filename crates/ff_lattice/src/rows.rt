@@ -1,0 +1,104 @@
+//! Tables of a relation on levels: for each level the set of levels that it is related to.
+ghost use Rattle.std.specs.Prelude.{◌≡◌, ◌≢◌, ℕ, ◌<◌, ◌≤◌, ◌&&◌, ◌||◌, IfOk, IfErr, length, List, [], get_or};
+ghost use Rattle.ff_lattice.specs.LevelSet.{levels_where};
+ghost use Rattle.ff_lattice.specs.Levels.{AreApart, IsFault};
+ghost use Rattle.ff_lattice.specs.Rows.{related, AreRows, HoldPairs, Closes, AreTurned, Passes, Relates, IsEqual};
+
+use crate::names::level_named;
+use crate::{LatticeFault, LevelSet, NoMemory, Pair};
+use ff_name::{Level, Text};
+use indexmap::IndexSet;
+use std::alloc::Global;
+
+/// The table that relates each level below `size` to itself.
+fn equal_rows(alloc: Global, size: u8) -> Result<Vec<LevelSet>, NoMemory>
+    requires { size ≤ 16 }
+    ensures { IfOk result (λ rows. IsEqual size rows.items) }
+{
+    let mut rows = Vec::new(alloc);
+    for number in 0..size {
+        rows.push(LevelSet::empty().with(Level(number)))?;
+    }
+    Ok(rows)
+}
+
+/// Relates the level `low` to the level `high`, too.
+fn relate(rows: &mut [LevelSet], low: Level, high: Level)
+    requires rows { AreRows (length rows.old) rows.old }
+    requires low { low.0 < length rows.old }
+    requires high { high.0 < length rows.old }
+    ensures { Relates rows.old rows.new low.0 high.0 }
+{
+    let row = &mut rows[low.0 as usize];
+    *row = row.with(high);
+}
+
+/// The table that relates each level to itself and the levels of each pair.
+pub(crate) fn given_rows(
+    alloc: Global,
+    levels: &IndexSet<Text>,
+    below: &[Pair],
+) -> Result<Vec<LevelSet>, LatticeFault>
+    requires { AreApart levels.now.keys }
+    ensures ok { IfOk result (λ rows. HoldPairs (length below.now) levels.now.keys below.now rows.items) }
+    ensures fault { IfErr result (λ fault. fault ≢ LatticeFault.NoMemory → IsFault levels.now.keys below.now fault) }
+{
+    let mut rows = equal_rows(alloc, levels.len() as u8)?;
+    for pair in below {
+        let low = level_named(levels, &pair.low)?;
+        let high = level_named(levels, &pair.high)?;
+        relate(&mut rows, low, high);
+    }
+    Ok(rows)
+}
+
+/// Relates each level that is related to `middle` to all that `middle` is related to.
+fn pass(rows: &mut [LevelSet], middle: Level)
+    requires rows { AreRows (length rows.old) rows.old }
+    requires middle { middle.0 < length rows.old }
+    ensures { Passes rows.old rows.new middle.0 }
+{
+    let reached = rows[middle.0 as usize];
+    for row in rows.iter_mut() {
+        if row.has(middle) {
+            *row = row.either(reached);
+        }
+    }
+}
+
+/// Relates the levels that chains of the relation join.
+pub(crate) fn close(rows: &mut [LevelSet])
+    requires { AreRows (length rows.old) rows.old }
+    ensures { Closes rows.old rows.new }
+{
+    for number in 0..rows.len() as u8 {
+        pass(rows, Level(number));
+    }
+}
+
+/// The levels that are related to `high`.
+fn related_to(rows: &[LevelSet], high: Level) -> LevelSet
+    requires rows { AreRows (length rows.now) rows.now }
+    requires high { high.0 < 16 }
+    ensures { result ≡ levels_where (λ l. related rows.now l high.0) }
+{
+    let mut levels = LevelSet::empty();
+    for (number, row) in rows.iter().enumerate() {
+        if row.has(high) {
+            levels = levels.with(Level(number as u8));
+        }
+    }
+    levels
+}
+
+/// The table of the same relation from its other side.
+pub(crate) fn turned(alloc: Global, rows: &[LevelSet]) -> Result<Vec<LevelSet>, NoMemory>
+    requires { AreRows (length rows.now) rows.now }
+    ensures { IfOk result (λ down. AreTurned rows.now down.items) }
+{
+    let mut down = Vec::new(alloc);
+    for number in 0..rows.len() as u8 {
+        down.push(related_to(rows, Level(number)))?;
+    }
+    Ok(down)
+}
