@@ -1,16 +1,16 @@
 -- A closed table of the pairs is the order of the chains.
-use Rattle.std.proofs.Common.{◌≡◌, ℕ, ◌+◌, ◌<◌, ◌≤◌, ◌⊎◌, ◌↔◌, inl, inr, Bool, true, List, [], refl, sym, ◌∙◌, ap, subst, arith, length}
+use Rattle.std.proofs.Common.{◌≡◌, ℕ, ◌<◌, inl, inr, List, refl, sym, ◌∙◌, subst, arith, length}
 use Rattle.ff_lattice.specs.declared.pair.Pair.{Pair}
 use Rattle.ff_lattice.specs.declared.fault.LatticeFault.{LatticeFault}
 use Rattle.ff_lattice.specs.declared.fault.LatticeFault.TheVariants.{NoLevels, TooMany, BadName, Repeated, Unknown, Cycle, NoJoin, NoMeet, NoMemory}
 use Rattle.ff_lattice.specs.Bounds.{Chain, IsLattice}
 use Rattle.ff_lattice.specs.Bounds.Chain.{here, step}
-use Rattle.ff_lattice.specs.Levels.{nth, pair_at, IsLevel, IsKnown, IsAmongFirst, IsGiven, AreApart, AreLevels, Reaches, IsOrderFault, IsFault, IsLatticeOf}
-use Rattle.ff_lattice.specs.Order.{Order, IsOrder}
+use Rattle.ff_lattice.specs.Levels.{nth, pair_at, IsLevel, IsGiven, AreApart, AreLevels, Reaches, IsOrderFault, IsFault, IsLatticeOf}
+use Rattle.ff_lattice.specs.Order.{IsOrder}
 use Rattle.ff_lattice.specs.Rows.{Related, AreRows, AreOrdered, HoldPairs, Closes, AreTurned, IsKept}
 use Rattle.ff_lattice.proofs.Closure.{chain_append}
 use Rattle.ff_lattice.proofs.NameLemmas.{level_is}
-use Rattle.ff_lattice.proofs.Orders.{Agree, Agree-sym, IsLattice-agree, IsOrderFault-agree}
+use Rattle.ff_lattice.proofs.Orders.{Agree, IsLattice-agree, IsOrderFault-agree}
 
 module _ (names : List (List ℕ)) (below : List Pair) (old up : List (List ℕ)) (apart : AreApart names) (pairs : HoldPairs (length below) names below old) (closes : Closes old up) where
   long : length old ≡ length names

@@ -1,9 +1,9 @@
 -- Passes through every level close a relation.
-use Rattle.std.proofs.Common.{◌≡◌, ℕ, ◌+◌, ◌<◌, ◌≤◌, ◌⊎◌, inl, inr, Bool, true, List, refl, sym, ◌∙◌, ap, subst, arith, length}
+use Rattle.std.proofs.Common.{ℕ, ◌+◌, ◌<◌, ◌≤◌, inl, inr, List, subst, arith, length}
 use Rattle.std.proofs.lemmas.Bool.{cases_eq}
 use Rattle.ff_lattice.specs.Bounds.{Chain}
 use Rattle.ff_lattice.specs.Bounds.Chain.{here, step}
-use Rattle.ff_lattice.specs.Rows.{related, Related, AreRows, Passes, Closes}
+use Rattle.ff_lattice.specs.Rows.{Related, AreRows, Passes, Closes}
 
 -- two chains make one
 pub chain_append : {X : Type 0} (R : X → X → Type 0) (a b c : X) → Chain R a b → Chain R b c → Chain R a c

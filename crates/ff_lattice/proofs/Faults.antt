@@ -1,11 +1,11 @@
 -- At most one fault is the first, and a lattice has none.
-use Rattle.std.proofs.Common.{◌≡◌, ◌≢◌, ℕ, ◌+◌, ◌<◌, ◌≤◌, ◌⊎◌, inl, inr, zero, suc, Bool, true, false, List, [], refl, sym, ◌∙◌, ap, subst, arith, length, Result, Ok, Err, IfOk, IfErr, IsErrOf}
+use Rattle.std.proofs.Common.{◌≡◌, ◌≢◌, ℕ, ◌<◌, ◌≤◌, ◌⊎◌, inl, inr, zero, suc, List, [], refl, sym, ◌∙◌, ap, subst, arith, length, Result, Ok, Err, IfOk, IfErr, IsErrOf}
 use Rattle.std.proofs.lemmas.Bool.{cases_eq, cases_order, true≢false}
 use Rattle.ff_lattice.specs.declared.pair.Pair.{Pair}
 use Rattle.ff_lattice.specs.declared.fault.LatticeFault.{LatticeFault}
 use Rattle.ff_lattice.specs.declared.fault.LatticeFault.TheVariants.{NoLevels, TooMany, BadName, Repeated, Unknown, Cycle, NoJoin, NoMeet, NoMemory}
-use Rattle.ff_lattice.specs.Bounds.{Flip, HasJoin, HasMeet, LacksJoin, LacksMeet, AreCyclic, IsLattice, IsFirst, NoPair, EachPair, IsLeastPair}
-use Rattle.ff_lattice.specs.Levels.{nth, pair_at, IsRepeat, IsLevel, IsKnown, AreSized, AreNamed, AreApart, AreLevels, IsFirstRepeat, IsUnknownOf, IsFirstUnknown, AreLeastNames, Reaches, IsOrderFault, IsFault, IsLatticeOf}
+use Rattle.ff_lattice.specs.Bounds.{HasJoin, HasMeet, LacksJoin, LacksMeet, AreCyclic, IsLattice, IsFirst, NoPair, EachPair, IsLeastPair}
+use Rattle.ff_lattice.specs.Levels.{nth, pair_at, IsRepeat, IsKnown, AreSized, AreNamed, AreApart, AreLevels, IsFirstRepeat, IsUnknownOf, IsFirstUnknown, AreLeastNames, Reaches, IsFault, IsLatticeOf}
 use Rattle.ff_lattice.specs.Order.{Order}
 
 -- ---- what comes first is one

@@ -1,4 +1,5 @@
 pub mod Built
+pub mod Callers
 pub mod Closure
 pub mod Faults
 pub mod LevelSets

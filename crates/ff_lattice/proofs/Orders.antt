@@ -1,14 +1,14 @@
 -- Lemmas on bounds, least pairs and lattices.
-use Rattle.std.proofs.Common.{◌≡◌, ◌≢◌, ℕ, ◌+◌, ◌<◌, ◌≤◌, ◌⊎◌, ◌↔◌, inl, inr, Bool, true, false, ◌&&◌, List, [], refl, sym, ◌∙◌, ap, subst, arith, length, get_or, Option, Some, None, IfSome, is_some}
+use Rattle.std.proofs.Common.{◌≡◌, ◌≢◌, ℕ, ◌+◌, ◌<◌, ◌≤◌, ◌↔◌, inl, inr, Bool, true, ◌&&◌, List, [], sym, ◌∙◌, ap, subst, arith, length, get_or, Option, Some, None, IfSome, is_some}
 use Rattle.std.proofs.lemmas.Bool.{cases_eq, cases_order, and_parts, and_from, false≢true}
 use Rattle.ff_name.specs.declared.levels.Level.{Level}
 use Rattle.ff_lattice.specs.declared.fault.LatticeFault.{LatticeFault}
 use Rattle.ff_lattice.specs.declared.fault.LatticeFault.TheVariants.{NoLevels, TooMany, BadName, Repeated, Unknown, Cycle, NoJoin, NoMeet, NoMemory}
-use Rattle.ff_lattice.specs.Bounds.{Flip, IsJoin, IsMeet, HasJoin, HasMeet, LacksJoin, LacksMeet, AreCyclic, IsLattice, NoPair, EachPair, IsLeastPair}
-use Rattle.ff_lattice.specs.LevelSet.{has, levels_where, IsLevelSet}
-use Rattle.ff_lattice.specs.Levels.{nth, AreLeastNames, IsOrderFault}
-use Rattle.ff_lattice.specs.Rows.{related, Related, AreRows, AreOrdered, AreTurned}
-use Rattle.ff_lattice.proofs.LevelSets.{same_levels, IsLevelSet-levels_where, has_in_range}
+use Rattle.ff_lattice.specs.Bounds.{Flip, IsJoin, HasJoin, LacksJoin, LacksMeet, AreCyclic, IsLattice, NoPair, EachPair, IsLeastPair}
+use Rattle.ff_lattice.specs.LevelSet.{has, levels_where}
+use Rattle.ff_lattice.specs.Levels.{AreLeastNames, IsOrderFault}
+use Rattle.ff_lattice.specs.Rows.{Related, AreRows, AreOrdered, AreTurned}
+use Rattle.ff_lattice.proofs.LevelSets.{same_levels, IsLevelSet-levels_where}
 use Rattle.ff_lattice.proofs.Tables.{made_holds, made_passes, same_tests}
 
 -- ---- the row of a join

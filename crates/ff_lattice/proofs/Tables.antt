@@ -1,8 +1,8 @@
 -- Lemmas on tables of a relation: a row for each level.
-use Rattle.std.proofs.Common.{◌≡◌, ◌≢◌, ℕ, ◌+◌, ◌<◌, ◌≤◌, ◌⊎◌, inl, inr, zero, suc, Bool, true, false, ◌&&◌, ◌||◌, eqb, ltb, List, [], ◌∷◌, ◌++◌, refl, sym, ◌∙◌, ap, subst, arith, cond, length, get_or, set}
-use Rattle.std.proofs.lemmas.Bool.{cases_eq, cases_lt, cond_both, or_cases, or_left, or_right, and_parts, and_from, lt-ltb, ltb-true, le-ltb, eq-eqb, eqb-true, false≢true}
+use Rattle.std.proofs.Common.{◌≡◌, ℕ, ◌+◌, ◌<◌, ◌≤◌, ◌⊎◌, inl, inr, Bool, true, false, ◌&&◌, ◌||◌, eqb, ltb, List, [], ◌∷◌, ◌++◌, refl, sym, ◌∙◌, ap, subst, arith, cond, length, get_or, set}
+use Rattle.std.proofs.lemmas.Bool.{cases_eq, cases_lt, cond_both, or_cases, or_left, or_right, and_parts, lt-ltb, ltb-true, eq-eqb, eqb-true, false≢true}
 use Rattle.std.proofs.lemmas.Bool.Decides.{nat_tests}
-use Rattle.std.proofs.lemmas.List.{get_or-set_same, get_or-set_other, length-set, get_or_default, get_or_past, get_or_push, get_or_append_left, length_push}
+use Rattle.std.proofs.lemmas.List.{get_or-set_same, get_or-set_other, length-set, get_or_default, get_or_past, get_or_push, get_or_append_left}
 use Rattle.ff_lattice.specs.LevelSet.{has, levels_where, IsLevelSet}
 use Rattle.ff_lattice.specs.LevelBits.{has-levels_where}
 use Rattle.ff_lattice.specs.Rows.{related, Related, AreRows, IsEqual, Relates, Passes, AreTurned}

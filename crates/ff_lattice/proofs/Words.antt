@@ -1,8 +1,8 @@
 -- The words for bounds give the levels that the relations name.
-use Rattle.std.proofs.Common.{◌≡◌, ◌≢◌, ℕ, ◌+◌, ◌<◌, ◌≤◌, ◌⊎◌, inl, inr, zero, suc, Bool, true, false, not, ◌&&◌, ◌||◌, List, [], ◌∷◌, ◌++◌, refl, sym, ◌∙◌, ap, subst, arith, length, get_or, cond}
+use Rattle.std.proofs.Common.{◌≡◌, ℕ, ◌<◌, inl, inr, zero, suc, Bool, true, false, not, ◌&&◌, ◌||◌, List, [], ◌∷◌, ◌++◌, refl, sym, ◌∙◌, ap, subst, arith, length, cond}
 use Rattle.std.specs.List.{list_all}
-use Rattle.std.proofs.lemmas.Bool.{cases_eq, cases_Bool, and_parts, and_from, or_cases, or_left, or_right, cond-true, cond-false, true≢false}
-use Rattle.ff_lattice.specs.Bounds.{Flip, IsJoin, IsMeet, HasJoin, HasMeet}
+use Rattle.std.proofs.lemmas.Bool.{cases_eq, cases_Bool, and_parts, and_from, cond-true, cond-false, true≢false}
+use Rattle.ff_lattice.specs.Bounds.{Flip, IsJoin, IsMeet, HasJoin}
 use Rattle.ff_lattice.specs.LevelSet.{below}
 use Rattle.ff_lattice.specs.Rows.{Related, AreRows, IsKept}
 use Rattle.ff_lattice.proofs.Orders.{Agree, Agree-sym, IsJoin-agree, HasJoin-agree, turned-agree}

@@ -1,9 +1,9 @@
 -- The names of levels and the pairs between them, the order that these give, and the faults that keep it from being a lattice.
-use Rattle.std.specs.Prelude.{◌≡◌, ℕ, ◌<◌, ◌≤◌, ◌⊎◌, ◌↔◌, Bool, true, false, List, [], ◌∷◌, length, get_or}
+use Rattle.std.specs.Prelude.{◌≡◌, ℕ, ◌<◌, ◌≤◌, ◌⊎◌, ◌↔◌, true, false, List, [], length, get_or}
 use Rattle.ff_lattice.specs.declared.fault.LatticeFault.{LatticeFault}
 use Rattle.ff_lattice.specs.declared.fault.LatticeFault.TheVariants.{NoLevels, TooMany, BadName, Repeated, Unknown, Cycle, NoJoin, NoMeet, NoMemory}
 use Rattle.ff_lattice.specs.declared.pair.Pair.{Pair}
-use Rattle.ff_lattice.specs.Bounds.{Chain, Flip, HasJoin, LacksJoin, LacksMeet, AreCyclic, IsLattice, IsFirst, NoPair, EachPair, IsLeastPair}
+use Rattle.ff_lattice.specs.Bounds.{Chain, HasJoin, LacksJoin, LacksMeet, AreCyclic, IsLattice, IsFirst, NoPair, EachPair, IsLeastPair}
 use Rattle.ff_lattice.specs.Order.{Order, leq, is_level_name, IsOrder}
 
 -- the name at a place

@@ -1,4 +1,4 @@
-use Rattle.std.proofs.Common.{ℕ, ◌≤◌, length, not, ◌∙◌, ap, arith}
+use Rattle.std.proofs.Common.{◌≤◌, length, not, ◌∙◌, ap, arith}
 use Rattle.ff_lattice.specs.Bounds.{HasJoin}
 use Rattle.ff_lattice.specs.Rows.{Related}
 use Rattle.ff_lattice.proofs.Orders.{pairs_more, seconds_more, HasJoin-from_some}

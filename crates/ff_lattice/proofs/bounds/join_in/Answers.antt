@@ -1,4 +1,4 @@
-use Rattle.std.proofs.Common.{◌≡◌, ℕ, ◌<◌, ◌&&◌, List, [], sym, ◌∙◌, get_or, length, arith}
+use Rattle.std.proofs.Common.{◌≡◌, ◌<◌, ◌&&◌, [], sym, ◌∙◌, get_or, length, arith}
 use Rattle.std.proofs.lemmas.List.{get_or_read}
 use Rattle.ff_lattice.specs.LevelSet.{has, levels_where}
 use Rattle.ff_lattice.proofs.Orders.{IsJoin-from_row, LacksJoin-from_rows}

@@ -1,4 +1,4 @@
-use Rattle.std.proofs.Common.{◌≡◌, ℕ, ◌<◌, List, [], sym, ◌∙◌, ap, get_or, length, arith}
+use Rattle.std.proofs.Common.{◌≡◌, ◌<◌, [], ◌∙◌, length, arith}
 use Rattle.std.proofs.lemmas.List.{get_or_read, take_all}
 use borrow.Author.Count.{below_more}
 use Rattle.ff_lattice.specs.Levels.{nth}

@@ -1,5 +1,4 @@
-use Rattle.std.proofs.Common.{arith}
-use Rattle.ff_lattice.proofs.Closure.{ClosedBelow-none, ClosedBelow-more, Closes-from_passes}
+use Rattle.ff_lattice.proofs.Closure.{ClosedBelow-none, ClosedBelow-more}
 use Rattle.ff_lattice.proofs.rows.close.Goals as goal
 
 pub loop-number-init : goal.loop-number-init

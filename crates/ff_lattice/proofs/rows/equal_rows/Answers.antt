@@ -1,4 +1,4 @@
-use Rattle.std.proofs.Common.{◌≡◌, ◌∙◌, length, arith}
+use Rattle.std.proofs.Common.{arith}
 use Rattle.ff_lattice.proofs.Tables.{IsEqual-from_rows}
 use Rattle.ff_lattice.proofs.rows.equal_rows.Goals as goal
 

@@ -1,11 +1,11 @@
-use Rattle.std.proofs.Common.{◌≡◌, ℕ, ◌+◌, ◌<◌, List, [], sym, ◌∙◌, ap, subst, get_or, drop, length, arith}
+use Rattle.std.proofs.Common.{◌≡◌, ℕ, ◌+◌, ◌<◌, List, [], sym, ◌∙◌, ap, subst, drop, length, arith}
 use Rattle.std.proofs.lemmas.List.{get_or_read, take_at}
 use Rattle.std.proofs.lemmas.Result.{err_from_is_err_and}
 use Rattle.ff_lattice.specs.declared.pair.Pair.{Pair}
 use Rattle.ff_lattice.specs.declared.fault.LatticeFault.{LatticeFault}
 use Rattle.ff_lattice.specs.Levels.{pair_at, IsFault}
 use Rattle.ff_lattice.specs.Rows.{HoldPairs, Relates}
-use Rattle.ff_lattice.proofs.NameLemmas.{unknown_low, unknown_high, HoldPairs-none, HoldPairs-more}
+use Rattle.ff_lattice.proofs.NameLemmas.{unknown_low, unknown_high, HoldPairs-more}
 use Rattle.ff_lattice.proofs.rows.given_rows.Goals as goal
 
 pub returns-in_err-low-clause-fault : goal.returns-in_err-low-clause-fault

@@ -1,4 +1,4 @@
-use Rattle.std.proofs.Common.{◌≡◌, ℕ, ◌<◌, ◌≤◌, [], get_or, length}
+use Rattle.std.proofs.Common.{◌≡◌, ℕ, ◌<◌, ◌≤◌, [], get_or}
 use Rattle.ff_lattice.proofs.Tables.{through}
 use Rattle.ff_lattice.proofs.rows.pass.Given as goal
 

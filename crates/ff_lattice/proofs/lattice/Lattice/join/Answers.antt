@@ -1,4 +1,4 @@
-use Rattle.std.proofs.Common.{ℕ, ◌<◌, length, sym, subst}
+use Rattle.std.proofs.Common.{◌<◌, length, sym, subst}
 use Rattle.ff_lattice.specs.Order.{Order, size}
 use Rattle.ff_lattice.proofs.Words.{up_join, join_from_up, join-is}
 use Rattle.ff_lattice.proofs.lattice.Lattice.join.Goals as goal

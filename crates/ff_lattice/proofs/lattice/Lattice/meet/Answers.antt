@@ -1,4 +1,4 @@
-use Rattle.std.proofs.Common.{ℕ, ◌<◌, length, sym, subst}
+use Rattle.std.proofs.Common.{◌<◌, length, sym, subst}
 use Rattle.ff_lattice.specs.Order.{Order, size}
 use Rattle.ff_lattice.proofs.Words.{under_rows, down_meet, meet_from_down, meet-is}
 use Rattle.ff_lattice.proofs.lattice.Lattice.meet.Goals as goal
