@@ -97,8 +97,8 @@ pub(crate) fn turned(alloc: Global, rows: &[LevelSet]) -> Result<Vec<LevelSet>, 
     ensures { IfOk result (λ down. AreTurned rows.now down.items) }
 {
     let mut down = Vec::new(alloc);
-    for number in 0..rows.len() as u8 {
-        down.push(related_to(rows, Level(number)))?;
+    for high in 0..rows.len() as u8 {
+        down.push(related_to(rows, Level(high)))?;
     }
     Ok(down)
 }
