@@ -1,0 +1,5 @@
+pub mod Bytes
+pub mod Faults
+pub mod Kinds
+pub mod Machine
+pub mod Notation

@@ -1,0 +1,13 @@
+//! The parenthesised notation: reads bytes as items, and prints items.
+//!
+//! A text is read from left to right as words, strings in quotation marks and lists in parentheses,
+//! each with its place. What bytes spell is a grammar of its own, apart from the reader.
+#![tactic(auto)]
+
+mod bytes;
+mod items;
+mod reader;
+mod rows;
+
+pub use ff_name::{NoMemory, Text};
+pub use items::{Items, Sexp, Span, TextFault};

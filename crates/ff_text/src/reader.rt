@@ -1,0 +1,315 @@
+ghost use Rattle.std.specs.Prelude.{◌≡◌, ◌<◌, ◌+◌, ◌-◌, ◌^◌, IsTrue};
+ghost use Rattle.ff_text.specs.Bytes.{is_word_byte};
+ghost use Rattle.ff_text.specs.Machine as machine;
+ghost use Rattle.ff_text.specs.Machine.{Makes, Answers, HasDigit};
+
+use crate::bytes::{InStr, Kind, Slashed, high_digit, in_str_of, kind_of, low_digit, slashed_of};
+use crate::items::{Items, Sexp, Span, TextFault};
+use crate::rows::{Row, Stack, WordBytes};
+use ff_name::Text;
+use std::alloc::Global;
+
+/// How many lists may stand in one another.
+const MOST_LEVELS: usize = 64;
+
+/// A list that is open: where it begins, and the items that stand before it.
+#[derive(Drop)]
+pub(crate) struct Opened {
+    from: u32,
+    before: Row<Sexp>,
+}
+
+/// Where the reader stands.
+#[derive(Clone, Copy)]
+pub(crate) enum Mode {
+    /// Outside words and strings.
+    Between,
+    /// In a word that begins at this place.
+    Word(u32),
+    /// In a string whose mark is at this place.
+    Str(u32),
+    /// After the backslash, at the second place, in a string.
+    Slash(u32, u32),
+    /// After `\x`.
+    Hex(u32, u32),
+    /// After `\x` and a first digit of this value.
+    Digit(u32, u32, u8),
+}
+
+/// What was read so far: the open lists, the items of the innermost, the number of bytes, and what
+/// is begun.
+#[derive(Drop)]
+pub(crate) struct Reader {
+    opened: Stack<Opened>,
+    items: Row<Sexp>,
+    at: u32,
+    mode: Mode,
+    word: WordBytes,
+    value: Row<u8>,
+}
+
+impl Reader {
+    pub(crate) fn new(alloc: Global) -> Reader
+        ensures { result ≡ machine.start }
+    {
+        Reader {
+            opened: Stack::new(alloc),
+            items: Row::new(alloc),
+            at: 0,
+            mode: Mode::Between,
+            word: WordBytes::new(alloc),
+            value: Row::new(alloc),
+        }
+    }
+
+    /// Reads one byte.
+    #[tactic(auto, unfolding(crate::specs::Machine::step))]
+    pub(crate) fn take(&mut self, alloc: Global, b: u8) -> Result<(), TextFault>
+        requires at { self.old.at < 2 ^ 32 - 1 }
+        requires digit { HasDigit self.old.mode }
+        ensures { Makes result self.new (machine.step self.old b) }
+    {
+        match self.mode {
+            Mode::Between => self.take_outside(alloc, b),
+            Mode::Word(from) => self.take_in_word(alloc, from, b),
+            Mode::Str(from) => self.take_in_str(alloc, from, b),
+            Mode::Slash(from, slash) => self.take_slashed(from, slash, b),
+            Mode::Hex(from, slash) => self.take_high(from, slash, b),
+            Mode::Digit(from, slash, high) => self.take_low(from, slash, high, b),
+        }
+    }
+
+    /// A byte outside words and strings.
+    fn take_outside(&mut self, alloc: Global, b: u8) -> Result<(), TextFault>
+        requires { self.old.at < 2 ^ 32 - 1 }
+        ensures { Makes result self.new (machine.outside self.old b) }
+    {
+        match kind_of(b) {
+            Kind::Blank => {
+                self.at += 1;
+                Ok(())
+            }
+            Kind::Open => self.open(alloc),
+            Kind::Close => self.close(alloc),
+            Kind::Quote => {
+                self.mode = Mode::Str(self.at);
+                self.at += 1;
+                Ok(())
+            }
+            Kind::InWord => self.begin_word(b),
+            Kind::Stray => Err(TextFault::BadByte(self.at)),
+        }
+    }
+
+    fn begin_word(&mut self, b: u8) -> Result<(), TextFault>
+        requires at { self.old.at < 2 ^ 32 - 1 }
+        requires word { IsTrue (is_word_byte b) }
+        ensures { Makes result self.new (Ok (machine.word_begun self.old b)) }
+    {
+        if self.word.push(b).is_err() {
+            return Err(TextFault::NoMemory);
+        }
+        self.mode = Mode::Word(self.at);
+        self.at += 1;
+        Ok(())
+    }
+
+    fn open(&mut self, alloc: Global) -> Result<(), TextFault>
+        requires { self.old.at < 2 ^ 32 - 1 }
+        ensures { Makes result self.new (machine.open_list self.old) }
+    {
+        if self.opened.len() >= MOST_LEVELS {
+            return Err(TextFault::TooDeep(self.at));
+        }
+        let before = self.items.take(alloc);
+        let opened = Opened {
+            from: self.at,
+            before,
+        };
+        if self.opened.push(opened).is_err() {
+            return Err(TextFault::NoMemory);
+        }
+        self.at += 1;
+        Ok(())
+    }
+
+    fn close(&mut self, alloc: Global) -> Result<(), TextFault>
+        requires { self.old.at < 2 ^ 32 - 1 }
+        ensures { Makes result self.new (machine.close_list self.old) }
+    {
+        let Some(opened) = self.opened.pop() else {
+            return Err(TextFault::Extra(self.at));
+        };
+        let Opened { from, before } = opened;
+        let span = Span {
+            from,
+            to: self.at + 1,
+        };
+        let Ok(parts) = self.items.take(alloc).share(alloc) else {
+            return Err(TextFault::NoMemory);
+        };
+        self.items = before;
+        self.at += 1;
+        self.put(Sexp::List(span, parts))
+    }
+
+    /// Puts an item last.
+    fn put(&mut self, item: Sexp) -> Result<(), TextFault>
+        ensures { Makes result self.new (Ok (machine.with_item self.old item)) }
+    {
+        if self.items.push(item).is_err() {
+            return Err(TextFault::NoMemory);
+        }
+        Ok(())
+    }
+
+    fn take_in_word(&mut self, alloc: Global, from: u32, b: u8) -> Result<(), TextFault>
+        requires { self.old.at < 2 ^ 32 - 1 }
+        ensures { Makes result self.new (machine.in_word self.old from b) }
+    {
+        match kind_of(b) {
+            Kind::InWord => self.lengthen_word(b),
+            _ => {
+                self.end_word(alloc, from)?;
+                self.take_outside(alloc, b)
+            }
+        }
+    }
+
+    fn lengthen_word(&mut self, b: u8) -> Result<(), TextFault>
+        requires at { self.old.at < 2 ^ 32 - 1 }
+        requires word { IsTrue (is_word_byte b) }
+        ensures { Makes result self.new (Ok (machine.word_longer self.old b)) }
+    {
+        if self.word.push(b).is_err() {
+            return Err(TextFault::NoMemory);
+        }
+        self.at += 1;
+        Ok(())
+    }
+
+    fn end_word(&mut self, alloc: Global, from: u32) -> Result<(), TextFault>
+        ensures { Makes result self.new (Ok (machine.word_ended self.old from)) }
+    {
+        let Ok(text) = self.word.take(alloc) else {
+            return Err(TextFault::NoMemory);
+        };
+        self.mode = Mode::Between;
+        let span = Span { from, to: self.at };
+        self.put(Sexp::Word(span, text))
+    }
+
+    fn take_in_str(&mut self, alloc: Global, from: u32, b: u8) -> Result<(), TextFault>
+        requires { self.old.at < 2 ^ 32 - 1 }
+        ensures { Makes result self.new (machine.in_str self.old from b) }
+    {
+        match in_str_of(b) {
+            InStr::Mark => self.end_str(alloc, from),
+            InStr::Backslash => {
+                self.mode = Mode::Slash(from, self.at);
+                self.at += 1;
+                Ok(())
+            }
+            InStr::Control => Err(TextFault::BadByte(self.at)),
+            InStr::Plain => self.put_byte(from, b),
+        }
+    }
+
+    fn end_str(&mut self, alloc: Global, from: u32) -> Result<(), TextFault>
+        requires { self.old.at < 2 ^ 32 - 1 }
+        ensures { Makes result self.new (machine.end_str self.old from) }
+    {
+        let value = self.value.take(alloc);
+        let text = match Text::of(alloc, value.as_slice()) {
+            Ok(Some(text)) => text,
+            Ok(None) => return Err(TextFault::BadUtf8(from)),
+            Err(_) => return Err(TextFault::NoMemory),
+        };
+        self.mode = Mode::Between;
+        self.at += 1;
+        let span = Span { from, to: self.at };
+        self.put(Sexp::Str(span, text))
+    }
+
+    /// Puts a byte last into the value of the string.
+    fn put_byte(&mut self, from: u32, b: u8) -> Result<(), TextFault>
+        requires { self.old.at < 2 ^ 32 - 1 }
+        ensures { Makes result self.new (Ok (machine.with_byte self.old from b)) }
+    {
+        if self.value.push(b).is_err() {
+            return Err(TextFault::NoMemory);
+        }
+        self.mode = Mode::Str(from);
+        self.at += 1;
+        Ok(())
+    }
+
+    fn take_slashed(&mut self, from: u32, slash: u32, b: u8) -> Result<(), TextFault>
+        requires { self.old.at < 2 ^ 32 - 1 }
+        ensures { Makes result self.new (machine.after_slash self.old from slash b) }
+    {
+        match slashed_of(b) {
+            Slashed::Short(value) => self.put_byte(from, value),
+            Slashed::Hex => {
+                self.mode = Mode::Hex(from, slash);
+                self.at += 1;
+                Ok(())
+            }
+            Slashed::Wrong => Err(TextFault::BadEscape(slash)),
+        }
+    }
+
+    fn take_high(&mut self, from: u32, slash: u32, b: u8) -> Result<(), TextFault>
+        requires { self.old.at < 2 ^ 32 - 1 }
+        ensures { Makes result self.new (machine.after_hex self.old from slash b) }
+    {
+        match high_digit(b) {
+            Some(high) => {
+                self.mode = Mode::Digit(from, slash, high);
+                self.at += 1;
+                Ok(())
+            }
+            None => Err(TextFault::BadEscape(slash)),
+        }
+    }
+
+    fn take_low(&mut self, from: u32, slash: u32, high: u8, b: u8) -> Result<(), TextFault>
+        requires at { self.old.at < 2 ^ 32 - 1 }
+        requires digit { high < 8 }
+        ensures { Makes result self.new (machine.after_digit self.old from slash high b) }
+    {
+        match low_digit(b) {
+            Some(low) => self.put_byte(from, 16 * high + low),
+            None => Err(TextFault::BadEscape(slash)),
+        }
+    }
+
+    /// The items, where the text ends here.
+    #[tactic(auto, unfolding(crate::specs::Machine::finish))]
+    pub(crate) fn end(mut self, alloc: Global) -> Result<Items, TextFault>
+        ensures { Answers result (machine.finish self) }
+    {
+        match self.mode {
+            Mode::Between => self.end_items(alloc),
+            Mode::Word(from) => {
+                self.end_word(alloc, from)?;
+                self.end_items(alloc)
+            }
+            Mode::Str(from) | Mode::Slash(from, _) | Mode::Hex(from, _) | Mode::Digit(from, _, _) => {
+                Err(TextFault::Unclosed(from))
+            }
+        }
+    }
+
+    fn end_items(self, alloc: Global) -> Result<Items, TextFault>
+        ensures { Answers result (machine.end_items self) }
+    {
+        if let Some(opened) = self.opened.top() {
+            return Err(TextFault::Unclosed(opened.from));
+        }
+        match self.items.share(alloc) {
+            Ok(items) => Ok(items),
+            Err(_) => Err(TextFault::NoMemory),
+        }
+    }
+}

@@ -1,0 +1,163 @@
+ghost use Rattle.std.specs.Prelude.{◌≡◌, ◌<◌, ◌++◌, ◌∷◌, [], List, ℕ, IfOk, OnOk, IsTrue, MatchOption, length, reverse};
+ghost use Rattle.std.specs.List.{list_all};
+ghost use Rattle.ff_text.specs.Bytes.{is_word_byte};
+
+use crate::NoMemory;
+use ff_name::Text;
+use ff_shared::SharedList;
+use std::alloc::Global;
+use std::marker::Model;
+use std::mem;
+
+/// A list that grows at its end.
+#[derive(Drop)]
+pub(crate) struct Row<T> {
+    items: Vec<T>,
+}
+
+impl<T> Model for Row<T> {
+    ghost use Rattle.std.specs.Prelude.{List};
+    ghost use Rattle.std.specs.Coded.{coded_list};
+
+    ghost Value = { List T };
+
+    ghost coded = { coded_list T.code };
+
+    ghost view = { λ row. row.items.items };
+}
+
+impl<T: Drop> Row<T> {
+    pub(crate) fn new(alloc: Global) -> Row<T>
+        ensures { result ≡ [] }
+    {
+        Row {
+            items: Vec::new(alloc),
+        }
+    }
+
+    pub(crate) fn push(&mut self, item: T) -> Result<(), NoMemory>
+        ensures { OnOk result (self.new ≡ self.old ++ item ∷ []) }
+    {
+        self.items.push(item)?;
+        Ok(())
+    }
+
+    /// All the items, which leaves none.
+    pub(crate) fn take(&mut self, alloc: Global) -> Row<T>
+        ensures taken { result ≡ self.old }
+        ensures left { self.new ≡ [] }
+    {
+        mem::replace(self, Row::new(alloc))
+    }
+
+    pub(crate) fn as_slice(&self) -> &[T]
+        ensures { result.now ≡ self.now }
+    {
+        self.items.as_slice()
+    }
+
+    pub(crate) fn share(self, alloc: Global) -> Result<SharedList<T>, NoMemory>
+        ensures { IfOk result (λ items. items ≡ self) }
+    {
+        SharedList::from_vec(alloc, self.items)
+    }
+}
+
+/// A stack, seen as the list of its items from the top.
+#[derive(Drop)]
+pub(crate) struct Stack<T> {
+    items: Vec<T>,
+}
+
+impl<T> Model for Stack<T> {
+    ghost use Rattle.std.specs.Prelude.{List, reverse};
+    ghost use Rattle.std.specs.Coded.{coded_list};
+
+    ghost Value = { List T };
+
+    ghost coded = { coded_list T.code };
+
+    ghost view = { λ stack. reverse stack.items.items };
+}
+
+impl<T: Drop> Stack<T> {
+    pub(crate) fn new(alloc: Global) -> Stack<T>
+        ensures { result ≡ [] }
+    {
+        Stack {
+            items: Vec::new(alloc),
+        }
+    }
+
+    pub(crate) fn len(&self) -> usize
+        ensures { result ≡ length self.now }
+    {
+        self.items.len()
+    }
+
+    pub(crate) fn push(&mut self, item: T) -> Result<(), NoMemory>
+        ensures { OnOk result (self.new ≡ item ∷ self.old) }
+    {
+        self.items.push(item)?;
+        Ok(())
+    }
+
+    pub(crate) fn pop(&mut self) -> Option<T>
+        ensures { MatchOption result ((self.old ≡ []) × (self.new ≡ [])) (λ item. self.old ≡ item ∷ self.new) }
+    {
+        self.items.pop()
+    }
+
+    /// The topmost item, lent.
+    pub(crate) fn top(&self) -> Option<&T>
+        ensures { MatchOption result (self.now ≡ []) (λ item. (rest : List T) × (self.now ≡ item.now ∷ rest)) }
+    {
+        self.items.last()
+    }
+}
+
+/// The bytes of a word so far.
+#[derive(Drop)]
+pub(crate) struct WordBytes {
+    bytes: Vec<u8>,
+}
+
+impl Model for WordBytes {
+    ghost use Rattle.std.specs.Prelude.{List, ℕ, IsTrue};
+    ghost use Rattle.std.specs.List.{list_all};
+    ghost use Rattle.ff_text.specs.Bytes.{is_word_byte};
+
+    ghost Value = { List ℕ };
+
+    ghost view = { λ word. word.bytes.items };
+
+    ghost invariant = { λ word. IsTrue (list_all is_word_byte word.bytes.items) };
+}
+
+impl WordBytes {
+    pub(crate) fn new(alloc: Global) -> WordBytes
+        ensures { result ≡ [] }
+    {
+        WordBytes {
+            bytes: Vec::new(alloc),
+        }
+    }
+
+    pub(crate) fn push(&mut self, b: u8) -> Result<(), NoMemory>
+        requires { IsTrue (is_word_byte b) }
+        ensures { OnOk result (self.new ≡ self.old ++ b ∷ []) }
+    {
+        self.bytes.push(b)?;
+        Ok(())
+    }
+
+    /// The word as a text, which leaves no bytes.
+    pub(crate) fn take(&mut self, alloc: Global) -> Result<Text, NoMemory>
+        ensures taken { IfOk result (λ text. text ≡ self.old) }
+        ensures left { OnOk result (self.new ≡ []) }
+    {
+        let text = Text::of_utf8(alloc, &self.bytes)?;
+        self.bytes.clear();
+        Ok(text)
+    }
+}
