@@ -1,5 +1,5 @@
 -- What is wrong with bytes, and where. Every fault but `Unclosed` is a condition on a prefix: its last byte makes it.
-use Rattle.std.specs.Prelude.{◌≡◌, ◌≢◌, ◌<◌, ◌≤◌, ◌+◌, ℕ, Bool, false, List, [], ◌∷◌, ◌++◌, length, take}
+use Rattle.std.specs.Prelude.{◌≡◌, ◌≢◌, ◌<◌, ◌≤◌, ◌+◌, ℕ, suc, Bool, true, false, List, [], ◌∷◌, ◌++◌, length, take}
 use Rattle.std.specs.Str.{IsUtf8}
 use Rattle.std.specs.Char.{is_ascii_control, is_ascii_graphic}
 use Rattle.ff_text.specs.Notation.{Spells, SpellsItems, Value, Escape, span}
@@ -12,7 +12,7 @@ use Rattle.ff_text.specs.declared.items.TextFault.TheVariants as fault
 -- places of their parentheses, the innermost first.
 pub data Unfinished : List ℕ → (to : ℕ) → List ℕ → Type 0 where
   at_top : (to : ℕ) (bytes : List ℕ) (items : List Sexp) (ended : Bool) → Spells 0 0 to bytes items ended → Unfinished [] to bytes
-  within : (opens : List ℕ) (place to : ℕ) (bytes inner : List ℕ) (items : List Sexp) (ended : Bool) → Unfinished opens place bytes → length opens < 64 → Spells (length opens + 1) (place + 1) to inner items ended → Unfinished (place ∷ opens) to (bytes ++ 40 ∷ inner)
+  within : (opens : List ℕ) (place to : ℕ) (bytes inner : List ℕ) (items : List Sexp) (ended : Bool) → Unfinished opens place bytes → length opens < 64 → Spells (suc (length opens)) (place + 1) to inner items ended → Unfinished (place ∷ opens) to (bytes ++ 40 ∷ inner)
 
 -- bytes that end in a string whose mark is at the first place, before the second place, with this value so far
 pub data InString : (place to : ℕ) → List ℕ → List ℕ → Type 0 where

@@ -1,5 +1,5 @@
 -- What bytes spell, as relations that grow to the right: what was read, and then one thing more.
-use Rattle.std.specs.Prelude.{◌≡◌, ◌≢◌, ◌<◌, ◌≤◌, ◌+◌, ◌*◌, ℕ, Bool, true, false, List, [], ◌∷◌, ◌++◌, length, IsTrue, nat_lt, if◌then◌else◌}
+use Rattle.std.specs.Prelude.{◌≡◌, ◌≢◌, ◌<◌, ◌≤◌, ◌+◌, ◌*◌, ℕ, Bool, true, false, List, [], ◌∷◌, ◌++◌, length, IsTrue, nat_lt, if◌then◌else◌, suc}
 use Rattle.std.specs.List.{list_all}
 use Rattle.std.specs.Str.{IsUtf8}
 use Rattle.std.specs.Char.{is_ascii_control}
@@ -47,7 +47,7 @@ pub data Spells : (level from to : ℕ) → List ℕ → List Sexp → Bool → 
   blank : (level from to : ℕ) (bytes : List ℕ) (items : List Sexp) (ended : Bool) → Spells level from to bytes items ended → Spells level from (to + 1) (bytes ++ 32 ∷ []) items false
   a_word : (level from to : ℕ) (bytes : List ℕ) (items : List Sexp) (word : List ℕ) → Spells level from to bytes items false → IsWord word → Spells level from (to + length word) (bytes ++ word) (items ++ Word (span to (to + length word)) word ∷ []) true
   a_string : (level from to : ℕ) (bytes : List ℕ) (items : List Sexp) (ended : Bool) (body value : List ℕ) → Spells level from to bytes items ended → Value body value → IsUtf8 value → Spells level from (to + 1 + length body + 1) (bytes ++ (34 ∷ (body ++ 34 ∷ []))) (items ++ Str (span to (to + 1 + length body + 1)) value ∷ []) false
-  a_list : (level from to close : ℕ) (bytes inner : List ℕ) (items parts : List Sexp) (ended inner_ended : Bool) → Spells level from to bytes items ended → level < 64 → Spells (level + 1) (to + 1) close inner parts inner_ended → Spells level from (close + 1) (bytes ++ (40 ∷ (inner ++ 41 ∷ []))) (items ++ Parens (span to (close + 1)) parts ∷ []) false
+  a_list : (level from to close : ℕ) (bytes inner : List ℕ) (items parts : List Sexp) (ended inner_ended : Bool) → Spells level from to bytes items ended → level < 64 → Spells (suc level) (to + 1) close inner parts inner_ended → Spells level from (close + 1) (bytes ++ (40 ∷ (inner ++ 41 ∷ []))) (items ++ Parens (span to (close + 1)) parts ∷ []) false
 
 -- the whole of a text spells the items
 pub record SpellsItems (bytes : List ℕ) (items : List Sexp) : Type 0 where

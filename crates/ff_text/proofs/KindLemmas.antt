@@ -1,0 +1,140 @@
+-- Which bytes are of which kind.
+use Rattle.std.proofs.Common.{◌≡◌, ◌≢◌, ◌<◌, ◌≤◌, ◌+◌, ◌-◌, ◌*◌, ℕ, Bool, true, false, Option, Some, None, List, [], ◌∷◌, refl, sym, ◌∙◌, ap, subst, arith}
+use Rattle.std.specs.Char.{is_ascii_graphic, is_ascii_control, is_ascii_digit}
+use Rattle.std.proofs.lemmas.Bool.Decides.{nat_tests}
+use Rattle.ff_text.specs.declared.bytes.Kind.{Kind}
+use Rattle.ff_text.specs.declared.bytes.Kind.TheVariants as kind
+use Rattle.ff_text.specs.declared.bytes.InStr.{InStr}
+use Rattle.ff_text.specs.declared.bytes.InStr.TheVariants as str
+use Rattle.ff_text.specs.declared.bytes.Slashed.{Slashed}
+use Rattle.ff_text.specs.declared.bytes.Slashed.TheVariants as slashed
+use Rattle.ff_text.specs.Bytes.{is_word_byte}
+use Rattle.ff_text.specs.Kinds.{kind_of, in_str_of, slashed_of, high_digit, low_digit}
+use Rattle.ff_text.specs.Notation.{hex_digit, IsPlain, Escape, mark, backslash, newline, tab, hex}
+use Rattle.ff_text.specs.Faults.{IsStray}
+
+pub kind_of-word : (b : ℕ) → is_word_byte b ≡ true → kind_of b ≡ kind.InWord
+unfolding kind_of
+kind_of-word b h = grind (arith, nat_tests)
+
+pub kind_of-stray : (b : ℕ) → IsStray b → kind_of b ≡ kind.Stray
+unfolding kind_of
+kind_of-stray b h = grind (arith, nat_tests)
+
+abbrev pub KindFact : ℕ → Kind → Type 0
+KindFact b kind.Blank = b ≡ 32
+KindFact b kind.Open = b ≡ 40
+KindFact b kind.Close = b ≡ 41
+KindFact b kind.Quote = b ≡ 34
+KindFact b kind.InWord = is_word_byte b ≡ true
+KindFact b kind.Stray = IsStray b
+
+kind_blank : (b : ℕ) → kind_of b ≡ kind.Blank → b ≡ 32
+unfolding kind_of
+kind_blank b h = grind (arith, nat_tests)
+
+kind_open : (b : ℕ) → kind_of b ≡ kind.Open → b ≡ 40
+unfolding kind_of
+kind_open b h = grind (arith, nat_tests)
+
+kind_close : (b : ℕ) → kind_of b ≡ kind.Close → b ≡ 41
+unfolding kind_of
+kind_close b h = grind (arith, nat_tests)
+
+kind_quote : (b : ℕ) → kind_of b ≡ kind.Quote → b ≡ 34
+unfolding kind_of
+kind_quote b h = grind (arith, nat_tests)
+
+kind_word : (b : ℕ) → kind_of b ≡ kind.InWord → is_word_byte b ≡ true
+unfolding kind_of
+kind_word b h = grind (arith, nat_tests)
+
+kind_no_blank : (b : ℕ) → kind_of b ≡ kind.Stray → b ≢ 32
+unfolding kind_of
+kind_no_blank b h = grind (arith, nat_tests)
+
+kind_no_graphic : (b : ℕ) → kind_of b ≡ kind.Stray → is_ascii_graphic b ≡ false
+unfolding kind_of
+kind_no_graphic b h = grind (arith, nat_tests)
+
+-- what a byte's kind says of it
+pub kind_fact : (b : ℕ) (k : Kind) → kind_of b ≡ k → KindFact b k
+kind_fact b kind.Blank h = kind_blank b h
+kind_fact b kind.Open h = kind_open b h
+kind_fact b kind.Close h = kind_close b h
+kind_fact b kind.Quote h = kind_quote b h
+kind_fact b kind.InWord h = kind_word b h
+kind_fact b kind.Stray h = record { no_blank = kind_no_blank b h; no_graphic = kind_no_graphic b h }
+
+pub in_str_of-plain : (b : ℕ) → b ≢ 34 → b ≢ 92 → is_ascii_control b ≡ false → in_str_of b ≡ str.Plain
+unfolding in_str_of
+in_str_of-plain b m s c = grind (arith, nat_tests)
+
+pub in_str_of-control : (b : ℕ) → is_ascii_control b ≡ true → in_str_of b ≡ str.Control
+unfolding in_str_of
+in_str_of-control b c = grind (arith, nat_tests)
+
+str_mark : (b : ℕ) → in_str_of b ≡ str.Mark → b ≡ 34
+unfolding in_str_of
+str_mark b h = grind (arith, nat_tests)
+
+str_backslash : (b : ℕ) → in_str_of b ≡ str.Backslash → b ≡ 92
+unfolding in_str_of
+str_backslash b h = grind (arith, nat_tests)
+
+str_control : (b : ℕ) → in_str_of b ≡ str.Control → is_ascii_control b ≡ true
+unfolding in_str_of
+str_control b h = grind (arith, nat_tests)
+
+str_no_mark : (b : ℕ) → in_str_of b ≡ str.Plain → b ≢ 34
+unfolding in_str_of
+str_no_mark b h = grind (arith, nat_tests)
+
+str_no_backslash : (b : ℕ) → in_str_of b ≡ str.Plain → b ≢ 92
+unfolding in_str_of
+str_no_backslash b h = grind (arith, nat_tests)
+
+str_no_control : (b : ℕ) → in_str_of b ≡ str.Plain → is_ascii_control b ≡ false
+unfolding in_str_of
+str_no_control b h = grind (arith, nat_tests)
+
+abbrev pub StrFact : ℕ → InStr → Type 0
+StrFact b str.Mark = b ≡ 34
+StrFact b str.Backslash = b ≡ 92
+StrFact b str.Control = is_ascii_control b ≡ true
+StrFact b str.Plain = IsPlain b
+
+-- what the kind of a byte in a string says of it
+pub str_fact : (b : ℕ) (k : InStr) → in_str_of b ≡ k → StrFact b k
+str_fact b str.Mark h = str_mark b h
+str_fact b str.Backslash h = str_backslash b h
+str_fact b str.Control h = str_control b h
+str_fact b str.Plain h = record { no_mark = str_no_mark b h; no_backslash = str_no_backslash b h; no_control = str_no_control b h }
+
+pub high_digit-digit : (h : ℕ) → h < 8 → high_digit (hex_digit h) ≡ Some h
+unfolding high_digit
+high_digit-digit h small = grind (arith, nat_tests)
+
+pub low_digit-digit : (l : ℕ) → l < 16 → low_digit (hex_digit l) ≡ Some l
+unfolding low_digit
+low_digit-digit l small = grind (arith, nat_tests)
+
+pub high_small : (b h : ℕ) → high_digit b ≡ Some h → h < 8
+unfolding high_digit
+high_small b h e = grind (arith, nat_tests)
+
+pub high_is : (b h : ℕ) → high_digit b ≡ Some h → b ≡ hex_digit h
+unfolding high_digit
+high_is b h e = grind (arith, nat_tests)
+
+pub low_small : (b l : ℕ) → low_digit b ≡ Some l → l < 16
+unfolding low_digit
+low_small b l e = grind (arith, nat_tests)
+
+pub low_is : (b l : ℕ) → low_digit b ≡ Some l → b ≡ hex_digit l
+unfolding low_digit
+low_is b l e = grind (arith, nat_tests)
+
+slash_hex : (b : ℕ) → slashed_of b ≡ slashed.Hex → b ≡ 120
+unfolding slashed_of
+slash_hex b h = grind (arith, nat_tests)
