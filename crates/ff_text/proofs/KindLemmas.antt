@@ -135,6 +135,6 @@ pub low_is : (b l : ℕ) → low_digit b ≡ Some l → b ≡ hex_digit l
 unfolding low_digit
 low_is b l e = grind (arith, nat_tests)
 
-slash_hex : (b : ℕ) → slashed_of b ≡ slashed.Hex → b ≡ 120
+pub slash_hex : (b : ℕ) → slashed_of b ≡ slashed.Hex → b ≡ 120
 unfolding slashed_of
 slash_hex b h = grind (arith, nat_tests)
