@@ -22,7 +22,7 @@ pub data EscapeMode (place slash : ℕ) : List ℕ → Mode → Type 0 where
   x_read : EscapeMode place slash (120 ∷ []) (mode.Hex place slash)
   digit_read : (high : ℕ) → high < 8 → EscapeMode place slash (120 ∷ hex_digit high ∷ []) (mode.Digit place slash high)
 
-none_follows : (xs : List ℕ) (y : ℕ) (ys : List ℕ) → xs ++ y ∷ ys ≡ [] → ⊥
+pub none_follows : (xs : List ℕ) (y : ℕ) (ys : List ℕ) → xs ++ y ∷ ys ≡ [] → ⊥
 none_follows xs y ys e = omega (arith, length-append {A = ℕ}, ap length e)
 
 -- a front of a short escape, and of one in hexadecimal digits

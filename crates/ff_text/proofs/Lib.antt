@@ -3,6 +3,8 @@ pub mod Complete
 pub mod Escapes
 pub mod KindLemmas
 pub mod Meeting
+pub mod NoEscape
+pub mod Sound
 pub mod Standing
 pub mod Steps
 pub mod Strings

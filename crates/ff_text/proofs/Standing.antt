@@ -71,7 +71,7 @@ advance-more bytes b begin r h = advance-append bytes (b ∷ []) begin ∙ ap (a
 pub advance-then : (xs ys : List ℕ) (begin : Result Reader TextFault) (r : Reader) (end : Result Reader TextFault) → advance xs begin ≡ Ok r → advance ys (Ok r) ≡ end → advance (xs ++ ys) begin ≡ end
 advance-then xs ys begin r end h k = advance-append xs ys begin ∙ ap (advance ys) h ∙ k
 
-abbrev EndsWord : Kind → Type 0
+abbrev pub EndsWord : Kind → Type 0
 EndsWord kind.Blank = Unit {0}
 EndsWord kind.Open = Unit {0}
 EndsWord kind.Close = Unit {0}
@@ -83,7 +83,7 @@ step_between : (opened : List Opened) (items : List Sexp) (at b : ℕ) (k : Kind
 unfolding step
 step_between opened items at b k e = ap (λ (kk : Kind). outside_kind kk (between opened items at) b) e
 
-step_word : (opened : List Opened) (items : List Sexp) (at from : ℕ) (word : List ℕ) (b : ℕ) (k : Kind) → kind_of b ≡ k → EndsWord k → step (wording opened items at from word) b ≡ outside_kind k (between opened (items ++ Word (span from at) word ∷ []) at) b
+pub step_word : (opened : List Opened) (items : List Sexp) (at from : ℕ) (word : List ℕ) (b : ℕ) (k : Kind) → kind_of b ≡ k → EndsWord k → step (wording opened items at from word) b ≡ outside_kind k (between opened (items ++ Word (span from at) word ∷ []) at) b
 unfolding step
 step_word opened items at from word b kind.Blank e ends = rw (e, e)
 step_word opened items at from word b kind.Open e ends = rw (e, e)
