@@ -8,3 +8,4 @@ pub mod Sound
 pub mod Standing
 pub mod Steps
 pub mod Strings
+pub mod Verdict

@@ -133,11 +133,11 @@ meets_err all which (bad_escape place slash begun bytes b inside wrong) =
     let halt = escape_halts place slash begun bytes inside in
     advance-more bytes b (Ok start) _ halt.runs ∙ step_bad_escape halt.opened halt.items halt.at place slash halt.value begun halt.m halt.is b wrong
 
-finish_string : (opened : List Opened) (items : List Sexp) (at from : ℕ) (value : List ℕ) → finish (quoting opened items at from value) ≡ Err (fault.Unclosed from)
+pub finish_string : (opened : List Opened) (items : List Sexp) (at from : ℕ) (value : List ℕ) → finish (quoting opened items at from value) ≡ Err (fault.Unclosed from)
 unfolding finish
 finish_string opened items at from value = refl
 
-finish_escape : (opened : List Opened) (items : List Sexp) (at place slash : ℕ) (value begun : List ℕ) (m : Mode) → EscapeMode place slash begun m → finish (in_mode m opened items at value) ≡ Err (fault.Unclosed place)
+pub finish_escape : (opened : List Opened) (items : List Sexp) (at place slash : ℕ) (value begun : List ℕ) (m : Mode) → EscapeMode place slash begun m → finish (in_mode m opened items at value) ≡ Err (fault.Unclosed place)
 unfolding finish
 finish_escape opened items at place slash value begun m slash_read = refl
 finish_escape opened items at place slash value begun m x_read = refl

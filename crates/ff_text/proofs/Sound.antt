@@ -132,7 +132,7 @@ word_goes opened items at from bytes word whole so_far w place joined b h =
         (record { some = none_follows word b []; made_of = list_all-append is_word_byte word (b ∷ []) ∙ and_from _ _ w.made_of (and_from _ _ h refl) })
         next (sym (append_assoc bytes word (b ∷ [])) ∙ ap (λ bs. bs ++ b ∷ []) joined))
 
-word_whole : (opened : List Opened) (items : List Sexp) (at from : ℕ) (bytes word whole : List ℕ) → Opens opened items false from bytes → IsWord word → from + length word ≡ at → bytes ++ word ≡ whole → Opens opened (items ++ Word (span from at) word ∷ []) true at whole
+pub word_whole : (opened : List Opened) (items : List Sexp) (at from : ℕ) (bytes word whole : List ℕ) → Opens opened items false from bytes → IsWord word → from + length word ≡ at → bytes ++ word ≡ whole → Opens opened (items ++ Word (span from at) word ∷ []) true at whole
 word_whole opened items at from bytes word whole so_far w place joined =
     subst (λ bs. Opens opened (items ++ Word (span from at) word ∷ []) true at bs) joined
         (subst (λ n. Opens opened (items ++ Word (span from n) word ∷ []) true n (bytes ++ word)) place

@@ -59,6 +59,10 @@ pub advance-step : (b : ℕ) (bytes : List ℕ) (r next : Reader) → step r b �
 unfolding advance
 advance-step b bytes r next e = ap (advance bytes) e
 
+pub advance-stop : (b : ℕ) (bytes : List ℕ) (r : Reader) (which : TextFault) → step r b ≡ Err which → advance (b ∷ bytes) (Ok r) ≡ Err which
+unfolding advance
+advance-stop b bytes r which e = ap (advance bytes) e ∙ advance-err bytes which
+
 pub advance-one : (r : Reader) (b : ℕ) → advance (b ∷ []) (Ok r) ≡ step r b
 unfolding advance
 advance-one r b = refl
