@@ -1,9 +1,11 @@
 pub mod Ascii
+pub mod Back
 pub mod Complete
 pub mod Escapes
 pub mod KindLemmas
 pub mod Meeting
 pub mod NoEscape
+pub mod Room
 pub mod Sound
 pub mod Standing
 pub mod Steps

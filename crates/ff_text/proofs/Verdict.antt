@@ -9,8 +9,8 @@ use Rattle.ff_text.specs.declared.reader.Opened.{Opened}
 use Rattle.ff_text.specs.declared.reader.Mode.{Mode}
 use Rattle.ff_text.specs.declared.items.Sexp.TheVariants.{Word}
 use Rattle.ff_text.specs.Notation.{span, Spells, nothing, SpellsItems}
-use Rattle.ff_text.specs.Faults.{Unfinished, Meets, IsUnclosed, in_a_list, in_a_string, in_an_escape, NoneBelow, FirstFault, at_prefix, at_end}
-use Rattle.ff_text.specs.Machine.{advance, step, start, finish, items_ended, verdict, verdict_of, Answers}
+use Rattle.ff_text.specs.Faults.{Unfinished, Meets, IsUnclosed, in_a_list, in_a_string, in_an_escape, NoneBelow, FirstFault, at_prefix, at_end, SingleFault, of_text, no_item, second_item, from_of}
+use Rattle.ff_text.specs.Machine.{advance, step, start, finish, items_ended, verdict, verdict_of, Answers, one_of, one_in, AnswersOne}
 use Rattle.ff_text.proofs.Standing.{advance-append, advance-err, advance-none, advance-step, advance-stop, advance-more, between, wording}
 use Rattle.ff_text.proofs.Complete.{verdict_from_spelled}
 use Rattle.ff_text.proofs.Escapes.{EscapeMode}
@@ -43,6 +43,9 @@ not_ok which items answer e k = cc
 
 err_fault : (which other : TextFault) (answer : Result (List Sexp) TextFault) → answer ≡ Err which → answer ≡ Err other → which ≡ other
 err_fault which other answer e k = cc
+
+one_fault : (which other : TextFault) (answer : Result Sexp TextFault) → answer ≡ Err which → answer ≡ Err other → which ≡ other
+one_fault which other answer e k = cc
 
 -- how the bytes end
 data Ending (bytes : List ℕ) : Result Reader TextFault → Type 0 where
@@ -158,4 +161,56 @@ exact_fault bytes (Ok items) same which first = absurd (not_ok which items (verd
 exact_fault bytes (Err other) same which first = elim same [
     inl memory ↦ inr (ap Err memory)
   | inr wrong ↦ inl (ap Err (err_fault other which (verdict bytes) wrong (verdict_from_fault bytes which first)))
+]
+
+-- one item
+item_of : (items : List Sexp) (item : Sexp) → one_of items ≡ Ok item → items ≡ item ∷ []
+item_of [] item e = cc
+item_of (found ∷ []) item e = cc
+item_of (first ∷ second ∷ others) item e = cc
+
+fault_of : (bytes : List ℕ) (items : List Sexp) → SpellsItems bytes items → (which : TextFault) → one_of items ≡ Err which → SingleFault bytes which
+fault_of bytes [] spelled which e = subst (SingleFault bytes) (one_fault fault.Empty which (one_of []) refl e) (no_item spelled)
+fault_of bytes (found ∷ []) spelled which e = cc
+fault_of bytes (first ∷ second ∷ others) spelled which e = subst (SingleFault bytes) (one_fault (fault.Extra (from_of second)) which (one_of (first ∷ second ∷ others)) refl e) (second_item first second others spelled)
+
+single_fault : (bytes : List ℕ) (which : TextFault) → SingleFault bytes which → one_in (verdict bytes) ≡ Err which
+single_fault bytes which (of_text which' first) = ap one_in (verdict_from_fault bytes which' first)
+single_fault bytes which (no_item spelled) = ap one_in (verdict_from_spelled bytes [] spelled)
+single_fault bytes which (second_item first second others spelled) = ap one_in (verdict_from_spelled bytes (first ∷ second ∷ others) spelled)
+
+single_item : (bytes : List ℕ) (item : Sexp) → SpellsItems bytes (item ∷ []) → one_in (verdict bytes) ≡ Ok item
+single_item bytes item spelled = ap one_in (verdict_from_spelled bytes (item ∷ []) spelled)
+
+one_item_from : (bytes : List ℕ) (item : Sexp) (answer : Result (List Sexp) TextFault) → verdict bytes ≡ answer → one_in answer ≡ Ok item → SpellsItems bytes (item ∷ [])
+one_item_from bytes item (Ok items) e same = subst (SpellsItems bytes) (item_of items item same) (spelled_from_verdict bytes items e)
+one_item_from bytes item (Err which) e same = cc
+
+one_fault_from : (bytes : List ℕ) (which : TextFault) (answer : Result (List Sexp) TextFault) → verdict bytes ≡ answer → one_in answer ≡ Err which → SingleFault bytes which
+one_fault_from bytes which (Ok items) e same = fault_of bytes items (spelled_from_verdict bytes items e) which same
+one_fault_from bytes which (Err other) e same = subst (SingleFault bytes) (one_fault other which (one_in (Err other)) refl same) (of_text other (fault_from_verdict bytes other e))
+
+pub found_item : (bytes : List ℕ) (answer : Result Sexp TextFault) → AnswersOne answer (one_in (verdict bytes)) → IfOk answer (λ item. SpellsItems bytes (item ∷ []))
+found_item bytes (Ok item) same = one_item_from bytes item (verdict bytes) refl same
+found_item bytes (Err which) same = tt
+
+pub only_item : (bytes : List ℕ) (answer : Result Sexp TextFault) → AnswersOne answer (one_in (verdict bytes)) → (item : Sexp) → SpellsItems bytes (item ∷ []) → (answer ≡ Ok item) ⊎ (answer ≡ Err fault.NoMemory)
+only_item bytes (Ok found) same item spelled = inl (sym same ∙ single_item bytes item spelled)
+only_item bytes (Err which) same item spelled = elim same [
+    inl memory ↦ inr (ap Err memory)
+  | inr wrong ↦ inl (sym wrong ∙ single_item bytes item spelled)
+]
+
+pub one_first_fault : (bytes : List ℕ) (answer : Result Sexp TextFault) → AnswersOne answer (one_in (verdict bytes)) → IfErr answer (λ which. (which ≡ fault.NoMemory) ⊎ SingleFault bytes which)
+one_first_fault bytes (Ok item) same = tt
+one_first_fault bytes (Err which) same = elim same [
+    inl memory ↦ inl memory
+  | inr wrong ↦ inr (one_fault_from bytes which (verdict bytes) refl wrong)
+]
+
+pub one_exact_fault : (bytes : List ℕ) (answer : Result Sexp TextFault) → AnswersOne answer (one_in (verdict bytes)) → (which : TextFault) → SingleFault bytes which → (answer ≡ Err which) ⊎ (answer ≡ Err fault.NoMemory)
+one_exact_fault bytes (Ok item) same which first = inl (sym same ∙ single_fault bytes which first)
+one_exact_fault bytes (Err other) same which first = elim same [
+    inl memory ↦ inr (ap Err memory)
+  | inr wrong ↦ inl (sym wrong ∙ single_fault bytes which first)
 ]

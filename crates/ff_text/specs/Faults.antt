@@ -4,7 +4,8 @@ use Rattle.std.specs.Str.{IsUtf8}
 use Rattle.std.specs.Char.{is_ascii_control, is_ascii_graphic}
 use Rattle.ff_text.specs.Notation.{Spells, SpellsItems, Value, Escape, span}
 use Rattle.ff_text.specs.declared.items.Span.{Span}
-use Rattle.ff_text.specs.declared.items.Sexp.{Sexp}
+use Rattle.ff_text.specs.declared.items.Sexp.{Sexp, out-Sexp}
+use Rattle.ff_text.specs.declared.items.Sexp.TheOpen.{Sexp-F}
 use Rattle.ff_text.specs.declared.items.TextFault.{TextFault}
 use Rattle.ff_text.specs.declared.items.TextFault.TheVariants as fault
 
@@ -58,10 +59,17 @@ pub data FirstFault (bytes : List ℕ) : TextFault → Type 0 where
   at_prefix : (n : ℕ) (which : TextFault) → n ≤ length bytes → Meets (take n bytes) which → NoneBelow n bytes → FirstFault bytes which
   at_end : (place : ℕ) → NoneBelow (length bytes + 1) bytes → IsUnclosed bytes place → FirstFault bytes (fault.Unclosed place)
 
--- what reading one item answers: the fault of the text, or that there is no item, or a second one
-abbrev pub from_of : Sexp → ℕ
-from_of item = 0
+abbrev from_at : Sexp-F Sexp → ℕ
+from_at (Sexp-F.Word at text) = at.from
+from_at (Sexp-F.Str at value) = at.from
+from_at (Sexp-F.List at parts) = at.from
 
+-- the place of an item's first byte
+abbrev pub from_of : Sexp → ℕ
+from_of item = from_at (out-Sexp item)
+
+-- the fault where one item is wanted: that of the text, or that there is no item, or where the second one begins
 pub data SingleFault (bytes : List ℕ) : TextFault → Type 0 where
   of_text : (which : TextFault) → FirstFault bytes which → SingleFault bytes which
   no_item : SpellsItems bytes [] → SingleFault bytes fault.Empty
+  second_item : (first second : Sexp) (others : List Sexp) → SpellsItems bytes (first ∷ second ∷ others) → SingleFault bytes (fault.Extra (from_of second))

@@ -3,3 +3,4 @@ pub mod Faults
 pub mod Kinds
 pub mod Machine
 pub mod Notation
+pub mod Printed

@@ -16,6 +16,7 @@ use Rattle.ff_text.specs.declared.reader.Reader.{Reader}
 use Rattle.ff_text.specs.declared.reader.Opened.{Opened}
 use Rattle.ff_text.specs.declared.reader.Mode.{Mode}
 use Rattle.ff_text.specs.declared.reader.Mode.TheVariants as mode
+use Rattle.ff_text.specs.Faults.{from_of}
 use Rattle.ff_text.specs.Kinds.{kind_of, in_str_of, slashed_of, high_digit, low_digit}
 
 -- what a call answered and left is what the step gives, unless memory ran out
@@ -174,3 +175,17 @@ verdict_of (Err which) = Err which
 -- what reading all of the bytes answers
 abbrev pub verdict : List ℕ → Result (List Sexp) TextFault
 verdict bytes = verdict_of (advance bytes (Ok start))
+
+-- the one item of a list
+abbrev pub one_of : List Sexp → Result Sexp TextFault
+one_of [] = Err fault.Empty
+one_of (item ∷ []) = Ok item
+one_of (first ∷ second ∷ others) = Err (fault.Extra (from_of second))
+
+abbrev pub AnswersOne : Result Sexp TextFault → Result Sexp TextFault → Type 0
+AnswersOne (Ok item) answer = answer ≡ Ok item
+AnswersOne (Err which) answer = (which ≡ fault.NoMemory) ⊎ (answer ≡ Err which)
+
+abbrev pub one_in : Result (List Sexp) TextFault → Result Sexp TextFault
+one_in (Ok items) = one_of items
+one_in (Err which) = Err which

@@ -7,7 +7,9 @@
 mod bytes;
 mod items;
 mod reader;
+mod reading;
 mod rows;
 
 pub use ff_name::{NoMemory, Text};
 pub use items::{Items, Sexp, Span, TextFault};
+pub use reading::{MOST_BYTES, read, read_items};

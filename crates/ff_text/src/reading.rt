@@ -1,0 +1,85 @@
+ghost use Rattle.std.specs.Prelude.{◌≡◌, ◌≤◌, ◌⊎◌, ◌∷◌, [], List, IfOk, IfErr, length};
+ghost use Rattle.ff_text.specs.declared.items.Sexp.{Sexp};
+ghost use Rattle.ff_text.specs.declared.items.TextFault.{TextFault};
+ghost use Rattle.ff_text.specs.Faults.{FirstFault, SingleFault, from_of};
+ghost use Rattle.ff_text.specs.Machine.{Answers, AnswersOne, one_in, one_of, verdict};
+ghost use Rattle.ff_text.specs.Notation.{SpellsItems};
+
+use crate::items::{Items, Sexp, TextFault};
+use crate::reader::Reader;
+use std::alloc::Global;
+
+/// The most bytes that a text may have.
+pub const MOST_BYTES: usize = 1_048_576;
+
+/// Reads all items of a text. Its faults are those of the text, the first from the left, and never
+/// `Empty`.
+pub fn read_items(alloc: Global, bytes: &[u8]) -> Result<Items, TextFault>
+    requires { length bytes.now ≤ MOST_BYTES }
+    ensures found { IfOk result (SpellsItems bytes.now) }
+    ensures only { (items : List Sexp) → SpellsItems bytes.now items → (result ≡ Ok items) ⊎ (result ≡ Err TextFault.NoMemory) }
+    ensures fault { IfErr result (λ fault. (fault ≡ TextFault.NoMemory) ⊎ FirstFault bytes.now fault) }
+    ensures exact { (fault : TextFault) → FirstFault bytes.now fault → (result ≡ Err fault) ⊎ (result ≡ Err TextFault.NoMemory) }
+{
+    read_whole(alloc, bytes)
+}
+
+/// Reads a text that is one item. After the faults of the text come `Empty`, and `Extra` at the
+/// second item.
+pub fn read(alloc: Global, bytes: &[u8]) -> Result<Sexp, TextFault>
+    requires { length bytes.now ≤ MOST_BYTES }
+    ensures found { IfOk result (λ item. SpellsItems bytes.now (item ∷ [])) }
+    ensures only { (item : Sexp) → SpellsItems bytes.now (item ∷ []) → (result ≡ Ok item) ⊎ (result ≡ Err TextFault.NoMemory) }
+    ensures fault { IfErr result (λ fault. (fault ≡ TextFault.NoMemory) ⊎ SingleFault bytes.now fault) }
+    ensures exact { (fault : TextFault) → SingleFault bytes.now fault → (result ≡ Err fault) ⊎ (result ≡ Err TextFault.NoMemory) }
+{
+    read_single(alloc, bytes)
+}
+
+fn read_single(alloc: Global, bytes: &[u8]) -> Result<Sexp, TextFault>
+    requires { length bytes.now ≤ MOST_BYTES }
+    ensures { AnswersOne result (one_in (verdict bytes.now)) }
+{
+    match read_whole(alloc, bytes) {
+        Ok(items) => single(&items),
+        Err(fault) => Err(fault),
+    }
+}
+
+/// The one item of a list.
+fn single(items: &Items) -> Result<Sexp, TextFault>
+    ensures { AnswersOne result (one_of items.now) }
+{
+    match items.as_slice() {
+        [] => Err(TextFault::Empty),
+        [item] => match item.copy() {
+            Ok(item) => Ok(item),
+            Err(_) => Err(TextFault::NoMemory),
+        },
+        [_, second, ..] => Err(TextFault::Extra(place_of(second))),
+    }
+}
+
+fn place_of(item: &Sexp) -> u32
+    ensures { result ≡ from_of item.now }
+{
+    match item {
+        Sexp::Word(span, _) => span.from,
+        Sexp::Str(span, _) => span.from,
+        Sexp::List(span, _) => span.from,
+    }
+}
+
+fn read_whole(alloc: Global, bytes: &[u8]) -> Result<Items, TextFault>
+    requires { length bytes.now ≤ MOST_BYTES }
+    ensures { Answers result (verdict bytes.now) }
+{
+    let mut reader = Reader::new(alloc);
+    for b in bytes {
+        match reader.take(alloc, *b) {
+            Ok(()) => {}
+            Err(fault) => return Err(fault),
+        }
+    }
+    reader.end(alloc)
+}
