@@ -3,6 +3,7 @@ pub mod Back
 pub mod Complete
 pub mod Escapes
 pub mod KindLemmas
+pub mod Layers
 pub mod Meeting
 pub mod NoEscape
 pub mod Room

@@ -25,7 +25,7 @@ unfoldable pub quoted : List ℕ → List ℕ
 quoted value = 34 ∷ (flat_map spelled_byte value ++ 34 ∷ [])
 
 -- an item: one blank stands between the items of a list, and none beside its parentheses
-abbrev spelled_step : Sexp-F (List ℕ) → List ℕ
+abbrev pub spelled_step : Sexp-F (List ℕ) → List ℕ
 spelled_step (Sexp-F.Word at text) = text
 spelled_step (Sexp-F.Str at value) = quoted value
 spelled_step (Sexp-F.List at parts) = 40 ∷ (join_with_byte 32 parts ++ 41 ∷ [])
@@ -34,7 +34,7 @@ abbrev pub spelled : Sexp → List ℕ
 spelled = fold-Sexp (List ℕ) spelled_step
 
 -- an item with no places
-abbrev bare_step : Sexp-F Sexp → Sexp
+abbrev pub bare_step : Sexp-F Sexp → Sexp
 bare_step (Sexp-F.Word at text) = sexp.Word (span 0 0) text
 bare_step (Sexp-F.Str at value) = sexp.Str (span 0 0) value
 bare_step (Sexp-F.List at parts) = sexp.List (span 0 0) parts
@@ -44,11 +44,11 @@ bare = fold-Sexp Sexp bare_step
 
 -- whether an item that stands in so many lists is well spelled: its words are words, its strings are UTF-8, and its
 -- lists nest at most 64 deep
-abbrev is_word : List ℕ → Bool
+abbrev pub is_word : List ℕ → Bool
 is_word [] = false
 is_word (b ∷ bytes) = list_all is_word_byte (b ∷ bytes)
 
-abbrev fits_step : Sexp-F (ℕ → Bool) → ℕ → Bool
+abbrev pub fits_step : Sexp-F (ℕ → Bool) → ℕ → Bool
 fits_step (Sexp-F.Word at text) level = is_word text
 fits_step (Sexp-F.Str at value) level = is_utf8 value
 fits_step (Sexp-F.List at parts) level = nat_lt level 64 && list_all (λ part. part (suc level)) parts
