@@ -1,8 +1,9 @@
 -- The canonical spelling of items.
-use Rattle.std.specs.Prelude.{◌≡◌, ◌<◌, ◌+◌, ◌/◌, ◌%◌, ℕ, suc, Bool, true, false, ◌&&◌, ◌==◌, nat_lt, if◌then◌else◌, List, [], ◌∷◌, ◌++◌, length, IsTrue}
+use Rattle.std.specs.Prelude.{◌≡◌, ◌<◌, ◌+◌, ◌/◌, ◌%◌, ℕ, suc, Bool, true, false, ◌&&◌, ◌==◌, nat_lt, if◌then◌else◌, Result, Ok, Err, List, [], ◌∷◌, ◌++◌, length, IsTrue}
 use Rattle.std.specs.List.{list_all, flat_map, join_with_byte}
 use Rattle.std.specs.Str.{is_utf8}
 use Rattle.std.specs.Char.{is_ascii_control}
+use Rattle.ff_name.specs.Output.{AppendsFront}
 use Rattle.ff_text.specs.Bytes.{is_word_byte}
 use Rattle.ff_text.specs.Notation.{span, hex_digit, SpellsItems}
 use Rattle.ff_text.specs.declared.items.Sexp.{Sexp}
@@ -64,3 +65,17 @@ pub record ReadsBack (bytes : List ℕ) (item : Sexp) : Type 0 where
   pub again : Sexp
   pub spells : SpellsItems bytes (again ∷ [])
   pub same : bare again ≡ bare item
+
+-- the new items are the old ones and these, and after a refusal a front of these
+abbrev pub Appends : {X E : Type 0} → Result X E → List ℕ → List ℕ → List ℕ → Type 0
+Appends (Ok done) old new items = new ≡ old ++ items
+Appends (Err refused) old new items = AppendsFront old new items
+
+-- after a refusal nothing was appended
+abbrev pub AppendsAll : {X E : Type 0} → Result X E → List ℕ → List ℕ → List ℕ → Type 0
+AppendsAll (Ok done) old new items = new ≡ old ++ items
+AppendsAll (Err refused) old new items = new ≡ old
+
+-- what stands before the item at a place
+abbrev pub blank_before : ℕ → List ℕ
+blank_before at = if at == 0 then [] else 32 ∷ []

@@ -6,10 +6,12 @@
 
 mod bytes;
 mod items;
+mod printing;
 mod reader;
 mod reading;
 mod rows;
 
 pub use ff_name::{NoMemory, Text};
 pub use items::{Items, Sexp, Span, TextFault};
+pub use printing::{print, quote};
 pub use reading::{MOST_BYTES, read, read_items};

@@ -1,0 +1,116 @@
+ghost use Rattle.std.specs.Prelude.{◌≡◌, ◌<◌, ◌++◌, ◌∷◌, [], map, OnOk, OnErr, length};
+ghost use Rattle.std.specs.List.{flat_map, join_with_byte};
+ghost use Rattle.ff_name.specs.Output.{AppendsFront};
+ghost use Rattle.ff_text.specs.declared.items.Sexp.TheVariants.{Str};
+ghost use Rattle.ff_text.specs.Notation as notation;
+ghost use Rattle.ff_text.specs.Notation.{SpellsItems, span};
+ghost use Rattle.ff_text.specs.Printed.{Appends, AppendsAll, IsWellSpelled, blank_before, ReadsBack, quoted, spelled, spelled_byte};
+
+use crate::NoMemory;
+use crate::items::Sexp;
+use ff_name::Text;
+
+/// Appends the canonical spelling of an item. After `NoMemory` a front of it was appended.
+pub fn print(item: &Sexp, out: &mut Vec<u8>) -> Result<(), NoMemory>
+    ensures ok { OnOk result (out.new.items ≡ out.old.items ++ spelled item.now) }
+    ensures err { OnErr result (AppendsFront out.old.items out.new.items (spelled item.now)) }
+    // What is printed is read back, in all but the places.
+    ensures again { IsWellSpelled item.now → ReadsBack (spelled item.now) item.now }
+{
+    print_item(item, out)
+}
+
+#[cycle(print)]
+fn print_item(item: &Sexp, out: &mut Vec<u8>) -> Result<(), NoMemory>
+    ensures { Appends result out.old.items out.new.items (spelled item.now) }
+{
+    match item {
+        Sexp::Word(_, text) => put_all(text.as_bytes(), out),
+        Sexp::Str(_, text) => print_str(text.as_bytes(), out),
+        Sexp::List(_, parts) => {
+            put_all(b"(", out)?;
+            print_parts(parts.as_slice(), out)?;
+            put_all(b")", out)
+        }
+    }
+}
+
+/// Appends the items with a blank between each two.
+#[cycle(print)]
+fn print_parts(parts: &[Sexp], out: &mut Vec<u8>) -> Result<(), NoMemory>
+    ensures { Appends result out.old.items out.new.items (join_with_byte 32 (map spelled parts.now)) }
+{
+    for (i, part) in parts.iter().enumerate() {
+        put_blank(i, out)?;
+        print_item(part, out)?;
+    }
+    Ok(())
+}
+
+/// Appends what stands before the item at this place: a blank, and nothing before the first.
+fn put_blank(at: usize, out: &mut Vec<u8>) -> Result<(), NoMemory>
+    ensures { AppendsAll result out.old.items out.new.items (blank_before at) }
+{
+    if at == 0 {
+        Ok(())
+    } else {
+        put_all(b" ", out)
+    }
+}
+
+/// Appends a string with this value, in its canonical spelling. After `NoMemory` a front of it was
+/// appended.
+pub fn quote(text: &Text, out: &mut Vec<u8>) -> Result<(), NoMemory>
+    ensures ok { OnOk result (out.new.items ≡ out.old.items ++ quoted text.now) }
+    ensures err { OnErr result (AppendsFront out.old.items out.new.items (quoted text.now)) }
+    // What is printed is read back, and its places are known.
+    ensures again { SpellsItems (quoted text.now) (Str (span 0 (length (quoted text.now))) text.now ∷ []) }
+{
+    print_str(text.as_bytes(), out)
+}
+
+fn print_str(value: &[u8], out: &mut Vec<u8>) -> Result<(), NoMemory>
+    ensures { Appends result out.old.items out.new.items (quoted value.now) }
+{
+    put_all(b"\"", out)?;
+    for b in value {
+        put_byte(*b, out)?;
+    }
+    put_all(b"\"", out)
+}
+
+/// Appends what stands for a byte of a string's value.
+fn put_byte(b: u8, out: &mut Vec<u8>) -> Result<(), NoMemory>
+    ensures { AppendsAll result out.old.items out.new.items (spelled_byte b) }
+{
+    if b == b'"' {
+        put_all(b"\\\"", out)
+    } else if b == b'\\' {
+        put_all(b"\\\\", out)
+    } else if b == b'\n' {
+        put_all(b"\\n", out)
+    } else if b == b'\t' {
+        put_all(b"\\t", out)
+    } else if b.is_ascii_control() {
+        put_all(&[b'\\', b'x', hex_digit(b / 16), hex_digit(b % 16)], out)
+    } else {
+        put_all(&[b], out)
+    }
+}
+
+fn hex_digit(digit: u8) -> u8
+    requires { digit < 16 }
+    ensures { result ≡ notation.hex_digit digit }
+{
+    if digit < 10 {
+        b'0' + digit
+    } else {
+        b'a' - 10 + digit
+    }
+}
+
+fn put_all(bytes: &[u8], out: &mut Vec<u8>) -> Result<(), NoMemory>
+    ensures { AppendsAll result out.old.items out.new.items bytes.now }
+{
+    out.extend_from_slice(bytes)
+}
