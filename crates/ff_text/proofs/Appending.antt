@@ -15,11 +15,11 @@ front_done old new all done rest e cut = record { front = done; rest = rest; cut
 -- a front of what comes after what was appended
 pub front_after : (old mid new all done item rest : List ℕ) → mid ≡ old ++ done → all ≡ done ++ (item ++ rest) → AppendsFront mid new item → AppendsFront old new all
 front_after old mid new all done item rest e cut front = record {
-    front = done ++ front.front;
-    rest = front.rest ++ rest;
-    cut = cut ∙ ap (λ bs. done ++ (bs ++ rest)) front.cut ∙ ap (λ bs. done ++ bs) (append_assoc front.front front.rest rest) ∙ sym (append_assoc done front.front (front.rest ++ rest));
-    appended = front.appended ∙ ap (λ bs. bs ++ front.front) e ∙ append_assoc old done front.front;
-  }
+  front = done ++ front.front;
+  rest = front.rest ++ rest;
+  cut = cut ∙ ap (λ bs. done ++ (bs ++ rest)) front.cut ∙ ap (λ bs. done ++ bs) (append_assoc front.front front.rest rest) ∙ sym (append_assoc done front.front (front.rest ++ rest));
+  appended = front.appended ∙ ap (λ bs. bs ++ front.front) e ∙ append_assoc old done front.front;
+}
 
 pub appends_err : {X E : Type 0} (answer : Result X E) (old new all : List ℕ) → IsErr answer → AppendsFront old new all → Appends answer old new all
 appends_err (Ok done) old new all err front = cc
@@ -41,8 +41,8 @@ quoted-is value = refl
 pub quoted_cut : (value : List ℕ) (i : ℕ) → quoted value ≡ (34 ∷ flat_map spelled_byte (take i value)) ++ (flat_map spelled_byte (drop i value) ++ 34 ∷ [])
 quoted_cut value i =
     quoted-is value
-        ∙ ap (λ bs. 34 ∷ (bs ++ 34 ∷ [])) (ap (flat_map spelled_byte) (sym (take-append-drop i value)) ∙ flat_map-append spelled_byte (take i value) (drop i value))
-        ∙ ap (λ bs. 34 ∷ bs) (append_assoc (flat_map spelled_byte (take i value)) (flat_map spelled_byte (drop i value)) (34 ∷ []))
+    ∙ ap (λ bs. 34 ∷ (bs ++ 34 ∷ [])) (ap (flat_map spelled_byte) (sym (take-append-drop i value)) ∙ flat_map-append spelled_byte (take i value) (drop i value))
+    ∙ ap (λ bs. 34 ∷ bs) (append_assoc (flat_map spelled_byte (take i value)) (flat_map spelled_byte (drop i value)) (34 ∷ []))
 
 pub quoted_all : (value : List ℕ) (i : ℕ) → length value ≤ i → quoted value ≡ (34 ∷ flat_map spelled_byte (take i value)) ++ 34 ∷ []
 quoted_all value i past = quoted-is value ∙ ap (λ bs. 34 ∷ (flat_map spelled_byte bs ++ 34 ∷ [])) (sym (take_all i value past))
@@ -55,8 +55,8 @@ join_snoc [] part = refl
 join_snoc (first ∷ []) part = refl
 join_snoc (first ∷ second ∷ parts) part =
     ap (λ bs. first ++ 32 ∷ bs) (join_snoc (second ∷ parts) part)
-        ∙ sym (append_assoc first (32 ∷ join_with_byte 32 (second ∷ parts)) (blank_before (suc (length parts)) ++ part))
-        ∙ ap (λ bs. (first ++ 32 ∷ join_with_byte 32 (second ∷ parts)) ++ (bs ++ part)) (blank_before-suc (length parts) ∙ sym (blank_before-suc (suc (length parts))))
+    ∙ sym (append_assoc first (32 ∷ join_with_byte 32 (second ∷ parts)) (blank_before (suc (length parts)) ++ part))
+    ∙ ap (λ bs. (first ++ 32 ∷ join_with_byte 32 (second ∷ parts)) ++ (bs ++ part)) (blank_before-suc (length parts) ∙ sym (blank_before-suc (suc (length parts))))
 
 map_snoc : (items : List Sexp) (item : Sexp) → map spelled (items ++ item ∷ []) ≡ map spelled items ++ spelled item ∷ []
 map_snoc [] item = refl
@@ -74,9 +74,9 @@ joined items = join_with_byte 32 (map spelled items)
 pub joined_more : (items : List Sexp) (i : ℕ) (d : Sexp) → i < length items → joined (take (i + 1) items) ≡ joined (take i items) ++ (blank_before i ++ spelled (get_or items i d))
 joined_more items i d inside =
     ap joined (take_more items i d inside)
-        ∙ ap (join_with_byte 32) (map_snoc (take i items) (get_or items i d))
-        ∙ join_snoc (map spelled (take i items)) (spelled (get_or items i d))
-        ∙ ap (λ n. joined (take i items) ++ (blank_before n ++ spelled (get_or items i d))) (length-take-map i items (omega arith))
+    ∙ ap (join_with_byte 32) (map_snoc (take i items) (get_or items i d))
+    ∙ join_snoc (map spelled (take i items)) (spelled (get_or items i d))
+    ∙ ap (λ n. joined (take i items) ++ (blank_before n ++ spelled (get_or items i d))) (length-take-map i items (omega arith))
 
 -- what is joined begins with what its front is joined to
 pub record BeginsWith (whole front : List ℕ) : Type 0 where

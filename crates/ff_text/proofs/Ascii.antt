@@ -1,7 +1,7 @@
 -- Words are ASCII, and so UTF-8.
 use Rattle.std.proofs.Common.{◌≡◌, ℕ, ◌<◌, Bool, true, false, List, arith, get_or, refl}
 use Rattle.std.specs.List.{list_all}
-use Rattle.std.specs.Str.{IsAscii, IsUtf8, is_utf8}
+use Rattle.std.specs.Str.{IsUtf8, is_utf8}
 use Rattle.std.proofs.lemmas.Str.{IsUtf8-from_ascii, IsUtf8-from_is_utf8}
 use Rattle.std.proofs.lemmas.Str.Ascii.{IsAscii-from_all}
 use Rattle.std.proofs.lemmas.List.Sums.{AllPass-from_list_all}
@@ -14,7 +14,6 @@ word_low b h = grind (arith, nat_tests)
 pub IsUtf8-word : (bytes : List ℕ) → list_all is_word_byte bytes ≡ true → IsUtf8 bytes
 IsUtf8-word bytes h =
     IsUtf8-from_ascii bytes (IsAscii-from_all bytes (λ k d inside. word_low (get_or bytes k d) (AllPass-from_list_all is_word_byte bytes h k d inside)))
-
 
 -- what a UTF-8 check says, as a test
 pub is_utf8-not : (bytes : List ℕ) → ¬ IsUtf8 bytes → is_utf8 bytes ≡ false

@@ -35,7 +35,7 @@ rest_spelling : (b : ℕ) → b ≢ 34 → b ≢ 92 → b ≢ 10 → b ≢ 9 →
 rest_spelling b m s n t true e =
     let is : spelled_byte b ≡ 92 ∷ 120 ∷ hex_digit (b / 16) ∷ hex_digit (b % 16) ∷ [] = grind (arith, nat_tests) in
     subst (ByteSpelling b) (sym is) (by_escape (120 ∷ hex_digit (b / 16) ∷ hex_digit (b % 16) ∷ [])
-        (subst (Escape (120 ∷ hex_digit (b / 16) ∷ hex_digit (b % 16) ∷ [])) (joined b) (hex (b / 16) (b % 16) (high_small b e) (low_small b))))
+    (subst (Escape (120 ∷ hex_digit (b / 16) ∷ hex_digit (b % 16) ∷ [])) (joined b) (hex (b / 16) (b % 16) (high_small b e) (low_small b))))
 rest_spelling b m s n t false e =
     let is : spelled_byte b ≡ b ∷ [] = grind (arith, nat_tests) in
     subst (ByteSpelling b) (sym is) (by_itself m s e)
@@ -43,17 +43,17 @@ rest_spelling b m s n t false e =
 byte_spelling : (b : ℕ) → ByteSpelling b (spelled_byte b)
 byte_spelling b =
     elim (eqb_tells b 34) [
-        inl is ↦ subst (λ c. ByteSpelling c (spelled_byte c)) (sym is.1) (by_escape (34 ∷ []) mark)
+      | inl is ↦ subst (λ c. ByteSpelling c (spelled_byte c)) (sym is.1) (by_escape (34 ∷ []) mark)
       | inr m ↦ elim (eqb_tells b 92) [
-          inl is ↦ subst (λ c. ByteSpelling c (spelled_byte c)) (sym is.1) (by_escape (92 ∷ []) backslash)
+        | inl is ↦ subst (λ c. ByteSpelling c (spelled_byte c)) (sym is.1) (by_escape (92 ∷ []) backslash)
         | inr s ↦ elim (eqb_tells b 10) [
-            inl is ↦ subst (λ c. ByteSpelling c (spelled_byte c)) (sym is.1) (by_escape (110 ∷ []) newline)
+          | inl is ↦ subst (λ c. ByteSpelling c (spelled_byte c)) (sym is.1) (by_escape (110 ∷ []) newline)
           | inr n ↦ elim (eqb_tells b 9) [
-              inl is ↦ subst (λ c. ByteSpelling c (spelled_byte c)) (sym is.1) (by_escape (116 ∷ []) tab)
+            | inl is ↦ subst (λ c. ByteSpelling c (spelled_byte c)) (sym is.1) (by_escape (116 ∷ []) tab)
             | inr t ↦ rest_spelling b m.1 s.1 n.1 t.1 (is_ascii_control b) refl
-            ]
           ]
         ]
+      ]
     ]
 
 value_byte : (body value : List ℕ) (b : ℕ) (bytes : List ℕ) → ByteSpelling b bytes → Value body value → Value (body ++ bytes) (value ++ b ∷ [])
@@ -65,7 +65,7 @@ value_more [] body value v = subst (λ bs. Value bs (value ++ [])) (sym (append-
 value_more (b ∷ more) body value v =
     let rest = value_more more (body ++ spelled_byte b) (value ++ b ∷ []) (value_byte body value b (spelled_byte b) (byte_spelling b) v) in
     subst (λ bs. Value bs (value ++ b ∷ more)) (append_assoc body (spelled_byte b) (flat_map spelled_byte more))
-        (subst (Value ((body ++ spelled_byte b) ++ flat_map spelled_byte more)) (append_assoc value (b ∷ []) more) rest)
+    (subst (Value ((body ++ spelled_byte b) ++ flat_map spelled_byte more)) (append_assoc value (b ∷ []) more) rest)
 
 -- the canonical spelling of a string's value is one of its spellings
 pub value_spelled : (value : List ℕ) → Value (flat_map spelled_byte value) value
@@ -126,12 +126,12 @@ AllFit level parts = list_all (λ (part : ℕ → Bool). part level) (map fits_a
 
 parts_printed : (parts : List Sexp) → Each IsPrinted parts → (level from at : ℕ) (bytes : List ℕ) (items : List Sexp) → Spells level from at bytes items false → AllFit level parts → PartsAt level from bytes items parts
 parts_printed [] each level from at bytes items before fit = record {
-    again = [];
-    end = at;
-    ended = false;
-    spells = subst (λ bs. Spells level from at bs (items ++ []) false) (sym (append-nil bytes)) (subst (λ all. Spells level from at bytes all false) (sym (append-nil items)) before);
-    same = refl;
-  }
+  again = [];
+  end = at;
+  ended = false;
+  spells = subst (λ bs. Spells level from at bs (items ++ []) false) (sym (append-nil bytes)) (subst (λ all. Spells level from at bytes all false) (sym (append-nil items)) before);
+  same = refl;
+}
 parts_printed (part ∷ []) each level from at bytes items before fit =
     let one = each.0 level from at bytes items before (and_parts (fits_at part level) true fit).0 in
     record { again = one.again ∷ []; end = one.end; ended = one.ended; spells = one.spells; same = ap (λ (p : Sexp). p ∷ []) one.same }
@@ -185,5 +185,5 @@ string_back value utf8 =
       ended = false;
       spells = subst (λ n. Spells 0 0 n (quoted value) (sexp.Str (span 0 n) value ∷ []) false) end
           (subst (λ bs. Spells 0 0 (0 + 1 + length body + 1) bs (sexp.Str (span 0 (0 + 1 + length body + 1)) value ∷ []) false) (sym (quoted-is value))
-              (a_string 0 0 0 [] [] false body value (nothing 0 0) (value_spelled value) utf8));
+          (a_string 0 0 0 [] [] false body value (nothing 0 0) (value_spelled value) utf8));
     }

@@ -1,20 +1,17 @@
 -- What the grammar spells, the reader reads.
-use Rattle.std.proofs.Common.{◌≡◌, ◌≢◌, ◌<◌, ◌≤◌, ◌+◌, ◌*◌, ℕ, suc, zero, Bool, true, false, cond, nat_lt, Result, Ok, Err, Some, None, List, [], ◌∷◌, ◌++◌, length, map, refl, sym, ◌∙◌, ap, subst, arith, append_assoc, append-nil, length-append, add-zero}
-use Rattle.std.specs.Str.{IsUtf8, is_utf8}
+use Rattle.std.proofs.Common.{◌≡◌, ◌<◌, ◌+◌, ℕ, suc, Bool, true, false, nat_lt, Ok, Err, List, [], ◌∷◌, ◌++◌, length, refl, sym, ◌∙◌, ap, subst, arith, append_assoc}
 use Rattle.std.proofs.lemmas.Str.{is_utf8-from_IsUtf8}
 use Rattle.std.proofs.lemmas.Bool.Decides.{nat_tests}
 use Rattle.ff_text.specs.declared.items.Sexp.{Sexp}
-use Rattle.ff_text.specs.declared.items.Sexp.TheVariants.{Word, Str, List as Parens}
-use Rattle.ff_text.specs.declared.items.TextFault.{TextFault}
+use Rattle.ff_text.specs.declared.items.Sexp.TheVariants.{Str, List as Parens}
 use Rattle.ff_text.specs.declared.items.TextFault.TheVariants as fault
 use Rattle.ff_text.specs.declared.bytes.Kind.TheVariants as kind
 use Rattle.ff_text.specs.declared.reader.Reader.{Reader}
 use Rattle.ff_text.specs.declared.reader.Opened.{Opened}
-use Rattle.ff_text.specs.declared.reader.Mode.TheVariants as mode
 use Rattle.ff_text.specs.Kinds.{kind_of, in_str_of}
-use Rattle.ff_text.specs.Notation.{span, Value, Spells, nothing, blank, a_word, a_string, a_list, SpellsItems}
-use Rattle.ff_text.specs.Machine.{advance, step, finish, end_items, start, outside_kind, open_list, end_str, verdict, verdict_of}
-use Rattle.ff_text.proofs.Standing.{between, wording, in_mode, Stands, StandsInWord, advance-none, advance-more, advance-then, step_stands, finish_stands, word_run}
+use Rattle.ff_text.specs.Notation.{span, Spells, nothing, blank, a_word, a_string, a_list, SpellsItems}
+use Rattle.ff_text.specs.Machine.{advance, step, outside_kind, open_list, end_str, verdict, verdict_of}
+use Rattle.ff_text.proofs.Standing.{between, wording, Stands, advance-none, advance-more, advance-then, step_stands, finish_stands, word_run}
 use Rattle.ff_text.proofs.Strings.{quoting, value_run}
 use Rattle.ff_text.proofs.Steps.{end_str-good}
 

@@ -1,8 +1,7 @@
 -- What has begun an escape, and which byte none goes on with.
-use Rattle.std.proofs.Common.{◌≡◌, ◌≢◌, ◌⊎◌, ◌<◌, ◌≤◌, ◌+◌, ◌*◌, ◌==◌, ℕ, suc, zero, Bool, true, false, Result, Ok, Err, Option, Some, None, List, [], ◌∷◌, ◌++◌, length, refl, sym, ◌∙◌, ap, subst, inl, inr, arith, append_assoc, length-append, lit<}
+use Rattle.std.proofs.Common.{◌≡◌, ◌≢◌, ◌<◌, ◌+◌, ◌*◌, ℕ, Err, Option, Some, None, List, [], ◌∷◌, ◌++◌, length, refl, sym, ◌∙◌, ap, subst, inl, inr, arith, length-append, lit<}
 use Rattle.std.proofs.lemmas.Bool.Decides.{nat_tests, eqb_tells}
 use Rattle.ff_text.specs.declared.items.Sexp.{Sexp}
-use Rattle.ff_text.specs.declared.items.TextFault.{TextFault}
 use Rattle.ff_text.specs.declared.items.TextFault.TheVariants as fault
 use Rattle.ff_text.specs.declared.bytes.Slashed.{Slashed}
 use Rattle.ff_text.specs.declared.bytes.Slashed.TheVariants as slashed
@@ -37,10 +36,11 @@ hex_front place slash high low small (a ∷ []) next rest e =
     (mode.Hex place slash, subst (λ k. EscapeMode place slash (k ∷ []) (mode.Hex place slash)) head x_read)
 hex_front place slash high low small (a ∷ c ∷ []) next rest e =
     let head : 120 ≡ a = cc in
-    let digit : hex_digit high ≡ c = cc in
-    (mode.Digit place slash high,
-     subst (λ k. EscapeMode place slash (k ∷ c ∷ []) (mode.Digit place slash high)) head
-         (subst (λ d. EscapeMode place slash (120 ∷ d ∷ []) (mode.Digit place slash high)) digit (digit_read high small)))
+    let digit : hex_digit high ≡ c = cc in (
+      mode.Digit place slash high,
+      subst (λ k. EscapeMode place slash (k ∷ c ∷ []) (mode.Digit place slash high)) head
+          (subst (λ d. EscapeMode place slash (120 ∷ d ∷ []) (mode.Digit place slash high)) digit (digit_read high small)),
+    )
 hex_front place slash high low small (a ∷ c ∷ d ∷ more) next rest e =
     let end : more ++ next ∷ rest ≡ [] = cc in absurd (none_follows more next rest end)
 
@@ -94,17 +94,17 @@ short_at b byte value made same escape is = subst (λ v. Escape (b ∷ []) v) is
 pub short_escape : (b value : ℕ) → slashed_of b ≡ slashed.Short value → Escape (b ∷ []) value
 short_escape b value e =
     elim (eqb_tells b 34) [
-        inl is ↦ short_at b 34 value 34 is.1 mark (at_mark value (ap slashed_of (sym is.1) ∙ e))
+      | inl is ↦ short_at b 34 value 34 is.1 mark (at_mark value (ap slashed_of (sym is.1) ∙ e))
       | inr m ↦ elim (eqb_tells b 92) [
-          inl is ↦ short_at b 92 value 92 is.1 backslash (at_backslash value (ap slashed_of (sym is.1) ∙ e))
+        | inl is ↦ short_at b 92 value 92 is.1 backslash (at_backslash value (ap slashed_of (sym is.1) ∙ e))
         | inr s ↦ elim (eqb_tells b 110) [
-            inl is ↦ short_at b 110 value 10 is.1 newline (at_newline value (ap slashed_of (sym is.1) ∙ e))
+          | inl is ↦ short_at b 110 value 10 is.1 newline (at_newline value (ap slashed_of (sym is.1) ∙ e))
           | inr n ↦ elim (eqb_tells b 116) [
-              inl is ↦ short_at b 116 value 9 is.1 tab (at_tab value (ap slashed_of (sym is.1) ∙ e))
+            | inl is ↦ short_at b 116 value 9 is.1 tab (at_tab value (ap slashed_of (sym is.1) ∙ e))
             | inr t ↦ absurd (short_none b value m.1 s.1 n.1 t.1 e)
-            ]
           ]
         ]
+      ]
     ]
 
 -- no escape goes on with the byte

@@ -1,16 +1,15 @@
 -- Which bytes are of which kind.
-use Rattle.std.proofs.Common.{◌≡◌, ◌≢◌, ◌<◌, ◌≤◌, ◌+◌, ◌-◌, ◌*◌, ℕ, Bool, true, false, Option, Some, None, List, [], ◌∷◌, refl, sym, ◌∙◌, ap, subst, arith}
-use Rattle.std.specs.Char.{is_ascii_graphic, is_ascii_control, is_ascii_digit}
+use Rattle.std.proofs.Common.{◌≡◌, ◌≢◌, ◌<◌, ℕ, true, false, Some, arith}
+use Rattle.std.specs.Char.{is_ascii_graphic, is_ascii_control}
 use Rattle.std.proofs.lemmas.Bool.Decides.{nat_tests}
 use Rattle.ff_text.specs.declared.bytes.Kind.{Kind}
 use Rattle.ff_text.specs.declared.bytes.Kind.TheVariants as kind
 use Rattle.ff_text.specs.declared.bytes.InStr.{InStr}
 use Rattle.ff_text.specs.declared.bytes.InStr.TheVariants as str
-use Rattle.ff_text.specs.declared.bytes.Slashed.{Slashed}
 use Rattle.ff_text.specs.declared.bytes.Slashed.TheVariants as slashed
 use Rattle.ff_text.specs.Bytes.{is_word_byte}
 use Rattle.ff_text.specs.Kinds.{kind_of, in_str_of, slashed_of, high_digit, low_digit}
-use Rattle.ff_text.specs.Notation.{hex_digit, IsPlain, Escape, mark, backslash, newline, tab, hex}
+use Rattle.ff_text.specs.Notation.{hex_digit, IsPlain}
 use Rattle.ff_text.specs.Faults.{IsStray}
 
 pub kind_of-word : (b : ℕ) → is_word_byte b ≡ true → kind_of b ≡ kind.InWord

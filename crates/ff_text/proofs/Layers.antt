@@ -1,5 +1,5 @@
 -- One layer of an item: what is defined by a fold, and induction.
-use Rattle.std.proofs.Common.{◌≡◌, ℕ, suc, Bool, nat_lt, ◌&&◌, List, ◌∷◌, ◌++◌, [], map, refl, subst}
+use Rattle.std.proofs.Common.{◌≡◌, ℕ, suc, Bool, nat_lt, ◌&&◌, List, ◌∷◌, ◌++◌, [], map, subst}
 use Rattle.std.specs.List.{join_with_byte, list_all}
 use Rattle.std.specs.Str.{is_utf8}
 use denote.Hole.Carrier
@@ -62,6 +62,7 @@ items_ind P words strings lists item = ind-Sexp P (λ x y e. subst (λ d. P (rol
   each : (parts : List (Such the_family (claims P) member-Sexp)) → Each P (map (λ e. e.0) parts)
   each [] = tt
   each (e ∷ parts) = (e.1, each parts)
+
   layer : (y : Sexp-F (Such the_family (claims P) member-Sexp)) → P (roll-Sexp (map-Sexp (Such the_family (claims P) member-Sexp) Sexp (λ e. e.0) y))
   layer (Sexp-F.Word at text) = words at text
   layer (Sexp-F.Str at value) = strings at value

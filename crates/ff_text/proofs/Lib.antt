@@ -9,6 +9,7 @@ pub mod Meeting
 pub mod NoEscape
 pub mod Room
 pub mod Sound
+pub mod Spelled
 pub mod Standing
 pub mod Steps
 pub mod Strings

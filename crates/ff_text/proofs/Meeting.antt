@@ -1,29 +1,25 @@
 -- A prefix that meets a fault stops the reader there, and an unclosed text does at its end.
-use Rattle.std.proofs.Common.{◌≡◌, ◌≢◌, ◌⊎◌, ◌<◌, ◌≤◌, ◌+◌, ℕ, suc, zero, Bool, true, false, Result, Ok, Err, List, [], ◌∷◌, ◌++◌, length, map, refl, sym, ◌∙◌, ap, subst, arith, append_assoc, length-append}
+use Rattle.std.proofs.Common.{◌≡◌, ◌<◌, ◌+◌, ℕ, suc, Bool, true, Ok, Err, List, [], ◌∷◌, ◌++◌, length, map, refl, sym, ◌∙◌, ap, subst, append_assoc}
 use Rattle.std.proofs.lemmas.List.{length-map}
-use Rattle.std.specs.Str.{IsUtf8, is_utf8}
 use Rattle.std.specs.Char.{is_ascii_control}
 use Rattle.ff_text.specs.declared.items.Sexp.{Sexp}
 use Rattle.ff_text.specs.declared.items.TextFault.{TextFault}
 use Rattle.ff_text.specs.declared.items.TextFault.TheVariants as fault
 use Rattle.ff_text.specs.declared.bytes.InStr.{InStr}
-use Rattle.ff_text.specs.declared.bytes.InStr.TheVariants as str
 use Rattle.ff_text.specs.declared.bytes.Kind.TheVariants as kind
 use Rattle.ff_text.specs.declared.reader.Reader.{Reader}
 use Rattle.ff_text.specs.declared.reader.Opened.{Opened}
 use Rattle.ff_text.specs.declared.reader.Mode.{Mode}
 use Rattle.ff_text.specs.declared.reader.Mode.TheVariants as mode
-use Rattle.ff_text.specs.Kinds.{kind_of, in_str_of}
-use Rattle.ff_text.specs.Notation.{Spells, Value, hex_digit}
-use Rattle.ff_text.specs.Faults.{Unfinished, at_top, within, InString, in_string, InEscape, in_escape, IsStray, Meets, extra, too_deep, bad_byte, bad_byte_in_string, bad_utf8, bad_escape, IsUnclosed, in_a_list, in_a_string, in_an_escape}
-use Rattle.ff_text.specs.Machine.{advance, step, start, finish, verdict, verdict_of, in_str_kind, end_items}
+use Rattle.ff_text.specs.Faults.{Unfinished, at_top, within, InString, in_string, InEscape, in_escape, Meets, extra, too_deep, bad_byte, bad_byte_in_string, bad_utf8, bad_escape, IsUnclosed, in_a_list, in_a_string, in_an_escape}
+use Rattle.ff_text.specs.Machine.{advance, step, start, finish, verdict, verdict_of, in_str_kind}
 use Rattle.ff_text.proofs.Ascii.{is_utf8-not}
 use Rattle.ff_text.proofs.KindLemmas.{kind_of-stray, in_str_of-control}
-use Rattle.ff_text.proofs.Standing.{between, in_mode, Stands, advance-more, advance-then, step_stands, finish_stands}
+use Rattle.ff_text.proofs.Standing.{in_mode, Stands, advance-more, advance-then, step_stands, finish_stands}
 use Rattle.ff_text.proofs.Strings.{quoting, value_run, step_backslash, step_x, step_high}
 use Rattle.ff_text.proofs.Steps.{end_str-bad}
 use Rattle.ff_text.proofs.Escapes.{EscapeMode, slash_read, x_read, digit_read, begun_mode, step_bad_escape}
-use Rattle.ff_text.proofs.Complete.{Reaches, complete, step_open, step_deep, step_extra, step_quote, step_mark}
+use Rattle.ff_text.proofs.Complete.{complete, step_open, step_deep, step_extra, step_quote, step_mark}
 
 -- the reader after bytes that end outside strings
 record Halts (opens : List ℕ) (to : ℕ) (bytes : List ℕ) : Type 0 where

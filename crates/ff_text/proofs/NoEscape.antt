@@ -1,7 +1,6 @@
 -- Where the reader finds no escape, none goes on so.
-use Rattle.std.proofs.Common.{◌≡◌, ◌≢◌, ◌⊎◌, ◌<◌, ◌≤◌, ◌+◌, ◌*◌, ℕ, suc, zero, Bool, true, false, Option, Some, None, List, [], ◌∷◌, ◌++◌, length, refl, sym, ◌∙◌, ap, subst, arith}
+use Rattle.std.proofs.Common.{◌≡◌, ◌≢◌, ℕ, Option, Some, None, List, [], ◌∷◌, refl, ◌∙◌, ap, arith}
 use Rattle.std.proofs.lemmas.Bool.Decides.{nat_tests}
-use Rattle.ff_text.specs.declared.bytes.Slashed.{Slashed}
 use Rattle.ff_text.specs.declared.bytes.Slashed.TheVariants as slashed
 use Rattle.ff_text.specs.Kinds.{slashed_of, high_digit, low_digit}
 use Rattle.ff_text.specs.Notation.{hex_digit, Escape, mark, backslash, newline, tab, hex}

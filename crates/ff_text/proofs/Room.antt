@@ -1,5 +1,5 @@
 -- A byte takes the reader one place on.
-use Rattle.std.proofs.Common.{◌≡◌, ◌<◌, ◌≤◌, ◌+◌, ◌-◌, ◌^◌, ℕ, Bool, true, false, nat_lt, Result, Ok, Err, Option, Some, None, List, [], ◌∷◌, length, take, drop, get_or, refl, sym, ◌∙◌, ap, subst, arith}
+use Rattle.std.proofs.Common.{◌≡◌, ◌<◌, ◌≤◌, ◌+◌, ℕ, Bool, true, false, nat_lt, Result, Ok, Err, Option, Some, None, List, [], ◌∷◌, length, take, drop, get_or, refl, sym, ◌∙◌, ap, subst}
 use Rattle.std.proofs.lemmas.List.{take_more, take_all, take-append-drop}
 use Rattle.std.specs.Str.{is_utf8}
 use Rattle.ff_text.specs.declared.items.TextFault.{TextFault}
@@ -91,18 +91,19 @@ ReadsBefore bytes i r = (advance (take i bytes) (Ok start) ≡ Ok r) × (r.at �
 
 pub reads_more : (bytes : List ℕ) (i : ℕ) (r next : Reader) → ReadsBefore bytes i r → i < length bytes → step r (get_or bytes i 0) ≡ Ok next → ReadsBefore bytes (i + 1) next
 reads_more bytes i r next before inside e =
-    let one = grown r.at next (step r (get_or bytes i 0)) (step_grows r (get_or bytes i 0) before.2) e in
-    ( ap (λ bs. advance bs (Ok start)) (take_more bytes i 0 inside) ∙ advance-more (take i bytes) (get_or bytes i 0) (Ok start) r before.0 ∙ e
-    , one.0 ∙ ap (λ n. n + 1) before.1
-    , one.1 )
+    let one = grown r.at next (step r (get_or bytes i 0)) (step_grows r (get_or bytes i 0) before.2) e in (
+      ap (λ bs. advance bs (Ok start)) (take_more bytes i 0 inside) ∙ advance-more (take i bytes) (get_or bytes i 0) (Ok start) r before.0 ∙ e,
+      one.0 ∙ ap (λ n. n + 1) before.1,
+      one.1,
+    )
 
 -- a byte that stops the reader stops it for all of the bytes
 pub stops_all : (bytes : List ℕ) (i : ℕ) (r : Reader) (which : TextFault) → ReadsBefore bytes i r → i < length bytes → step r (get_or bytes i 0) ≡ Err which → verdict bytes ≡ Err which
 stops_all bytes i r which before inside e =
     ap (λ bs. verdict bs) (sym (take-append-drop (i + 1) bytes))
-        ∙ ap verdict_of (advance-append (take (i + 1) bytes) (drop (i + 1) bytes) (Ok start)
-            ∙ ap (advance (drop (i + 1) bytes)) (ap (λ bs. advance bs (Ok start)) (take_more bytes i 0 inside) ∙ advance-more (take i bytes) (get_or bytes i 0) (Ok start) r before.0 ∙ e)
-            ∙ advance-err (drop (i + 1) bytes) which)
+    ∙ ap verdict_of (advance-append (take (i + 1) bytes) (drop (i + 1) bytes) (Ok start)
+    ∙ ap (advance (drop (i + 1) bytes)) (ap (λ bs. advance bs (Ok start)) (take_more bytes i 0 inside) ∙ advance-more (take i bytes) (get_or bytes i 0) (Ok start) r before.0 ∙ e)
+    ∙ advance-err (drop (i + 1) bytes) which)
 
 pub reads_none : (bytes : List ℕ) → ReadsBefore bytes 0 start
 reads_none bytes = (advance-none (Ok start), refl, tt)

@@ -1,7 +1,6 @@
 -- What the reader has read is spelled so far, and where it stops a fault is met.
-use Rattle.std.proofs.Common.{◌≡◌, ◌≢◌, ◌⊎◌, ◌<◌, ◌≤◌, ◌+◌, ◌*◌, ℕ, suc, zero, Bool, true, false, nat_lt, Result, Ok, Err, Option, Some, None, List, [], ◌∷◌, ◌++◌, length, map, refl, sym, ◌∙◌, ap, subst, arith, append_assoc, append-nil, length-append, add-zero}
-use Rattle.std.specs.List.{list_all}
-use Rattle.std.specs.Str.{IsUtf8, is_utf8}
+use Rattle.std.proofs.Common.{◌≡◌, ◌<◌, ◌≤◌, ◌+◌, ◌*◌, ℕ, suc, Bool, true, false, nat_lt, Result, Ok, Err, Option, Some, None, List, [], ◌∷◌, ◌++◌, length, map, refl, sym, ◌∙◌, ap, subst, arith, append_assoc, length-append, add-zero}
+use Rattle.std.specs.Str.{is_utf8}
 use Rattle.std.proofs.lemmas.List.{length-map}
 use Rattle.std.proofs.lemmas.List.Folds.{list_all-append}
 use Rattle.std.proofs.lemmas.Bool.{and_from}
@@ -10,7 +9,6 @@ use Rattle.std.proofs.lemmas.Str.{IsUtf8-from_is_utf8, is_utf8-from_IsUtf8}
 use Rattle.ff_text.specs.declared.items.Sexp.{Sexp}
 use Rattle.ff_text.specs.declared.items.Sexp.TheVariants.{Word, Str, List as Parens}
 use Rattle.ff_text.specs.declared.items.TextFault.{TextFault}
-use Rattle.ff_text.specs.declared.items.TextFault.TheVariants as fault
 use Rattle.ff_text.specs.declared.bytes.Kind.{Kind}
 use Rattle.ff_text.specs.declared.bytes.Kind.TheVariants as kind
 use Rattle.ff_text.specs.declared.bytes.InStr.{InStr}
@@ -42,7 +40,7 @@ unfinished_from_opens opened items ended to bytes (top to' bytes' items' ended' 
 unfinished_from_opens opened items ended to bytes (inner opened' place to' bytes' own before items' before_ended ended' outer room s) =
     let depth = sym (length-map opened' (λ (o : Opened). o.from)) in
     within (map (λ (o : Opened). o.from) opened') place to' bytes' own items' ended' (unfinished_from_opens opened' before before_ended place bytes' outer)
-        (subst (λ n. n < 64) depth room) (subst (λ n. Spells (suc n) (place + 1) to' own items' ended') depth s)
+    (subst (λ n. n < 64) depth room) (subst (λ n. Spells (suc n) (place + 1) to' own items' ended') depth s)
 
 most_levels : (opened : List Opened) (items : List Sexp) (ended : Bool) (to : ℕ) (bytes : List ℕ) → Opens opened items ended to bytes → length opened ≤ 64
 most_levels opened items ended to bytes (top to' bytes' items' ended' s) = omega arith
@@ -54,7 +52,7 @@ extend opened items ended to bytes (top to0 bytes0 items0 ended0 s) more to' ite
 extend opened items ended to bytes (inner opened0 place to0 bytes0 own before items0 before_ended ended0 outer room s) more to' items' ended' grow =
     let joined : bytes0 ++ 40 ∷ (own ++ more) ≡ (bytes0 ++ 40 ∷ own) ++ more = sym (append_assoc bytes0 (40 ∷ own) more) in
     subst (λ bs. Opens (record { from = place; before = before } ∷ opened0) items' ended' to' bs) joined
-        (inner opened0 place to' bytes0 (own ++ more) before items' before_ended ended' outer room (grow (place + 1) own s))
+    (inner opened0 place to' bytes0 (own ++ more) before items' before_ended ended' outer room (grow (place + 1) own s))
 
 -- where the reader stands, the bytes are so far
 pub data Holds : Reader → List ℕ → Type 0 where
@@ -72,7 +70,7 @@ open_sound : (opened : List Opened) (items : List Sexp) (ended : Bool) (at : ℕ
 open_sound opened items ended at bytes so_far true e =
     let room : length opened < 64 = grind (arith, nat_tests) in
     rw e (goes _ (holds_between (record { from = at; before = items } ∷ opened) [] false (at + 1) (bytes ++ 40 ∷ []) refl
-        (inner opened at (at + 1) bytes [] items [] ended false so_far room (nothing (suc (length opened)) (at + 1)))))
+    (inner opened at (at + 1) bytes [] items [] ended false so_far room (nothing (suc (length opened)) (at + 1)))))
 open_sound opened items ended at bytes so_far false e =
     let most = most_levels opened items ended at bytes so_far in
     let full : length opened ≡ 64 = grind (arith, nat_tests) in
@@ -83,9 +81,9 @@ close_sound opened items ended at bytes (top to0 bytes0 items0 ended0 s) = stops
 close_sound opened items ended at bytes (inner opened0 place to0 bytes0 own before items0 before_ended ended0 outer room s) =
     let joined : bytes0 ++ (40 ∷ (own ++ 41 ∷ [])) ≡ (bytes0 ++ 40 ∷ own) ++ 41 ∷ [] = sym (append_assoc bytes0 (40 ∷ own) (41 ∷ [])) in
     goes _ (holds_between opened0 (before ++ Parens (span place (to0 + 1)) items0 ∷ []) false (to0 + 1) ((bytes0 ++ 40 ∷ own) ++ 41 ∷ []) refl
-        (subst (λ bs. Opens opened0 (before ++ Parens (span place (to0 + 1)) items0 ∷ []) false (to0 + 1) bs) joined
-            (extend opened0 before before_ended place bytes0 outer (40 ∷ (own ++ 41 ∷ [])) (to0 + 1) (before ++ Parens (span place (to0 + 1)) items0 ∷ []) false
-                (λ from own' t. a_list (length opened0) from place to0 own' own before items0 before_ended ended0 t room s))))
+    (subst (λ bs. Opens opened0 (before ++ Parens (span place (to0 + 1)) items0 ∷ []) false (to0 + 1) bs) joined
+    (extend opened0 before before_ended place bytes0 outer (40 ∷ (own ++ 41 ∷ [])) (to0 + 1) (before ++ Parens (span place (to0 + 1)) items0 ∷ []) false
+    (λ from own' t. a_list (length opened0) from place to0 own' own before items0 before_ended ended0 t room s))))
 
 abbrev After : List ℕ → ℕ → Result Reader TextFault → Type 0
 After bytes b made = Outcome (bytes ++ b ∷ []) made
@@ -95,8 +93,8 @@ outside_sound : (opened : List Opened) (items : List Sexp) (ended : Bool) (at : 
 outside_sound opened items ended at bytes so_far b kind.Blank e ends =
     let is : 32 ≡ b = sym (kind_fact b kind.Blank e) in
     goes _ (holds_between opened items false (at + 1) (bytes ++ b ∷ []) refl
-        (subst (λ c. Opens opened items false (at + 1) (bytes ++ c ∷ [])) is
-            (extend opened items ended at bytes so_far (32 ∷ []) (at + 1) items false (λ from own s. blank (length opened) from at own items ended s))))
+    (subst (λ c. Opens opened items false (at + 1) (bytes ++ c ∷ [])) is
+    (extend opened items ended at bytes so_far (32 ∷ []) (at + 1) items false (λ from own s. blank (length opened) from at own items ended s))))
 outside_sound opened items ended at bytes so_far b kind.Open e ends =
     let is : 40 ≡ b = sym (kind_fact b kind.Open e) in
     subst (λ c. Outcome (bytes ++ c ∷ []) (open_list (between opened items at))) is (open_sound opened items ended at bytes so_far (nat_lt (length opened) 64) refl)
@@ -129,15 +127,15 @@ word_goes : (opened : List Opened) (items : List Sexp) (at from : ℕ) (bytes wo
 word_goes opened items at from bytes word whole so_far w place joined b h =
     let next : from + length (word ++ b ∷ []) ≡ at + 1 = simp length-append (omega arith) in
     goes _ (holds_word opened items (at + 1) from bytes (word ++ b ∷ []) (whole ++ b ∷ []) so_far
-        (record { some = none_follows word b []; made_of = list_all-append is_word_byte word (b ∷ []) ∙ and_from _ _ w.made_of (and_from _ _ h refl) })
-        next (sym (append_assoc bytes word (b ∷ [])) ∙ ap (λ bs. bs ++ b ∷ []) joined))
+    (record { some = none_follows word b []; made_of = list_all-append is_word_byte word (b ∷ []) ∙ and_from _ _ w.made_of (and_from _ _ h refl) })
+    next (sym (append_assoc bytes word (b ∷ [])) ∙ ap (λ bs. bs ++ b ∷ []) joined))
 
 pub word_whole : (opened : List Opened) (items : List Sexp) (at from : ℕ) (bytes word whole : List ℕ) → Opens opened items false from bytes → IsWord word → from + length word ≡ at → bytes ++ word ≡ whole → Opens opened (items ++ Word (span from at) word ∷ []) true at whole
 word_whole opened items at from bytes word whole so_far w place joined =
     subst (λ bs. Opens opened (items ++ Word (span from at) word ∷ []) true at bs) joined
-        (subst (λ n. Opens opened (items ++ Word (span from n) word ∷ []) true n (bytes ++ word)) place
-            (extend opened items false from bytes so_far word (from + length word) (items ++ Word (span from (from + length word)) word ∷ []) true
-                (λ begin own s. a_word (length opened) begin from own items word s w)))
+    (subst (λ n. Opens opened (items ++ Word (span from n) word ∷ []) true n (bytes ++ word)) place
+    (extend opened items false from bytes so_far word (from + length word) (items ++ Word (span from (from + length word)) word ∷ []) true
+    (λ begin own s. a_word (length opened) begin from own items word s w)))
 
 word_sound : (opened : List Opened) (items : List Sexp) (at from : ℕ) (bytes word whole : List ℕ) → Opens opened items false from bytes → IsWord word → from + length word ≡ at → bytes ++ word ≡ whole → (b : ℕ) (k : Kind) → kind_of b ≡ k → Outcome (whole ++ b ∷ []) (step (wording opened items at from word) b)
 unfolding step
@@ -153,20 +151,20 @@ word_sound opened items at from bytes word whole so_far w place joined b kind.St
 pub inside_string : (opened : List Opened) (items : List Sexp) (ended : Bool) (at from : ℕ) (bytes body value whole : List ℕ) → Opens opened items ended from bytes → Value body value → from + 1 + length body ≡ at → bytes ++ 34 ∷ body ≡ whole → InString from at value whole
 inside_string opened items ended at from bytes body value whole so_far v place joined =
     subst (λ bs. InString from at value bs) joined
-        (subst (λ n. InString from n value (bytes ++ 34 ∷ body)) place
-            (in_string (map (λ (o : Opened). o.from) opened) from bytes body value (unfinished_from_opens opened items ended from bytes so_far) v))
+    (subst (λ n. InString from n value (bytes ++ 34 ∷ body)) place
+    (in_string (map (λ (o : Opened). o.from) opened) from bytes body value (unfinished_from_opens opened items ended from bytes so_far) v))
 
 end_sound : (opened : List Opened) (items : List Sexp) (ended : Bool) (at from : ℕ) (bytes body value whole : List ℕ) → Opens opened items ended from bytes → Value body value → from + 1 + length body ≡ at → bytes ++ 34 ∷ body ≡ whole → (test : Bool) → is_utf8 value ≡ test → Outcome (whole ++ 34 ∷ []) (end_str (quoting opened items at from value) from)
 end_sound opened items ended at from bytes body value whole so_far v place joined true e =
     let text : bytes ++ (34 ∷ (body ++ 34 ∷ [])) ≡ whole ++ 34 ∷ [] = sym (append_assoc bytes (34 ∷ body) (34 ∷ [])) ∙ ap (λ bs. bs ++ 34 ∷ []) joined in
     rw e (goes _ (holds_between opened (items ++ Str (span from (at + 1)) value ∷ []) false (at + 1) (whole ++ 34 ∷ []) refl
-        (subst (λ bs. Opens opened (items ++ Str (span from (at + 1)) value ∷ []) false (at + 1) bs) text
-            (subst (λ n. Opens opened (items ++ Str (span from (n + 1)) value ∷ []) false (n + 1) (bytes ++ (34 ∷ (body ++ 34 ∷ [])))) place
-                (extend opened items ended from bytes so_far (34 ∷ (body ++ 34 ∷ [])) (from + 1 + length body + 1) (items ++ Str (span from (from + 1 + length body + 1)) value ∷ []) false
-                    (λ begin own s. a_string (length opened) begin from own items ended body value s v (IsUtf8-from_is_utf8 value e)))))))
+    (subst (λ bs. Opens opened (items ++ Str (span from (at + 1)) value ∷ []) false (at + 1) bs) text
+    (subst (λ n. Opens opened (items ++ Str (span from (n + 1)) value ∷ []) false (n + 1) (bytes ++ (34 ∷ (body ++ 34 ∷ [])))) place
+    (extend opened items ended from bytes so_far (34 ∷ (body ++ 34 ∷ [])) (from + 1 + length body + 1) (items ++ Str (span from (from + 1 + length body + 1)) value ∷ []) false
+    (λ begin own s. a_string (length opened) begin from own items ended body value s v (IsUtf8-from_is_utf8 value e)))))))
 end_sound opened items ended at from bytes body value whole so_far v place joined false e =
     rw e (stops _ (bad_utf8 from at value whole (inside_string opened items ended at from bytes body value whole so_far v place joined)
-        (λ good. let test : is_utf8 value ≡ true = is_utf8-from_IsUtf8 value good in cc)))
+    (λ good. let test : is_utf8 value ≡ true = is_utf8-from_IsUtf8 value good in cc)))
 
 -- a byte in a string
 string_sound : (opened : List Opened) (items : List Sexp) (ended : Bool) (at from : ℕ) (bytes body value whole : List ℕ) → Opens opened items ended from bytes → Value body value → from + 1 + length body ≡ at → bytes ++ 34 ∷ body ≡ whole → (b : ℕ) (k : InStr) → in_str_of b ≡ k → Outcome (whole ++ b ∷ []) (in_str_kind k (quoting opened items at from value) from b)
@@ -176,24 +174,25 @@ string_sound opened items ended at from bytes body value whole so_far v place jo
 string_sound opened items ended at from bytes body value whole so_far v place joined b str.Backslash e =
     let is : 92 ≡ b = sym (str_fact b str.Backslash e) in
     goes _ (holds_escape opened items ended (at + 1) from at bytes body value [] (whole ++ b ∷ []) (mode.Slash from at) so_far v place slash_read (add-zero (at + 1))
-        (ap (λ bs. bs ++ 92 ∷ []) joined ∙ ap (λ c. whole ++ c ∷ []) is))
+    (ap (λ bs. bs ++ 92 ∷ []) joined ∙ ap (λ c. whole ++ c ∷ []) is))
 string_sound opened items ended at from bytes body value whole so_far v place joined b str.Control e =
     stops _ (bad_byte_in_string from at value whole b (inside_string opened items ended at from bytes body value whole so_far v place joined) (str_fact b str.Control e))
 string_sound opened items ended at from bytes body value whole so_far v place joined b str.Plain e =
     let next : from + 1 + length (body ++ b ∷ []) ≡ at + 1 = simp length-append (omega arith) in
     goes _ (holds_string opened items ended (at + 1) from bytes (body ++ b ∷ []) (value ++ b ∷ []) (whole ++ b ∷ []) so_far (plain body value b v (str_fact b str.Plain e)) next
-        (sym (append_assoc bytes (34 ∷ body) (b ∷ [])) ∙ ap (λ bs. bs ++ b ∷ []) joined))
+    (sym (append_assoc bytes (34 ∷ body) (b ∷ [])) ∙ ap (λ bs. bs ++ b ∷ []) joined))
 
 -- the bytes end in an escape
 pub inside_escape : (opened : List Opened) (items : List Sexp) (ended : Bool) (from slash : ℕ) (bytes body value begun whole : List ℕ) (m : Mode) → Opens opened items ended from bytes → Value body value → from + 1 + length body ≡ slash → EscapeMode from slash begun m → (bytes ++ 34 ∷ body) ++ 92 ∷ begun ≡ whole → InEscape from slash begun whole
 inside_escape opened items ended from slash bytes body value begun whole m so_far v place is joined =
     subst (λ bs. InEscape from slash begun bs) joined
-        (in_escape from slash value (bytes ++ 34 ∷ body) begun (inside_string opened items ended slash from bytes body value (bytes ++ 34 ∷ body) so_far v place refl) (begins_from_mode from slash begun m is))
+    (in_escape from slash value (bytes ++ 34 ∷ body) begun (inside_string opened items ended slash from bytes body value (bytes ++ 34 ∷ body) so_far v place refl) (begins_from_mode from slash begun m is))
 
 escape_joined : (bytes body begun whole : List ℕ) (b : ℕ) → (bytes ++ 34 ∷ body) ++ 92 ∷ begun ≡ whole → bytes ++ 34 ∷ (body ++ 92 ∷ (begun ++ b ∷ [])) ≡ whole ++ b ∷ []
 escape_joined bytes body begun whole b joined = go where
   regrouped : bytes ++ 34 ∷ (body ++ 92 ∷ (begun ++ b ∷ [])) ≡ ((bytes ++ 34 ∷ body) ++ 92 ∷ begun) ++ b ∷ []
   regrouped = sym (append_assoc bytes (34 ∷ body) (92 ∷ (begun ++ b ∷ []))) ∙ sym (append_assoc (bytes ++ 34 ∷ body) (92 ∷ begun) (b ∷ []))
+
   go : bytes ++ 34 ∷ (body ++ 92 ∷ (begun ++ b ∷ [])) ≡ whole ++ b ∷ []
   go = regrouped ∙ ap (λ bs. bs ++ b ∷ []) joined
 
@@ -206,7 +205,7 @@ escape_goes : (opened : List Opened) (items : List Sexp) (ended : Bool) (at from
 escape_goes opened items ended at from slash bytes body value begun whole so_far v place next joined b made escape =
     let last : from + 1 + length (body ++ 92 ∷ (begun ++ b ∷ [])) ≡ at + 1 = simp length-append (omega arith) in
     goes _ (holds_string opened items ended (at + 1) from bytes (body ++ 92 ∷ (begun ++ b ∷ [])) (value ++ made ∷ []) (whole ++ b ∷ []) so_far (escaped body value (begun ++ b ∷ []) made v escape) last
-        (escape_joined bytes body begun whole b joined))
+    (escape_joined bytes body begun whole b joined))
 
 slash_sound : (opened : List Opened) (items : List Sexp) (ended : Bool) (at from slash : ℕ) (bytes body value whole : List ℕ) → Opens opened items ended from bytes → Value body value → from + 1 + length body ≡ slash → slash + 1 + 0 ≡ at → (bytes ++ 34 ∷ body) ++ 92 ∷ [] ≡ whole → (b : ℕ) (k : Slashed) → slashed_of b ≡ k → Outcome (whole ++ b ∷ []) (slashed_kind k (in_mode (mode.Slash from slash) opened items at value) from slash)
 slash_sound opened items ended at from slash bytes body value whole so_far v place next joined b (slashed.Short made) e =
@@ -214,7 +213,7 @@ slash_sound opened items ended at from slash bytes body value whole so_far v pla
 slash_sound opened items ended at from slash bytes body value whole so_far v place next joined b slashed.Hex e =
     let last : slash + 1 + 1 ≡ at + 1 = omega arith in
     goes _ (holds_escape opened items ended (at + 1) from slash bytes body value (120 ∷ []) (whole ++ b ∷ []) (mode.Hex from slash) so_far v place x_read last
-        (begun_joined bytes body [] whole b 120 (sym (slash_hex b e)) joined))
+    (begun_joined bytes body [] whole b 120 (sym (slash_hex b e)) joined))
 slash_sound opened items ended at from slash bytes body value whole so_far v place next joined b slashed.Wrong e =
     stops _ (bad_escape from slash [] whole b (inside_escape opened items ended from slash bytes body value [] whole (mode.Slash from slash) so_far v place slash_read joined) (wrong_slashed b e))
 
@@ -222,14 +221,14 @@ high_sound : (opened : List Opened) (items : List Sexp) (ended : Bool) (at from 
 high_sound opened items ended at from slash bytes body value whole so_far v place next joined b (Some high) e =
     let last : slash + 1 + 2 ≡ at + 1 = omega arith in
     goes _ (holds_escape opened items ended (at + 1) from slash bytes body value (120 ∷ hex_digit high ∷ []) (whole ++ b ∷ []) (mode.Digit from slash high) so_far v place (digit_read high (high_small b high e)) last
-        (begun_joined bytes body (120 ∷ []) whole b (hex_digit high) (sym (high_is b high e)) joined))
+    (begun_joined bytes body (120 ∷ []) whole b (hex_digit high) (sym (high_is b high e)) joined))
 high_sound opened items ended at from slash bytes body value whole so_far v place next joined b None e =
     stops _ (bad_escape from slash (120 ∷ []) whole b (inside_escape opened items ended from slash bytes body value (120 ∷ []) whole (mode.Hex from slash) so_far v place x_read joined) (wrong_high b e))
 
 low_sound : (opened : List Opened) (items : List Sexp) (ended : Bool) (at from slash high : ℕ) (bytes body value whole : List ℕ) → high < 8 → Opens opened items ended from bytes → Value body value → from + 1 + length body ≡ slash → slash + 1 + 2 ≡ at → (bytes ++ 34 ∷ body) ++ 92 ∷ 120 ∷ hex_digit high ∷ [] ≡ whole → (b : ℕ) (d : Option ℕ) → low_digit b ≡ d → Outcome (whole ++ b ∷ []) (low_taken d (in_mode (mode.Digit from slash high) opened items at value) from slash high)
 low_sound opened items ended at from slash high bytes body value whole small so_far v place next joined b (Some low) e =
     escape_goes opened items ended at from slash bytes body value (120 ∷ hex_digit high ∷ []) whole so_far v place next joined b (16 * high + low)
-        (subst (λ c. Escape (120 ∷ hex_digit high ∷ c ∷ []) (16 * high + low)) (sym (low_is b low e)) (hex high low small (low_small b low e)))
+    (subst (λ c. Escape (120 ∷ hex_digit high ∷ c ∷ []) (16 * high + low)) (sym (low_is b low e)) (hex high low small (low_small b low e)))
 low_sound opened items ended at from slash high bytes body value whole small so_far v place next joined b None e =
     stops _ (bad_escape from slash (120 ∷ hex_digit high ∷ []) whole b (inside_escape opened items ended from slash bytes body value (120 ∷ hex_digit high ∷ []) whole (mode.Digit from slash high) so_far v place (digit_read high small) joined) (wrong_low high b e))
 

@@ -1,5 +1,5 @@
 -- Where the reader stands after whole items, and how bytes take it on.
-use Rattle.std.proofs.Common.{◌≡◌, ◌≢◌, ◌⊎◌, ◌<◌, ◌≤◌, ◌+◌, ℕ, suc, zero, Bool, true, false, Result, Ok, Err, List, [], ◌∷◌, ◌++◌, length, refl, sym, ◌∙◌, ap, subst, arith, append_assoc, append-nil, length-append, add-zero}
+use Rattle.std.proofs.Common.{◌≡◌, ◌+◌, ℕ, suc, Bool, true, false, Result, Ok, Err, List, [], ◌∷◌, ◌++◌, length, refl, sym, ◌∙◌, ap, subst, arith, append_assoc, append-nil, add-zero}
 use Rattle.std.specs.List.{list_all}
 use Rattle.std.proofs.lemmas.Bool.{and_parts}
 use Rattle.ff_text.specs.declared.items.Sexp.{Sexp}
@@ -101,8 +101,8 @@ pub step_stands : (opened : List Opened) (at : ℕ) (items : List Sexp) (ended :
 step_stands opened at items false r b k stands e ends = subst (λ s. step s b ≡ outside_kind k (between opened items at) b) (sym stands) (step_between opened items at b k e)
 step_stands opened at items true r b k stands e ends =
     subst (λ s. step s b ≡ outside_kind k (between opened items at) b) (sym stands.is)
-        (subst (λ all. step (wording opened stands.before at stands.from stands.word) b ≡ outside_kind k (between opened all at) b) stands.last
-            (step_word opened stands.before at stands.from stands.word b k e ends))
+    (subst (λ all. step (wording opened stands.before at stands.from stands.word) b ≡ outside_kind k (between opened all at) b) stands.last
+    (step_word opened stands.before at stands.from stands.word b k e ends))
 
 -- the end of the bytes is read as after the whole items
 pub finish_stands : (opened : List Opened) (at : ℕ) (items : List Sexp) (ended : Bool) (r : Reader) → Stands opened at items ended r → finish r ≡ end_items (between opened items at)
@@ -110,7 +110,7 @@ unfolding finish
 finish_stands opened at items false r stands = subst (λ s. finish s ≡ end_items (between opened items at)) (sym stands) refl
 finish_stands opened at items true r stands =
     subst (λ s. finish s ≡ end_items (between opened items at)) (sym stands.is)
-        (subst (λ all. finish (wording opened stands.before at stands.from stands.word) ≡ end_items (between opened all at)) stands.last refl)
+    (subst (λ all. finish (wording opened stands.before at stands.from stands.word) ≡ end_items (between opened all at)) stands.last refl)
 
 -- a word
 word_more : (opened : List Opened) (items : List Sexp) (at from : ℕ) (done more : List ℕ) → list_all is_word_byte more ≡ true → advance more (Ok (wording opened items at from done)) ≡ Ok (wording opened items (at + length more) from (done ++ more))
@@ -121,9 +121,9 @@ word_more opened items at from done (b ∷ more) h =
     let place : at + 1 + length more ≡ at + suc (length more) = omega arith in
     let bytes : (done ++ b ∷ []) ++ more ≡ done ++ b ∷ more = append_assoc done (b ∷ []) more in
     rw (kind_of-word b parts.0)
-        (word_more opened items (at + 1) from (done ++ b ∷ []) more parts.1
-            ∙ ap (λ n. Ok (wording opened items n from ((done ++ b ∷ []) ++ more))) place
-            ∙ ap (λ bs. Ok (wording opened items (at + suc (length more)) from bs)) bytes)
+    (word_more opened items (at + 1) from (done ++ b ∷ []) more parts.1
+    ∙ ap (λ n. Ok (wording opened items n from ((done ++ b ∷ []) ++ more))) place
+    ∙ ap (λ bs. Ok (wording opened items (at + suc (length more)) from bs)) bytes)
 
 pub word_run : (opened : List Opened) (items : List Sexp) (at : ℕ) (word : List ℕ) → IsWord word → advance word (Ok (between opened items at)) ≡ Ok (wording opened items (at + length word) at word)
 unfolding advance step
@@ -132,5 +132,5 @@ word_run opened items at (b ∷ more) h =
     let parts = and_parts (is_word_byte b) (list_all is_word_byte more) h.made_of in
     let place : at + 1 + length more ≡ at + suc (length more) = omega arith in
     rw (kind_of-word b parts.0)
-        (word_more opened items (at + 1) at (b ∷ []) more parts.1
-            ∙ ap (λ n. Ok (wording opened items n at (b ∷ more))) place)
+    (word_more opened items (at + 1) at (b ∷ []) more parts.1
+    ∙ ap (λ n. Ok (wording opened items n at (b ∷ more))) place)

@@ -1,5 +1,5 @@
 -- What one byte does, by the kind of the byte.
-use Rattle.std.proofs.Common.{◌≡◌, ◌+◌, ℕ, Bool, true, false, Result, Ok, Err, refl}
+use Rattle.std.proofs.Common.{◌≡◌, ℕ, true, false, Ok, Err}
 use Rattle.std.specs.Str.{is_utf8}
 use Rattle.ff_text.specs.Machine.{end_str, str_ended}
 use Rattle.ff_text.specs.declared.reader.Reader.{Reader}

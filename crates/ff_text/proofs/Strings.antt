@@ -1,12 +1,10 @@
 -- What the bytes of a string do to the reader.
-use Rattle.std.proofs.Common.{◌≡◌, ◌≢◌, ◌<◌, ◌≤◌, ◌+◌, ◌*◌, ℕ, suc, zero, Bool, true, false, Result, Ok, Err, Some, None, List, [], ◌∷◌, ◌++◌, length, refl, sym, ◌∙◌, ap, subst, arith, append_assoc, append-nil, length-append, add-zero}
-use Rattle.std.specs.Char.{is_ascii_control}
+use Rattle.std.proofs.Common.{◌≡◌, ◌<◌, ◌+◌, ◌*◌, ℕ, Ok, List, [], ◌∷◌, ◌++◌, length, refl, sym, ◌∙◌, ap, arith, length-append, add-zero}
 use Rattle.ff_text.specs.declared.items.Sexp.{Sexp}
-use Rattle.ff_text.specs.declared.items.TextFault.{TextFault}
 use Rattle.ff_text.specs.declared.reader.Reader.{Reader}
 use Rattle.ff_text.specs.declared.reader.Opened.{Opened}
 use Rattle.ff_text.specs.declared.reader.Mode.TheVariants as mode
-use Rattle.ff_text.specs.Kinds.{in_str_of, slashed_of, high_digit, low_digit}
+use Rattle.ff_text.specs.Kinds.{in_str_of, slashed_of}
 use Rattle.ff_text.specs.Notation.{hex_digit, Escape, mark, backslash, newline, tab, hex, IsPlain, Value, empty, plain, escaped}
 use Rattle.ff_text.specs.Machine.{advance, step, high_taken, low_taken}
 use Rattle.ff_text.proofs.KindLemmas.{in_str_of-plain, high_digit-digit, low_digit-digit}
@@ -39,11 +37,11 @@ hex_run : (opened : List Opened) (items : List Sexp) (at from : ℕ) (value : Li
 hex_run opened items at from value high low h l =
     let place : at + 1 + 1 + 1 + 1 ≡ at + 1 + 3 = omega arith in
     advance-step 92 (120 ∷ hex_digit high ∷ hex_digit low ∷ []) _ _ (step_backslash opened items at from value)
-        ∙ advance-step 120 (hex_digit high ∷ hex_digit low ∷ []) _ _ (step_x opened items (at + 1) from at value)
-        ∙ advance-step (hex_digit high) (hex_digit low ∷ []) _ _ (step_high opened items (at + 1 + 1) from at value high h)
-        ∙ advance-step (hex_digit low) [] _ _ (step_low opened items (at + 1 + 1 + 1) from at value high low l)
-        ∙ advance-none (Ok (quoting opened items (at + 1 + 1 + 1 + 1) from (value ++ (16 * high + low) ∷ [])))
-        ∙ ap (λ n. Ok (quoting opened items n from (value ++ (16 * high + low) ∷ []))) place
+    ∙ advance-step 120 (hex_digit high ∷ hex_digit low ∷ []) _ _ (step_x opened items (at + 1) from at value)
+    ∙ advance-step (hex_digit high) (hex_digit low ∷ []) _ _ (step_high opened items (at + 1 + 1) from at value high h)
+    ∙ advance-step (hex_digit low) [] _ _ (step_low opened items (at + 1 + 1 + 1) from at value high low l)
+    ∙ advance-none (Ok (quoting opened items (at + 1 + 1 + 1 + 1) from (value ++ (16 * high + low) ∷ [])))
+    ∙ ap (λ n. Ok (quoting opened items n from (value ++ (16 * high + low) ∷ []))) place
 
 -- the bytes of an escape
 pub escape_run : (opened : List Opened) (items : List Sexp) (at from : ℕ) (value escape : List ℕ) (b : ℕ) → Escape escape b → advance (92 ∷ escape) (Ok (quoting opened items at from value)) ≡ Ok (quoting opened items (at + 1 + length escape) from (value ++ b ∷ []))
@@ -60,10 +58,10 @@ value_run opened items at from bytes all empty = advance-none (Ok (quoting opene
 value_run opened items at from bytes all (plain body value b v p) =
     let place : at + length body + 1 ≡ at + length (body ++ b ∷ []) = simp length-append (omega arith) in
     advance-more body b (Ok (quoting opened items at from [])) (quoting opened items (at + length body) from value) (value_run opened items at from body value v)
-        ∙ step-plain opened items (at + length body) from value b p
-        ∙ ap (λ n. Ok (quoting opened items n from (value ++ b ∷ []))) place
+    ∙ step-plain opened items (at + length body) from value b p
+    ∙ ap (λ n. Ok (quoting opened items n from (value ++ b ∷ []))) place
 value_run opened items at from bytes all (escaped body value escape b v e) =
     let place : at + length body + 1 + length escape ≡ at + length (body ++ 92 ∷ escape) = simp length-append (omega arith) in
     advance-then body (92 ∷ escape) (Ok (quoting opened items at from [])) (quoting opened items (at + length body) from value) _ (value_run opened items at from body value v)
-        (escape_run opened items (at + length body) from value escape b e
-            ∙ ap (λ n. Ok (quoting opened items n from (value ++ b ∷ []))) place)
+    (escape_run opened items (at + length body) from value escape b e
+    ∙ ap (λ n. Ok (quoting opened items n from (value ++ b ∷ []))) place)

@@ -1,21 +1,19 @@
 -- The reader's answer is what the grammar says: the items that are spelled, or the first fault.
-use Rattle.std.proofs.Common.{◌≡◌, ◌≢◌, ◌⊎◌, ◌<◌, ◌≤◌, ◌+◌, ℕ, suc, zero, Bool, true, false, Result, Ok, Err, IfOk, IfErr, List, [], ◌∷◌, ◌++◌, length, map, take, drop, refl, sym, ◌∙◌, ap, subst, inl, inr, arith, append_assoc, append-nil, length-append, add-zero}
+use Rattle.std.proofs.Common.{◌≡◌, ◌⊎◌, ◌≤◌, ◌+◌, ℕ, suc, zero, Bool, true, false, Result, Ok, Err, IfOk, IfErr, List, [], ◌∷◌, ◌++◌, length, map, take, drop, refl, sym, ◌∙◌, ap, subst, inl, inr, arith, append_assoc, append-nil, length-append}
 use Rattle.std.proofs.lemmas.List.{take-append-le, take_all}
 use Rattle.ff_text.specs.declared.items.Sexp.{Sexp}
 use Rattle.ff_text.specs.declared.items.TextFault.{TextFault}
 use Rattle.ff_text.specs.declared.items.TextFault.TheVariants as fault
 use Rattle.ff_text.specs.declared.reader.Reader.{Reader}
 use Rattle.ff_text.specs.declared.reader.Opened.{Opened}
-use Rattle.ff_text.specs.declared.reader.Mode.{Mode}
 use Rattle.ff_text.specs.declared.items.Sexp.TheVariants.{Word}
-use Rattle.ff_text.specs.Notation.{span, Spells, nothing, SpellsItems}
-use Rattle.ff_text.specs.Faults.{Unfinished, Meets, IsUnclosed, in_a_list, in_a_string, in_an_escape, NoneBelow, FirstFault, at_prefix, at_end, SingleFault, of_text, no_item, second_item, from_of}
+use Rattle.ff_text.specs.Notation.{span, nothing, SpellsItems}
+use Rattle.ff_text.specs.Faults.{Meets, IsUnclosed, in_a_list, in_a_string, in_an_escape, NoneBelow, FirstFault, at_prefix, at_end, SingleFault, of_text, no_item, second_item, from_of}
 use Rattle.ff_text.specs.Machine.{advance, step, start, finish, items_ended, verdict, verdict_of, Answers, one_of, one_in, AnswersOne}
 use Rattle.ff_text.proofs.Standing.{advance-append, advance-err, advance-none, advance-step, advance-stop, advance-more, between, wording}
 use Rattle.ff_text.proofs.Complete.{verdict_from_spelled}
-use Rattle.ff_text.proofs.Escapes.{EscapeMode}
 use Rattle.ff_text.proofs.Meeting.{meets_err, unclosed_verdict, finish_string, finish_escape}
-use Rattle.ff_text.proofs.Sound.{Opens, top, inner, unfinished_from_opens, word_whole, inside_string, inside_escape, Holds, holds_between, holds_word, holds_string, holds_escape, Outcome, goes, stops, step_sound}
+use Rattle.ff_text.proofs.Sound.{Opens, top, unfinished_from_opens, word_whole, inside_string, inside_escape, Holds, holds_between, holds_word, holds_string, holds_escape, Outcome, goes, stops, step_sound}
 
 take-drop : (n : ℕ) (bytes : List ℕ) → take n bytes ++ drop n bytes ≡ bytes
 take-drop zero bytes = refl
@@ -29,7 +27,7 @@ differ r which answer e k = cc
 stopped_by : (bytes : List ℕ) (n : ℕ) (which : TextFault) → Meets (take n bytes) which → advance bytes (Ok start) ≡ Err which
 stopped_by bytes n which meets =
     ap (λ bs. advance bs (Ok start)) (sym (take-drop n bytes)) ∙ advance-append (take n bytes) (drop n bytes) (Ok start)
-        ∙ ap (advance (drop n bytes)) (meets_err (take n bytes) which meets) ∙ advance-err (drop n bytes) which
+    ∙ ap (advance (drop n bytes)) (meets_err (take n bytes) which meets) ∙ advance-err (drop n bytes) which
 
 -- what is read whole has no prefix that meets a fault
 none_met : (bytes : List ℕ) (r : Reader) → advance bytes (Ok start) ≡ Ok r → (n : ℕ) → NoneBelow n bytes
@@ -60,16 +58,16 @@ stopped_at done b more r which e meets =
     let whole : (done ++ b ∷ []) ++ more ≡ done ++ b ∷ more = append_assoc done (b ∷ []) more in
     let front : take (length (done ++ b ∷ [])) (done ++ b ∷ more) ≡ done ++ b ∷ [] = subst (λ bs. take (length (done ++ b ∷ [])) bs ≡ done ++ b ∷ []) whole (take_front (done ++ b ∷ []) more) in
     stopped (length (done ++ b ∷ [])) which (simp length-append (omega arith)) (subst (λ bs. Meets bs which) (sym front) meets)
-        (λ k w below met.
-            let within : k ≤ length done = omega (arith, length-append done (b ∷ [])) in
-            none_met done r e (k + 1) k w (omega arith) (subst (λ bs. Meets bs w) (take-append-le k done (b ∷ more) within) met))
+    (λ k w below met.
+    let within : k ≤ length done = omega (arith, length-append done (b ∷ [])) in
+    none_met done r e (k + 1) k w (omega arith) (subst (λ bs. Meets bs w) (take-append-le k done (b ∷ more) within) met))
 
 -- what one byte comes to, where the bytes after it come to what they do
 trace_step : (more done : List ℕ) (r : Reader) (b : ℕ) → advance done (Ok start) ≡ Ok r → ((next : Reader) → advance (done ++ b ∷ []) (Ok start) ≡ Ok next → Holds next (done ++ b ∷ []) → Ending ((done ++ b ∷ []) ++ more) (advance more (Ok next))) → (made : Result Reader TextFault) → step r b ≡ made → Outcome (done ++ b ∷ []) made → Ending (done ++ b ∷ more) (advance (b ∷ more) (Ok r))
 trace_step more done r b e rest made is (goes next holds) =
     subst (Ending (done ++ b ∷ more)) (sym (advance-step b more r next is))
-        (subst (λ bs. Ending bs (advance more (Ok next))) (append_assoc done (b ∷ []) more)
-            (rest next (advance-more done b (Ok start) r e ∙ is) holds))
+    (subst (λ bs. Ending bs (advance more (Ok next))) (append_assoc done (b ∷ []) more)
+    (rest next (advance-more done b (Ok start) r e ∙ is) holds))
 trace_step more done r b e rest made is (stops which meets) =
     subst (Ending (done ++ b ∷ more)) (sym (advance-stop b more r which is)) (stopped_at done b more r which e meets)
 
@@ -107,10 +105,10 @@ finishing r all (holds_word opened items at from bytes word whole so_far w place
     finishing_word opened items at from word whole (word_whole opened items at from bytes word whole so_far w place joined)
 finishing r all (holds_string opened items ended at from bytes body value whole so_far v place joined) =
     subst (Finishing whole) (sym (finish_string opened items at from value))
-        (left_open from (in_a_string from at value whole (inside_string opened items ended at from bytes body value whole so_far v place joined)))
+    (left_open from (in_a_string from at value whole (inside_string opened items ended at from bytes body value whole so_far v place joined)))
 finishing r all (holds_escape opened items ended at from slash bytes body value begun whole m so_far v place is next joined) =
     subst (Finishing whole) (sym (finish_escape opened items at from slash value begun m is))
-        (left_open from (in_an_escape from slash begun whole (inside_escape opened items ended from slash bytes body value begun whole m so_far v place is joined)))
+    (left_open from (in_an_escape from slash begun whole (inside_escape opened items ended from slash bytes body value begun whole m so_far v place is joined)))
 
 -- the items that the reader answers are spelled
 pub spelled_from_verdict : (bytes : List ℕ) (items : List Sexp) → verdict bytes ≡ Ok items → SpellsItems bytes items
@@ -118,6 +116,7 @@ spelled_from_verdict bytes items e = go (advance bytes (Ok start)) (ending_of by
   at_finish : (answer : Result (List Sexp) TextFault) → Finishing bytes answer → answer ≡ Ok items → SpellsItems bytes items
   at_finish answer (whole_items found spelled) same = subst (SpellsItems bytes) (ok_items found items (Ok found) refl same) spelled
   at_finish answer (left_open place unclosed) same = absurd (not_ok (fault.Unclosed place) items (Err (fault.Unclosed place)) refl same)
+
   go : (made : Result Reader TextFault) → Ending bytes made → verdict_of made ≡ Ok items → SpellsItems bytes items
   go made (read_whole r h ran) same = at_finish (finish r) (finishing r bytes h) same
   go made (stopped n which within meets none) same = absurd (not_ok which items (Err which) refl same)
@@ -128,6 +127,7 @@ fault_from_verdict bytes which e = go (advance bytes (Ok start)) (ending_of byte
   at_finish : (r : Reader) → advance bytes (Ok start) ≡ Ok r → (answer : Result (List Sexp) TextFault) → Finishing bytes answer → answer ≡ Err which → FirstFault bytes which
   at_finish r ran answer (whole_items found spelled) same = absurd (not_ok which found (Ok found) same refl)
   at_finish r ran answer (left_open place unclosed) same = subst (FirstFault bytes) (err_fault (fault.Unclosed place) which (Err (fault.Unclosed place)) refl same) (at_end place (none_met bytes r ran (length bytes + 1)) unclosed)
+
   go : (made : Result Reader TextFault) → Ending bytes made → verdict_of made ≡ Err which → FirstFault bytes which
   go made (read_whole r h ran) same = at_finish r ran (finish r) (finishing r bytes h) same
   go made (stopped n other within meets none) same = subst (FirstFault bytes) (err_fault other which (Err other) refl same) (at_prefix n other within meets none)
@@ -145,21 +145,21 @@ found_items bytes (Err which) same = tt
 pub only_items : (bytes : List ℕ) (answer : Result (List Sexp) TextFault) → Answers answer (verdict bytes) → (items : List Sexp) → SpellsItems bytes items → (answer ≡ Ok items) ⊎ (answer ≡ Err fault.NoMemory)
 only_items bytes (Ok found) same items spelled = inl (ap Ok (ok_items found items (verdict bytes) same (verdict_from_spelled bytes items spelled)))
 only_items bytes (Err which) same items spelled = elim same [
-    inl memory ↦ inr (ap Err memory)
+  | inl memory ↦ inr (ap Err memory)
   | inr wrong ↦ absurd (not_ok which items (verdict bytes) wrong (verdict_from_spelled bytes items spelled))
 ]
 
 pub first_fault : (bytes : List ℕ) (answer : Result (List Sexp) TextFault) → Answers answer (verdict bytes) → IfErr answer (λ which. (which ≡ fault.NoMemory) ⊎ FirstFault bytes which)
 first_fault bytes (Ok items) same = tt
 first_fault bytes (Err which) same = elim same [
-    inl memory ↦ inl memory
+  | inl memory ↦ inl memory
   | inr wrong ↦ inr (fault_from_verdict bytes which wrong)
 ]
 
 pub exact_fault : (bytes : List ℕ) (answer : Result (List Sexp) TextFault) → Answers answer (verdict bytes) → (which : TextFault) → FirstFault bytes which → (answer ≡ Err which) ⊎ (answer ≡ Err fault.NoMemory)
 exact_fault bytes (Ok items) same which first = absurd (not_ok which items (verdict bytes) (verdict_from_fault bytes which first) same)
 exact_fault bytes (Err other) same which first = elim same [
-    inl memory ↦ inr (ap Err memory)
+  | inl memory ↦ inr (ap Err memory)
   | inr wrong ↦ inl (ap Err (err_fault other which (verdict bytes) wrong (verdict_from_fault bytes which first)))
 ]
 
@@ -197,20 +197,20 @@ found_item bytes (Err which) same = tt
 pub only_item : (bytes : List ℕ) (answer : Result Sexp TextFault) → AnswersOne answer (one_in (verdict bytes)) → (item : Sexp) → SpellsItems bytes (item ∷ []) → (answer ≡ Ok item) ⊎ (answer ≡ Err fault.NoMemory)
 only_item bytes (Ok found) same item spelled = inl (sym same ∙ single_item bytes item spelled)
 only_item bytes (Err which) same item spelled = elim same [
-    inl memory ↦ inr (ap Err memory)
+  | inl memory ↦ inr (ap Err memory)
   | inr wrong ↦ inl (sym wrong ∙ single_item bytes item spelled)
 ]
 
 pub one_first_fault : (bytes : List ℕ) (answer : Result Sexp TextFault) → AnswersOne answer (one_in (verdict bytes)) → IfErr answer (λ which. (which ≡ fault.NoMemory) ⊎ SingleFault bytes which)
 one_first_fault bytes (Ok item) same = tt
 one_first_fault bytes (Err which) same = elim same [
-    inl memory ↦ inl memory
+  | inl memory ↦ inl memory
   | inr wrong ↦ inr (one_fault_from bytes which (verdict bytes) refl wrong)
 ]
 
 pub one_exact_fault : (bytes : List ℕ) (answer : Result Sexp TextFault) → AnswersOne answer (one_in (verdict bytes)) → (which : TextFault) → SingleFault bytes which → (answer ≡ Err which) ⊎ (answer ≡ Err fault.NoMemory)
 one_exact_fault bytes (Ok item) same which first = inl (sym same ∙ single_fault bytes which first)
 one_exact_fault bytes (Err other) same which first = elim same [
-    inl memory ↦ inr (ap Err memory)
+  | inl memory ↦ inr (ap Err memory)
   | inr wrong ↦ inl (sym wrong ∙ single_fault bytes which first)
 ]

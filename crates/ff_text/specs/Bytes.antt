@@ -1,5 +1,5 @@
 -- The bytes of the notation and what stands for a byte in a string.
-use Rattle.std.specs.Prelude.{◌≡◌, ◌<◌, ◌+◌, ◌*◌, ℕ, Bool, true, false, ◌||◌, ◌&&◌, not, ◌==◌, nat_le, nat_lt, if◌then◌else◌, List, [], ◌∷◌, IsTrue}
+use Rattle.std.specs.Prelude.{ℕ, Bool, ◌||◌, ◌&&◌, not, ◌==◌}
 use Rattle.std.specs.Char.{is_ascii_graphic}
 
 -- a visible byte of ASCII other than `(`, `)` and `"`

@@ -2,8 +2,7 @@
 use Rattle.std.specs.Prelude.{◌≡◌, ◌≢◌, ◌<◌, ◌≤◌, ◌+◌, ℕ, suc, Bool, true, false, List, [], ◌∷◌, ◌++◌, length, take}
 use Rattle.std.specs.Str.{IsUtf8}
 use Rattle.std.specs.Char.{is_ascii_control, is_ascii_graphic}
-use Rattle.ff_text.specs.Notation.{Spells, SpellsItems, Value, Escape, span}
-use Rattle.ff_text.specs.declared.items.Span.{Span}
+use Rattle.ff_text.specs.Notation.{Spells, SpellsItems, Value, Escape}
 use Rattle.ff_text.specs.declared.items.Sexp.{Sexp, out-Sexp}
 use Rattle.ff_text.specs.declared.items.Sexp.TheOpen.{Sexp-F}
 use Rattle.ff_text.specs.declared.items.TextFault.{TextFault}

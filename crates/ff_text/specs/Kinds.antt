@@ -1,5 +1,5 @@
 -- How the reader sorts bytes.
-use Rattle.std.specs.Prelude.{◌≡◌, ◌-◌, ◌+◌, ℕ, Bool, ◌||◌, ◌&&◌, ◌==◌, nat_le, if◌then◌else◌, Option, Some, None}
+use Rattle.std.specs.Prelude.{◌-◌, ◌+◌, ℕ, ◌||◌, ◌&&◌, ◌==◌, nat_le, if◌then◌else◌, Option, Some, None}
 use Rattle.std.specs.Char.{is_ascii_graphic, is_ascii_control, is_ascii_digit}
 use Rattle.ff_text.specs.declared.bytes.Kind.{Kind}
 use Rattle.ff_text.specs.declared.bytes.Kind.TheVariants as kind

@@ -1,5 +1,5 @@
 -- The canonical spelling of items.
-use Rattle.std.specs.Prelude.{◌≡◌, ◌<◌, ◌+◌, ◌/◌, ◌%◌, ℕ, suc, Bool, true, false, ◌&&◌, ◌==◌, nat_lt, if◌then◌else◌, Result, Ok, Err, List, [], ◌∷◌, ◌++◌, length, IsTrue}
+use Rattle.std.specs.Prelude.{◌≡◌, ◌/◌, ◌%◌, ℕ, suc, Bool, false, ◌&&◌, ◌==◌, nat_lt, if◌then◌else◌, Result, Ok, Err, List, [], ◌∷◌, ◌++◌, map, IsTrue}
 use Rattle.std.specs.List.{list_all, flat_map, join_with_byte}
 use Rattle.std.specs.Str.{is_utf8}
 use Rattle.std.specs.Char.{is_ascii_control}
@@ -59,6 +59,9 @@ fits_at = fold-Sexp (ℕ → Bool) fits_step
 
 abbrev pub IsWellSpelled : Sexp → Type 0
 IsWellSpelled item = IsTrue (fits_at item 0)
+
+abbrev pub AreWellSpelled : List Sexp → Type 0
+AreWellSpelled items = IsTrue (list_all (λ (part : ℕ → Bool). part 0) (map fits_at items))
 
 -- the bytes are read as the item in all but the places
 pub record ReadsBack (bytes : List ℕ) (item : Sexp) : Type 0 where

@@ -10,6 +10,8 @@ mod printing;
 mod reader;
 mod reading;
 mod rows;
+#[cfg(test)]
+mod tests;
 
 pub use ff_name::{NoMemory, Text};
 pub use items::{Items, Sexp, Span, TextFault};

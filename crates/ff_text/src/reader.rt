@@ -295,9 +295,8 @@ impl Reader {
                 self.end_word(alloc, from)?;
                 self.end_items(alloc)
             }
-            Mode::Str(from) | Mode::Slash(from, _) | Mode::Hex(from, _) | Mode::Digit(from, _, _) => {
-                Err(TextFault::Unclosed(from))
-            }
+            Mode::Str(from) | Mode::Slash(from, _) | Mode::Hex(from, _) | Mode::Digit(from, _, _) =>
+                { Err(TextFault::Unclosed(from)) }
         }
     }
 

@@ -4,6 +4,7 @@ ghost use Rattle.ff_text.specs.declared.items.TextFault.{TextFault};
 ghost use Rattle.ff_text.specs.Faults.{FirstFault, SingleFault, from_of};
 ghost use Rattle.ff_text.specs.Machine.{Answers, AnswersOne, one_in, one_of, verdict};
 ghost use Rattle.ff_text.specs.Notation.{SpellsItems};
+ghost use Rattle.ff_text.specs.Printed.{AreWellSpelled, IsWellSpelled};
 
 use crate::items::{Items, Sexp, TextFault};
 use crate::reader::Reader;
@@ -17,6 +18,7 @@ pub const MOST_BYTES: usize = 1_048_576;
 pub fn read_items(alloc: Global, bytes: &[u8]) -> Result<Items, TextFault>
     requires { length bytes.now ≤ MOST_BYTES }
     ensures found { IfOk result (SpellsItems bytes.now) }
+    ensures well_spelled { IfOk result AreWellSpelled }
     ensures only { (items : List Sexp) → SpellsItems bytes.now items → (result ≡ Ok items) ⊎ (result ≡ Err TextFault.NoMemory) }
     ensures fault { IfErr result (λ fault. (fault ≡ TextFault.NoMemory) ⊎ FirstFault bytes.now fault) }
     ensures exact { (fault : TextFault) → FirstFault bytes.now fault → (result ≡ Err fault) ⊎ (result ≡ Err TextFault.NoMemory) }
@@ -29,6 +31,7 @@ pub fn read_items(alloc: Global, bytes: &[u8]) -> Result<Items, TextFault>
 pub fn read(alloc: Global, bytes: &[u8]) -> Result<Sexp, TextFault>
     requires { length bytes.now ≤ MOST_BYTES }
     ensures found { IfOk result (λ item. SpellsItems bytes.now (item ∷ [])) }
+    ensures well_spelled { IfOk result IsWellSpelled }
     ensures only { (item : Sexp) → SpellsItems bytes.now (item ∷ []) → (result ≡ Ok item) ⊎ (result ≡ Err TextFault.NoMemory) }
     ensures fault { IfErr result (λ fault. (fault ≡ TextFault.NoMemory) ⊎ SingleFault bytes.now fault) }
     ensures exact { (fault : TextFault) → SingleFault bytes.now fault → (result ≡ Err fault) ⊎ (result ≡ Err TextFault.NoMemory) }

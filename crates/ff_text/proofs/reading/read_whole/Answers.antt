@@ -11,7 +11,7 @@ loop-b-preserved c = reads_more c.args.bytes.now c.loop-b.b-index c.loop-b.reade
 
 pub returns-in-Err : goal.returns-in-Err
 returns-in-Err c = elim c.in-Err.ensures [
-    inl memory ↦ inl memory
+  | inl memory ↦ inl memory
   | inr stopped ↦ inr (stops_all c.args.bytes.now c.loop-b.b-index c.loop-b.reader c.in-Err.fault c.loop-b.invariant c.loop-b-test.true stopped)
 ]
 

@@ -1,4 +1,4 @@
-use Rattle.std.proofs.Common.{◌≡◌, ◌+◌, List, [], ◌∷◌, ◌++◌, Ok, true, false, inr, subst, sym, ◌∙◌}
+use Rattle.std.proofs.Common.{◌≡◌, ◌+◌, Ok, true, false, inr, subst, sym, ◌∙◌}
 use Rattle.std.specs.Str.{is_utf8, IsUtf8}
 use Rattle.std.proofs.lemmas.Str.{is_utf8-from_IsUtf8}
 use Rattle.ff_text.specs.Machine.{Makes, with_item, str_ended, span}
@@ -23,4 +23,4 @@ returns c =
     let text : c.in-Ok-Some.text ≡ c.args.self.now.value = good.value ∙ whole in
     let made : with_item (record c.args.self.now { mode = Between; at = c.args.self.now.at + 1; value = c.take-value.new.self }) (Str (span c.args.from (c.args.self.now.at + 1)) c.in-Ok-Some.text) ≡ str_ended c.args.self.now c.args.from = cc (text, c.take-value.ensures.left) in
     subst (λ answer. Makes c.put.result c.put.new.self answer) (sym (end_str-good c.args.self.now c.args.from test))
-        (subst (λ r. Makes c.put.result c.put.new.self (Ok r)) made c.put.ensures)
+    (subst (λ r. Makes c.put.result c.put.new.self (Ok r)) made c.put.ensures)
