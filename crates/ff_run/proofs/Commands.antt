@@ -1,5 +1,5 @@
 -- The words of the command line, one by one.
-use Rattle.std.proofs.Common.{◌≡◌, ℕ, ◌<◌, ◌≤◌, ◌↔◌, Bool, true, nat_eq, IsTrue, List, [], ◌∷◌, length, get_or, map, codes, String, Global, refl, sym, ap, ◌∙◌, arith}
+use Rattle.std.proofs.Common.{◌≡◌, ℕ, ◌<◌, ◌≤◌, ◌↔◌, Bool, true, nat_eq, IsTrue, List, [], ◌∷◌, length, get_or, map, codes, String, Global, sym, ap, ◌∙◌, arith}
 use Rattle.std.specs.String.{string_bytes}
 use Rattle.std.specs.Cmp.Lexicographic.{pointwise, same_text}
 use Rattle.ff_run.specs.Words.{IsMulti}

@@ -1,16 +1,16 @@
 -- How a run ends, and what then stands written.
-use Rattle.std.proofs.Common.{◌≡◌, ◌≢◌, ℕ, ◌+◌, ◌<◌, ◌≤◌, ◌⊎◌, inl, inr, Bool, true, false, Option, Some, None, Result, Ok, Err, List, [], ◌∷◌, ◌++◌, length, refl, sym, ap, subst, ◌∙◌, length-append, arith}
-use Rattle.std.specs.Option.{option_map, IfSome}
+use Rattle.std.proofs.Common.{◌≡◌, ◌≢◌, ℕ, ◌+◌, ◌≤◌, ◌⊎◌, inl, inr, Bool, true, false, Option, Some, None, Result, Ok, Err, List, [], ◌++◌, length, refl, sym, ap, subst, ◌∙◌, length-append, arith}
+use Rattle.std.specs.Option.{IfSome}
 use Rattle.std.specs.Result.{OnOk, OnErr, IfOk}
 use Rattle.std.specs.Io.KnownBytes.{IsAtEnd}
 use Rattle.std.proofs.lemmas.Bool.{false≢true}
 use Rattle.std.proofs.lemmas.Option.{none-some, same_Some}
 use Rattle.ff_reactive.specs.Copies.{multi}
 use Rattle.ff_reactive.specs.Text.{text_out}
-use Rattle.ff_reactive.specs.Laws.{IsProjection, IsSecure, IsPrecise}
-use Rattle.ff_reactive.proofs.Laws.{projected, secured, precised}
-use Rattle.ff_io.specs.Pieces.{Piece, got_of, put_of, has_end, AllPut, IsReading}
-use Rattle.ff_io.specs.Port.{Adds, Leaves, AtEnd}
+use Rattle.ff_reactive.specs.Laws.{IsProjection, IsSecure, IsPrecise, IsNoninterfering}
+use Rattle.ff_reactive.proofs.Laws.{projected, secured, precised, noninterfering}
+use Rattle.ff_io.specs.Pieces.{Piece, got_of, put_of, has_end}
+use Rattle.ff_io.specs.Port.{Leaves}
 use Rattle.ff_io.specs.Fronts.{IsProperFront}
 use Rattle.ff_io.specs.Whole.{Puts, Reads, IsAll}
 use Rattle.ff_io.specs.declared.whole.All.{All}
@@ -20,10 +20,9 @@ use Rattle.ff_run.specs.Levels.{levels, machine, IsInput}
 use Rattle.ff_run.specs.Execution.{Owes}
 use Rattle.ff_run.specs.Trace.{IsTrace, trace_limit}
 use Rattle.ff_run.specs.Status.{IsAnswered, IsFaultless}
-use Rattle.ff_run.specs.Run.{Exchanged, IsPart, IsReadThrough, IsWritten, IsPut, Wrote, OfInputs}
+use Rattle.ff_run.specs.Run.{Exchanged, IsReadThrough, IsWritten, IsPut, Wrote, OfInputs}
 use Rattle.ff_run.specs.declared.status.Status.{Status}
 use Rattle.ff_run.specs.declared.status.Status.TheVariants.{Done, Usage, Trace, ReadFault, WriteFault, NoMemory}
-use Rattle.ff_run.specs.declared.status.TraceFault.{TraceFault}
 use Rattle.ff_run.specs.declared.status.TraceFault.TheVariants.{Unbuilt}
 use Rattle.ff_run.proofs.Lawful.{lawful}
 use Rattle.ff_run.proofs.Unique.{trace_unique, trace_ok, trace_fits}
@@ -210,3 +209,7 @@ faultless NoMemory Read Write command reads writes unread unwritten = tt
 faultless Usage Read Write command reads writes unread unwritten = absurd (command refl)
 faultless ReadFault Read Write command reads writes unread unwritten = absurd (unread (reads refl))
 faultless WriteFault Read Write command reads writes unread unwritten = absurd (unwritten (writes refl))
+
+-- lists of inputs that look the same to a level give it the same view
+pub multi_is_noninterfering : IsNoninterfering machine levels IsInput
+multi_is_noninterfering = noninterfering lawful

@@ -3,16 +3,14 @@ use Rattle.std.proofs.Common.{◌≡◌, ℕ, ◌+◌, ◌-◌, ◌<◌, ◌≤�
 use Rattle.ff_reactive.specs.Text.{lines}
 use Rattle.ff_reactive.specs.Loops.{RunsSoFar}
 use Rattle.ff_reactive.proofs.Loops.{runs_start}
-use Rattle.ff_name.specs.Spelling.{IsDomain}
 use Rattle.ff_name.specs.Address as address
 use Rattle.ff_name.specs.Address.{IsWellSpelled}
 use Rattle.ff_name.specs.declared.urls.Url.{Url}
-use Rattle.ff_value.specs.declared.input.Act.{Act}
 use Rattle.ff_value.specs.declared.input.Input.{Input}
 use Rattle.ff_core.specs.State.{State, empty}
 use Rattle.ff_core.specs.Machine.{IsOpening}
 use Rattle.ff_run.specs.Levels.{levels, machine, IsInput, IsQuiet}
-use Rattle.ff_run.specs.Trace.{SpellsInput, IsFirstLine, IsGood, IsBadAt, Reads, IsTrace, content, trace_limit}
+use Rattle.ff_run.specs.Trace.{SpellsInput, IsFirstLine, IsBadAt, Reads, IsTrace, content, trace_limit}
 use Rattle.ff_run.specs.Execution.{Owes, GoesOn}
 
 -- bytes spell well spelled addresses alone

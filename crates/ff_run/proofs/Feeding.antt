@@ -1,5 +1,5 @@
 -- One input goes to the copies, level by level.
-use Rattle.std.proofs.Common.{◌≡◌, ℕ, ◌+◌, ◌<◌, Bool, true, false, cond, not, Option, Some, None, List, [], ◌∷◌, ◌++◌, length, get_or, set, All, refl, sym, ap, subst, ◌∙◌, append-nil, arith}
+use Rattle.std.proofs.Common.{◌≡◌, ℕ, ◌+◌, ◌<◌, false, cond, Some, None, List, [], ◌++◌, get_or, set, All, sym, ap, subst, ◌∙◌, append-nil}
 use Rattle.std.proofs.lemmas.List.Elements.{All-set}
 use Rattle.ff_reactive.specs.Copies.{at_level}
 use Rattle.ff_reactive.specs.Text.{text_of}

@@ -1,11 +1,11 @@
 -- A line has one tag, or none, and one rest.
-use Rattle.std.proofs.Common.{◌≡◌, ◌≢◌, ℕ, zero, suc, ◌<◌, Option, Some, None, List, [], ◌∷◌, ◌++◌, length, drop, get_or, All, codes, refl, sym, ap, subst, ◌∙◌, append_assoc, arith}
+use Rattle.std.proofs.Common.{◌≡◌, ◌≢◌, ℕ, zero, suc, ◌<◌, Option, Some, None, List, [], ◌∷◌, ◌++◌, drop, get_or, All, codes, refl, sym, ap, subst, ◌∙◌, append_assoc, arith}
 use Rattle.std.specs.List.{slice_get}
 use Rattle.std.proofs.lemmas.List.Elements.{All-head, All-tail}
 use Rattle.ff_lattice.specs.Order.{two, size, name}
 use Rattle.ff_name.specs.declared.levels.Level.{Level}
 use Rattle.ff_value.specs.declared.input.Input.{Input}
-use Rattle.ff_run.specs.Trace.{SpellsInput, IsCut, IsCutAt, HasNoLevel, tag_text}
+use Rattle.ff_run.specs.Trace.{SpellsInput, IsCutAt, HasNoLevel, tag_text}
 use Rattle.ff_run.specs.Levels.{IsTag}
 
 -- two tags with their rests are the same bytes only where they are the same

@@ -1,5 +1,5 @@
 -- A trace spells one list of inputs, and has one first bad line.
-use Rattle.std.proofs.Common.{◌≡◌, ◌≢◌, ℕ, ◌+◌, ◌<◌, ◌≤◌, ◌⊎◌, inl, inr, Bool, true, false, cond, ◌==◌, drop, Option, Some, None, List, [], ◌∷◌, ◌++◌, length, All, codes, refl, sym, ap, subst, ◌∙◌, length-append, arith}
+use Rattle.std.proofs.Common.{◌≡◌, ◌≢◌, ℕ, ◌+◌, ◌≤◌, inl, inr, Bool, true, false, cond, ◌==◌, drop, Option, Some, None, List, [], ◌∷◌, ◌++◌, length, All, codes, refl, sym, ap, subst, ◌∙◌, length-append, arith}
 use Rattle.std.specs.List.{slice_get, onto_first}
 use Rattle.std.proofs.lemmas.List.Elements.{All-nil, All-cons}
 use Rattle.std.proofs.lemmas.Option.{none-some, same_Some}
@@ -13,7 +13,7 @@ use Rattle.ff_value.specs.declared.input.Act.{Act}
 use Rattle.ff_value.specs.declared.input.Act.TheVariants.{Opens}
 use Rattle.ff_value.specs.declared.input.Input.{Input}
 use Rattle.ff_run.specs.Levels.{IsInput}
-use Rattle.ff_run.specs.Trace.{SpellsInput, IsGood, IsBadAt, Reads, IsTrace, content, tag_text, trace_limit}
+use Rattle.ff_run.specs.Trace.{SpellsInput, IsGood, IsBadAt, Reads, IsTrace, content, trace_limit}
 use Rattle.ff_run.proofs.Tags.{same_cut}
 use Rattle.ff_run.proofs.Executing.{spelled_ok}
 

@@ -1,6 +1,6 @@
 -- The built-in policy: the levels L and H, L below H. Every kind of input and every domain is at L, and the user interface
 -- is at H.
-use Rattle.std.specs.Prelude.{◌≡◌, ℕ, ◌<◌, Bool, true, false, cond, Option, Some, None, List, [], ◌∷◌, ◌++◌, ⊤, codes}
+use Rattle.std.specs.Prelude.{◌≡◌, ℕ, ◌<◌, true, cond, Option, Some, None, List, ◌++◌, ⊤, codes}
 use Rattle.ff_reactive.specs.Runs.{Machine}
 use Rattle.ff_reactive.specs.Turns.{machine_of}
 use Rattle.ff_reactive.specs.Copies.{Levels}

@@ -1,5 +1,5 @@
 -- A trace: its lines, the inputs that they spell, and the first bad line.
-use Rattle.std.specs.Prelude.{◌≡◌, ◌≢◌, ℕ, ◌+◌, ◌<◌, ◌≤◌, ◌⊎◌, ◌==◌, cond, Option, Some, None, List, [], ◌∷◌, ◌++◌, length, slice_get, All, ⊤, codes}
+use Rattle.std.specs.Prelude.{◌≡◌, ◌≢◌, ℕ, ◌+◌, ◌<◌, ◌≤◌, ◌⊎◌, ◌==◌, cond, Option, Some, None, List, [], ◌∷◌, ◌++◌, length, slice_get, All, codes}
 use Rattle.ff_reactive.specs.Text.{lines}
 use Rattle.ff_lattice.specs.Order.{two, size, name}
 use Rattle.ff_name.specs.declared.levels.Level.{Level}

@@ -5,10 +5,15 @@
 
 mod copies;
 mod execute;
+mod law;
 mod print;
 mod status;
 mod top;
 mod trace;
 
+pub use law::{a_trace_is_read_in_one_way, multi_is_noninterfering};
 pub use status::{Status, TraceFault};
 pub use top::run;
+
+#[cfg(test)]
+mod tests;
