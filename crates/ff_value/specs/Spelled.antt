@@ -4,11 +4,17 @@ use Rattle.std.specs.Int.{w64}
 use Rattle.std.specs.List.{AllByRecursion}
 use Rattle.std.specs.Str.{IsUtf8}
 use Rattle.ff_name.specs.Spelling.{IsDomain}
-use Rattle.ff_name.specs.Address.{IsWellSpelled}
+use Rattle.ff_name.specs.Address.{IsRequest, IsWellSpelled}
 use Rattle.ff_tree.specs.Spelled.{AreParams, IsSpelledDoc, IsSpelledExpr, IsWellSpelledExpr, doc_depth, expr_depth, most}
 use Rattle.ff_value.specs.declared.input.Act.{Act}
 use Rattle.ff_value.specs.declared.input.Act.TheVariants as act
 use Rattle.ff_value.specs.declared.input.Input.{Input}
+use Rattle.ff_value.specs.declared.output.Out.{Out}
+use Rattle.ff_value.specs.declared.output.Out.TheVariants as out
+use Rattle.ff_value.specs.declared.output.Pair.{Pair}
+use Rattle.ff_value.specs.declared.output.Seen.{Seen}
+use Rattle.ff_value.specs.declared.output.Seen.TheOpen.{Seen-F}
+use Rattle.ff_value.specs.declared.output.Seen.TheFolds.{rec-Seen}
 use Rattle.ff_value.specs.declared.reply.CookieOp.{CookieOp}
 use Rattle.ff_value.specs.declared.reply.CookieOp.TheVariants as cookie
 use Rattle.ff_value.specs.declared.reply.Resp.{Resp}
@@ -79,3 +85,28 @@ IsWellSpelledAct (act.Replies domain request resp) = IsDomain domain × IsNat re
 -- an input that a line spells, whatever its tag
 abbrev pub IsWellSpelledInput : Input → Type 0
 IsWellSpelledInput input = IsWellSpelledAct input.act
+
+-- one level of what the user sees is spelled, where `seen` says of its parts that they are
+abbrev pub seen_spelled : (S : Type 0) → (S → Type 0) → Seen-F S → Type 0
+seen_spelled S seen (Seen-F.Text text) = IsUtf8 text
+seen_spelled S seen (Seen-F.Link url label) = IsWellSpelled url × IsUtf8 label
+seen_spelled S seen (Seen-F.TextBox text) = IsUtf8 text
+seen_spelled S seen (Seen-F.Button label) = IsUtf8 label
+seen_spelled S seen (Seen-F.Div parts) = AllByRecursion seen parts
+
+-- what the user sees has texts and addresses that the notation spells
+unfoldable pub IsSpelledSeen : Seen → Type 0
+IsSpelledSeen = rec-Seen (Type 0) (λ S _. seen_spelled S)
+
+abbrev pub IsSpelledPair : Pair → Type 0
+IsSpelledPair pair = IsUtf8 pair.key × IsUtf8 pair.value
+
+-- an output whose numbers, texts, addresses and domain the notation spells
+abbrev pub IsWellSpelledOut : Out → Type 0
+IsWellSpelledOut out.Opened = Unit {0}
+IsWellSpelledOut (out.Closed win) = IsNat win
+IsWellSpelledOut (out.Loaded win url shown) = IsNat win × IsWellSpelled url × AllByRecursion IsSpelledSeen shown
+IsWellSpelledOut (out.Updated win shown) = IsNat win × AllByRecursion IsSpelledSeen shown
+IsWellSpelledOut (out.Error win fault) = IsNat win
+IsWellSpelledOut out.Stopped = Unit {0}
+IsWellSpelledOut (out.Send domain request cookies body) = IsDomain domain × IsRequest request × AllByRecursion IsSpelledPair cookies × IsUtf8 body
