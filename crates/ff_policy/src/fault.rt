@@ -1,0 +1,58 @@
+ghost use Rattle.ff_policy.specs.declared.fault.PolicyFault.TheVariants.{NoMemory};
+ghost use Rattle.std.specs.Prelude.{◌≡◌};
+
+use ff_lattice::LatticeFault;
+use ff_name::Text;
+use std::alloc::{AllocError, AllocFailed};
+use thiserror::Error;
+
+/// Why bytes are no policy, in the order in which the faults come.
+#[derive(Debug, PartialEq, Eq, Drop, Error)]
+pub enum PolicyFault {
+    /// There are over 65,536 bytes.
+    #[error("too large")]
+    TooLarge,
+    /// The bytes aren't JSON.
+    #[error("not JSON")]
+    NotJson,
+    /// The value isn't an object, or its `version` isn't the number 1.
+    #[error("bad version")]
+    BadVersion,
+    /// The least other member in byte order, or `kinds.` and the least unknown kind.
+    #[error("unknown field")]
+    UnknownField(Text),
+    /// The first member, in the order of the table, that is required and absent or has another shape.
+    #[error("bad shape")]
+    BadShape(Text),
+    /// The levels and the pairs are no lattice.
+    #[error("levels")]
+    Levels(LatticeFault),
+    /// The first place whose string names no level.
+    #[error("unknown level")]
+    UnknownLevel(Text),
+    /// The least key in byte order that is neither a domain nor a dot followed by one.
+    #[error("bad domain")]
+    BadDomain(Text),
+    /// The fuel is 0 or over 1,000,000.
+    #[error("bad fuel")]
+    BadFuel,
+    /// There was no memory.
+    #[error("out of memory")]
+    NoMemory,
+}
+
+impl From<AllocError> for PolicyFault {
+    ghost from_gives = { λ _ fault. fault ≡ NoMemory };
+
+    fn from(_refused: AllocError) -> PolicyFault {
+        PolicyFault::NoMemory
+    }
+}
+
+impl<T: Drop> From<AllocFailed<T>> for PolicyFault {
+    ghost from_gives = { λ _ fault. fault ≡ NoMemory };
+
+    fn from(_refused: AllocFailed<T>) -> PolicyFault {
+        PolicyFault::NoMemory
+    }
+}

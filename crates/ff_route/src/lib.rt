@@ -1,0 +1,2 @@
+//! Who sees which input, and which output is let out.
+#![tactic(auto)]
