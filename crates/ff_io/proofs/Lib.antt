@@ -1,3 +1,4 @@
+pub mod Fetching
 pub mod FrontLemmas
 pub mod Joins
 pub mod PendingLemmas

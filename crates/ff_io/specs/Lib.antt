@@ -1,4 +1,5 @@
 pub mod Pieces
+pub mod Fetched
 pub mod Fronts
 pub mod Counts
 pub mod Port

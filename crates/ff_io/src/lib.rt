@@ -7,6 +7,7 @@
 
 mod counts;
 mod dir_shelf;
+mod fetch;
 mod mem_port;
 mod mem_shelf;
 mod mem_sink;
@@ -19,6 +20,7 @@ mod tape;
 mod whole;
 
 pub use dir_shelf::DirShelf;
+pub use fetch::{FetchFail, fetch_front};
 pub use mem_port::MemPort;
 pub use mem_shelf::MemShelf;
 pub use mem_sink::MemSink;

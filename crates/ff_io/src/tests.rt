@@ -92,6 +92,16 @@ fn a_sink_in_memory(rt: HostRuntime) -> Result<(), Fail> {
 }
 
 // A shelf with the file `p.json`, which holds `abc`, whose third fetch fails.
+/// A shelf with one file of three bytes, of which every fetch is good.
+fn a_shelf(alloc: Global) -> Result<MemShelf, AllocError> {
+    let mut files = BTreeMap::new(alloc);
+    files.insert(
+        String::from_str(alloc, "p.json")?,
+        Vec::from_slice(alloc, b"abc")?,
+    )?;
+    Ok(MemShelf::new(files, Vec::new(alloc)))
+}
+
 fn failing_shelf(alloc: Global) -> Result<MemShelf, AllocError> {
     let mut files = BTreeMap::new(alloc);
     files.insert(
@@ -113,6 +123,25 @@ fn a_shelf_in_memory(rt: HostRuntime) -> Result<(), Fail> {
     ];
     for (name, at, want) in cases {
         assert_eq!(rt; shelf.fetch(name, at, &mut [0; 2]), want, "{name} at {at}");
+    }
+    Ok(())
+}
+
+#[test]
+fn the_front_of_a_file(rt: HostRuntime) -> Result<(), Fail> {
+    let cases = [
+        ("p.json", 1, Some(1)),
+        ("p.json", 3, Some(3)),
+        ("p.json", 9, Some(3)),
+        ("q.json", 9, None),
+    ];
+    for (name, limit, want) in cases {
+        let mut shelf = a_shelf(rt.alloc())?;
+        let got = match fetch_front(rt.alloc(), &mut shelf, name, limit) {
+            Ok(bytes) => Some(bytes.len()),
+            Err(_) => None,
+        };
+        assert_eq!(rt; got, want, "{limit} bytes of {name}");
     }
     Ok(())
 }

@@ -1,0 +1,100 @@
+//! Fetching the front of a file.
+ghost use Rattle.std.specs.Prelude.{◌≡◌, ◌+◌, ◌-◌, ◌<◌, ◌≤◌, length, IfOk, IsErrOf, min, vec_len};
+ghost use Rattle.ff_io.specs.Counts.{Rose};
+ghost use Rattle.ff_io.specs.Fetched.{IsFetched, IsFetchedPiece};
+ghost use Rattle.ff_io.specs.declared.fetch.FetchFail.TheVariants.{Fetch, NoMemory};
+
+use super::outside::{Failed, Shelf};
+use std::alloc::{AllocError, Global};
+use thiserror::Error;
+
+/// Why fetching a file stopped.
+#[derive(Clone, Copy, Debug, PartialEq, Eq, Error)]
+pub enum FetchFail {
+    /// A fetch failed, as where the file isn't there.
+    #[error("a fetch failed")]
+    Fetch,
+    /// There is no memory for what was fetched.
+    #[error("no memory for what was fetched")]
+    NoMemory,
+}
+
+impl From<Failed> for FetchFail {
+    ghost from_gives = { λ _ fail. fail ≡ Fetch };
+
+    fn from(_failed: Failed) -> FetchFail {
+        FetchFail::Fetch
+    }
+}
+
+impl From<AllocError> for FetchFail {
+    ghost from_gives = { λ _ fail. fail ≡ NoMemory };
+
+    fn from(_error: AllocError) -> FetchFail {
+        FetchFail::NoMemory
+    }
+}
+
+/// How many bytes one fetch asks for at most.
+const CHUNK: usize = 4_096;
+
+/// Fetches the first `limit` bytes of the named file, or all of them where it has fewer. `limit` is at least 1.
+///
+/// # Errors
+///
+/// `Fetch` where a fetch failed, as where the file isn't there; `NoMemory` where there is none for the bytes.
+#[tactic(auto, using(crate::proofs::Fetching::fetching_start, crate::proofs::Fetching::fetching_more, crate::proofs::Fetching::fetched_all))]
+pub fn fetch_front<S: Shelf>(
+    alloc: Global,
+    shelf: &mut S,
+    name: &str,
+    limit: usize,
+) -> Result<Vec<u8>, FetchFail>
+    requires { 0 < limit }
+    ensures bytes { IfOk result (λ bytes. IsFetched (S.files shelf.old) name.now limit bytes.items) }
+    ensures within { IfOk result (λ bytes. vec_len bytes ≤ limit) }
+    ensures files { S.files shelf.new ≡ S.files shelf.old }
+    ensures later { S.faults shelf.old name.now ≤ S.faults shelf.new name.now }
+    ensures cause { IsErrOf result FetchFail.Fetch → Rose (S.faults shelf.old name.now) (S.faults shelf.new name.now) }
+{
+    let mut chunk = chunk_of(alloc, CHUNK)?;
+    let mut bytes = Vec::new(alloc);
+    let mut ended = false;
+    while !ended && bytes.len() < limit {
+        let size = size_of_fetch(limit - bytes.len());
+        ended = fetch_piece(shelf, name, &mut chunk[..size], &mut bytes)?;
+    }
+    Ok(bytes)
+}
+
+// A vector of `size` zeros.
+fn chunk_of(alloc: Global, size: usize) -> Result<Vec<u8>, AllocError>
+    ensures { IfOk result (λ chunk. vec_len chunk ≡ size) }
+{
+    vec![in alloc; 0u8; size]
+}
+
+// How many bytes to ask for, where so many are wanted.
+fn size_of_fetch(wanted: usize) -> usize
+    ensures { result ≡ min 4096 wanted }
+{
+    wanted.min(CHUNK)
+}
+
+// Fetches one piece from where `bytes` ends, adds it to `bytes`, and says whether it is the end.
+fn fetch_piece<S: Shelf>(
+    shelf: &mut S,
+    name: &str,
+    into: &mut [u8],
+    bytes: &mut Vec<u8>,
+) -> Result<bool, FetchFail>
+    requires { 0 < length into.old }
+    ensures piece { IfOk result (IsFetchedPiece (S.files shelf.old) name.now bytes.old.items bytes.new.items (length into.old)) }
+    ensures files { S.files shelf.new ≡ S.files shelf.old }
+    ensures later { S.faults shelf.old name.now ≤ S.faults shelf.new name.now }
+    ensures cause { IsErrOf result FetchFail.Fetch → Rose (S.faults shelf.old name.now) (S.faults shelf.new name.now) }
+{
+    let n = shelf.fetch(name, bytes.len() as u64, into)?;
+    bytes.extend_from_slice(&into[..n])?;
+    Ok(n == 0)
+}
