@@ -1,0 +1,55 @@
+ghost use Rattle.std.specs.Prelude.{◌≡◌, ◌↔◌, ◌<◌, ◌^◌, ℕ, ℤ, negsuc, suc, IfSome, IsTrue, FitsSigned};
+ghost use Rattle.std.specs.Int.{w64, is_negative};
+ghost use Rattle.std.specs.Str.{all_ascii_digits};
+ghost use Rattle.ff_number.specs.Decimal.{nat_text, num_text};
+ghost use Rattle.ff_number.specs.Decimal as spelling;
+
+/// The number that these bytes spell: `0`, or digits that begin with 1 to 9. `None` where they spell none below 2^64.
+pub fn read_nat(bytes: &[u8]) -> Option<u64>
+    ensures spelled { (n : ℕ) → n < 2 ^ 64 → (result ≡ Some n) ↔ (bytes.now ≡ nat_text n) }
+    ensures within { IfSome result (λ n. n < 2 ^ 64) }
+{
+    if !is_canonical(bytes) {
+        return None;
+    }
+    let text = str::from_utf8(bytes).ok()?;
+    text.parse::<u64>().ok()
+}
+
+/// The number that these bytes spell: `0`, or digits that begin with 1 to 9, after a minus where it is negative. `None`
+/// where they spell none from -2^63 to 2^63 - 1.
+pub fn read_num(bytes: &[u8]) -> Option<i64>
+    ensures spelled { (n : ℤ) → FitsSigned w64 n → (result ≡ Some n) ↔ (bytes.now ≡ num_text n) }
+    ensures within { IfSome result (λ n. FitsSigned w64 n) }
+{
+    match bytes.strip_prefix(b"-") {
+        Some(digits) => read_below_zero(digits),
+        None => i64::try_from(read_nat(bytes)?).ok(),
+    }
+}
+
+/// The negative number whose size these bytes spell.
+fn read_below_zero(digits: &[u8]) -> Option<i64>
+    ensures spelled { (n : ℕ) → n < 2 ^ 63 → (result ≡ Some (negsuc n)) ↔ (digits.now ≡ nat_text (suc n)) }
+    ensures negative { IfSome result (λ n. IsTrue (is_negative n)) }
+{
+    let past_one = read_nat(digits)?.checked_sub(1)?;
+    let past_one = i64::try_from(past_one).ok()?;
+    Some(-1 - past_one)
+}
+
+fn is_canonical(bytes: &[u8]) -> bool
+    ensures { result ≡ spelling.is_canonical bytes.now }
+{
+    match bytes.split_first() {
+        Some((b'0', rest)) => rest.is_empty(),
+        Some((first, rest)) => first.is_ascii_digit() && are_digits(rest),
+        None => false,
+    }
+}
+
+fn are_digits(bytes: &[u8]) -> bool
+    ensures { result ≡ all_ascii_digits bytes.now }
+{
+    bytes.iter().all(|b| b.is_ascii_digit())
+}
