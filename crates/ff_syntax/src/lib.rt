@@ -2,5 +2,8 @@
 #![tactic(auto)]
 
 mod fault;
+mod print;
 
 pub use fault::SyntaxFault;
+pub use ff_name::NoMemory;
+pub use print::{print_doc, print_expr, print_pairs, print_resp, print_shown};

@@ -1,0 +1,53 @@
+ghost use Rattle.std.specs.Prelude.{◌≡◌, ◌≢◌, ◌++◌, OnOk, OnErr, All};
+ghost use Rattle.std.specs.List.{AllByRecursion};
+ghost use Rattle.ff_name.specs.Output.{AppendsFront};
+ghost use Rattle.ff_text.specs.Printed.{spelled};
+ghost use Rattle.ff_value.specs.Spelled.{IsSpelledSeen};
+ghost use Rattle.ff_syntax.specs.Canonical.{doc_item, expr_item, resp_item, shown_item, pairs_item};
+
+use crate::NoMemory;
+use ff_tree::{Doc, Expr};
+use ff_value::{Pairs, Resp, Shown};
+use std::alloc::AllocError;
+
+/// Appends the canonical spelling of a document. After `NoMemory` a front of it was appended.
+pub fn print_doc(doc: &Doc, out: &mut Vec<u8>) -> Result<(), NoMemory>
+    ensures ok { OnOk result (out.new.items ≡ out.old.items ++ spelled (doc_item doc.now)) }
+    ensures err { OnErr result (AppendsFront out.old.items out.new.items (spelled (doc_item doc.now))) }
+{
+    Err(AllocError)
+}
+
+/// Appends the canonical spelling of an expression. After `NoMemory` a front of it was appended.
+pub fn print_expr(expr: &Expr, out: &mut Vec<u8>) -> Result<(), NoMemory>
+    ensures ok { OnOk result (out.new.items ≡ out.old.items ++ spelled (expr_item expr.now)) }
+    ensures err { OnErr result (AppendsFront out.old.items out.new.items (spelled (expr_item expr.now))) }
+{
+    Err(AllocError)
+}
+
+/// Appends the canonical spelling of a response. After `NoMemory` a front of it was appended.
+pub fn print_resp(resp: &Resp, out: &mut Vec<u8>) -> Result<(), NoMemory>
+    ensures ok { OnOk result (out.new.items ≡ out.old.items ++ spelled (resp_item resp.now)) }
+    ensures err { OnErr result (AppendsFront out.old.items out.new.items (spelled (resp_item resp.now))) }
+{
+    Err(AllocError)
+}
+
+/// Appends the canonical spelling of a page as the user sees it. After `NoMemory` a front of it was
+/// appended.
+pub fn print_shown(shown: &Shown, out: &mut Vec<u8>) -> Result<(), NoMemory>
+    ensures ok { OnOk result (out.new.items ≡ out.old.items ++ spelled (shown_item shown.now)) }
+    ensures err { OnErr result (AppendsFront out.old.items out.new.items (spelled (shown_item shown.now))) }
+{
+    Err(AllocError)
+}
+
+/// Appends the canonical spelling of keys and values, as a list of lists of two strings. After
+/// `NoMemory` a front of it was appended.
+pub fn print_pairs(pairs: &Pairs, out: &mut Vec<u8>) -> Result<(), NoMemory>
+    ensures ok { OnOk result (out.new.items ≡ out.old.items ++ spelled (pairs_item pairs.now)) }
+    ensures err { OnErr result (AppendsFront out.old.items out.new.items (spelled (pairs_item pairs.now))) }
+{
+    Err(AllocError)
+}
