@@ -1,0 +1,4 @@
+pub mod Kinds
+pub mod Lines
+pub mod Parts
+pub mod Printed
