@@ -2,5 +2,13 @@
 #![tactic(auto)]
 
 mod fault;
+mod key;
+mod kinds;
+mod policy;
 
 pub use fault::PolicyFault;
+pub use policy::Policy;
+use std::alloc::AllocError;
+
+/// The answer of a call that found no memory.
+pub type NoMemory = AllocError;

@@ -1,0 +1,142 @@
+-- A policy as a value: the levels with their order, the level of each kind of input, of each domain and of the user interface,
+-- and the fuel of an input.
+use Rattle.std.specs.Prelude.{◌≡◌, ◌≢◌, ◌⊎◌, ◌<◌, ◌≤◌, ℕ, Bool, eqb, ◌==◌, ◌&&◌, true, false, nat_le, List, [], ◌∷◌, length, get_or, Option, Some, None, bytes_eq, if◌then◌else◌}
+use Rattle.std.specs.List.{find, ends_with}
+use Rattle.ff_name.specs.declared.levels.Level.{Level}
+use Rattle.ff_name.specs.Spelling.{IsDomain}
+use Rattle.ff_value.specs.declared.input.Act.{Act}
+use Rattle.ff_value.specs.declared.input.Act.TheVariants.{Opens, Goes, Links, Closes, Types, Clicks, Replies}
+use Rattle.ff_value.specs.declared.input.Input.{Input}
+use Rattle.ff_value.specs.declared.output.Out.{Out}
+use Rattle.ff_value.specs.declared.output.Out.TheVariants.{Opened, Closed, Loaded, Updated, Error, Stopped, Send}
+use Rattle.ff_lattice.specs.Order.{Order, size, join, two, IsOrder}
+
+-- the levels of what a user does
+pub record Kinds : Type 0 where
+  pub opens : ℕ
+  pub goes : ℕ
+  pub links : ℕ
+  pub closes : ℕ
+  pub types : ℕ
+  pub clicks : ℕ
+
+-- a key for domains, and the level of those that it stands for
+pub record Key : Type 0 where
+  pub key : List ℕ
+  pub level : ℕ
+
+-- the levels and their order, the level of the user interface, the level of domains that no key stands for, the keys in byte
+-- order, the levels of the kinds, and the fuel of an input
+pub record Assignment : Type 0 where
+  pub order : Order
+  pub ui : ℕ
+  pub other : ℕ
+  pub domains : List Key
+  pub kinds : Kinds
+  pub fuel : ℕ
+
+-- ---- domains
+
+-- whether the key begins with a dot
+abbrev pub is_dotted : List ℕ → Bool
+is_dotted [] = false
+is_dotted (b ∷ bytes) = b == 46
+
+-- whether the key begins with a dot and the domain ends with it
+abbrev pub covers : List ℕ → List ℕ → Bool
+covers key domain = is_dotted key && ends_with eqb domain key
+
+-- the longer of two keys, of which the second may be missing: the first where they are as long
+abbrev pub longer : Key → Option Key → Key
+longer first None = first
+longer first (Some second) = if nat_le (length second.key) (length first.key) then first else second
+
+-- the longest of the keys that cover the domain
+abbrev pub longest : List ℕ → List Key → Option Key
+longest domain [] = None
+longest domain (k ∷ keys) = if covers k.key domain then Some (longer k (longest domain keys)) else longest domain keys
+
+-- the level of a key, or the level that is given where there is none
+abbrev pub level_or : Option Key → ℕ → ℕ
+level_or None level = level
+level_or (Some key) level = key.level
+
+-- the level of a domain: that of its own key, else of the longest key that covers it, else that of all other domains
+unfoldable pub domain_level : Assignment → List ℕ → ℕ
+domain_level policy domain = level_or (find (λ k. bytes_eq k.key domain) policy.domains) (level_or (longest domain policy.domains) policy.other)
+
+-- ---- inputs and outputs
+
+-- the level of an act: its kind's, and for a reply its domain's
+abbrev pub act_level : Assignment → Act → ℕ
+act_level policy (Opens url) = policy.kinds.opens
+act_level policy (Goes win url) = policy.kinds.goes
+act_level policy (Links win link) = policy.kinds.links
+act_level policy (Closes win) = policy.kinds.closes
+act_level policy (Types win field text) = policy.kinds.types
+act_level policy (Clicks win button) = policy.kinds.clicks
+act_level policy (Replies domain request resp) = domain_level policy domain
+
+-- a level joined with a tag, where there is one
+abbrev pub with_tag : Order → Option Level → ℕ → ℕ
+with_tag order None level = level
+with_tag order (Some tag) level = join order level tag.0
+
+-- the level of an input: that of its act, joined with its tag
+unfoldable pub level_in : Assignment → Input → ℕ
+level_in policy input = with_tag policy.order input.tag (act_level policy input.act)
+
+-- the level of an output: a request has that of its domain, and all else that of the user interface
+unfoldable pub level_out : Assignment → Out → ℕ
+level_out policy (Send domain request cookies body) = domain_level policy domain
+level_out policy Opened = policy.ui
+level_out policy (Closed win) = policy.ui
+level_out policy (Loaded win url shown) = policy.ui
+level_out policy (Updated win shown) = policy.ui
+level_out policy (Error win fault) = policy.ui
+level_out policy Stopped = policy.ui
+
+-- ---- which policies there are
+
+-- the key at a place
+abbrev pub key_at : List Key → ℕ → Key
+key_at keys place = get_or keys place (record { key = []; level = 0 })
+
+-- a domain, or a dot and a domain
+abbrev pub IsKey : List ℕ → Type 0
+IsKey key = IsDomain key ⊎ ((domain : List ℕ) × (key ≡ 46 ∷ domain) × IsDomain domain)
+
+-- the levels of the kinds are below n
+pub record AreWithin (n : ℕ) (kinds : Kinds) : Type 0 where
+  pub opens : kinds.opens < n
+  pub goes : kinds.goes < n
+  pub links : kinds.links < n
+  pub closes : kinds.closes < n
+  pub types : kinds.types < n
+  pub clicks : kinds.clicks < n
+
+-- keys for domains, no two of them equal, with levels below n
+pub record AreKeys (n : ℕ) (keys : List Key) : Type 0 where
+  pub spelled : (k : ℕ) → k < length keys → IsKey (key_at keys k).key
+  pub apart : (j k : ℕ) → j < k → k < length keys → (key_at keys j).key ≢ (key_at keys k).key
+  pub levels : (k : ℕ) → k < length keys → (key_at keys k).level < n
+
+-- a lattice of levels, in which all the levels lie, and a fuel from 1 to 1,000,000
+pub record IsAssignment (policy : Assignment) : Type 0 where
+  pub order_is : IsOrder policy.order
+  pub ui_within : policy.ui < size policy.order
+  pub other_within : policy.other < size policy.order
+  pub keys : AreKeys (size policy.order) policy.domains
+  pub kinds_within : AreWithin (size policy.order) policy.kinds
+  pub some_fuel : 1 ≤ policy.fuel
+  pub little_fuel : policy.fuel ≤ 1000000
+
+-- ---- the built-in policy
+
+-- each kind at one level
+abbrev pub all_kinds : ℕ → Kinds
+all_kinds level = record { opens = level; goes = level; links = level; closes = level; types = level; clicks = level }
+
+-- L below H, the user interface at H, every domain and every kind of input at L
+abbrev pub builtin : Assignment
+builtin = record { order = two; ui = 1; other = 0; domains = []; kinds = all_kinds 0; fuel = 10000 }
