@@ -1,1 +1,4 @@
 pub mod Assignment
+pub mod Members
+pub mod Naming
+pub mod Reading

@@ -1,5 +1,6 @@
-ghost use Rattle.std.specs.Prelude.{◌≡◌, IfOk};
+ghost use Rattle.std.specs.Prelude.{◌≡◌, ◌≢◌, ◌⊎◌, IfOk, IfErr, IsErrOf, Ok, Err};
 ghost use Rattle.ff_policy.specs.Assignment.{Assignment, IsAssignment, builtin};
+ghost use Rattle.ff_policy.specs.Reading.{IsPolicyOf, IsFault};
 
 use crate::kinds::Kinds;
 use crate::key::Key;
@@ -45,6 +46,17 @@ impl Policy {
             kinds: Kinds::all(Level(0)),
             fuel: 10_000,
         })
+    }
+
+    /// The policy that these bytes give as JSON. Its refusals, in their order: over 65,536 bytes; no JSON; no object of version
+    /// 1; another member, or another kind of input; a member that is missing or has another shape; levels that are no lattice;
+    /// a name that is no level's; a key that is neither a domain nor a dot followed by one; a fuel of 0 or over 1,000,000. Want
+    /// of memory may come in place of any of these.
+    pub fn read(_alloc: Global, _bytes: &[u8]) -> Result<Policy, PolicyFault>
+        ensures ok { IfOk result (IsPolicyOf _bytes.now) }
+        ensures fault { IfErr result (λ fault. fault ≢ PolicyFault.NoMemory → IsFault _bytes.now fault) }
+    {
+        Err(PolicyFault::NoMemory)
     }
 
     /// The levels and their order.

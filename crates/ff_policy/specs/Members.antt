@@ -1,0 +1,152 @@
+-- The JSON value of a policy: which members it has, what shape each of them has, and the fault where one is missing, is none of
+-- a policy's or has another shape.
+use Rattle.std.specs.Prelude.{ℕ, Bool, false, not, ◌==◌, List, [], ◌∷◌, ◌++◌, codes, bytes_eq, Option, Some, None, option_map, option_and_then, Result, Ok, Err, if◌then◌else◌}
+use Rattle.std.specs.List.{find, list_any}
+use Rattle.std.specs.Option.{ok_or}
+use Rattle.serde_json.specs.Data.{Data, Items, no_items, item, Members, no_members, member}
+use Rattle.serde_json.specs.Find.{get_member, as_number, as_str, as_array, as_object, as_u64}
+use Rattle.ff_lattice.specs.declared.pair.Pair.{Pair}
+use Rattle.ff_policy.specs.declared.fault.PolicyFault.{PolicyFault}
+use Rattle.ff_policy.specs.declared.fault.PolicyFault.TheVariants.{BadVersion, UnknownField, BadShape}
+
+-- a key and the name of its level
+pub record Named : Type 0 where
+  pub key : List ℕ
+  pub level : List ℕ
+
+-- what the members say: the names of the levels and the pairs between them, the names of the levels of the user interface, of
+-- the domains and of the kinds of input, and the fuel
+pub record Plan : Type 0 where
+  pub levels : List (List ℕ)
+  pub below : List Pair
+  pub ui : List ℕ
+  pub other : List ℕ
+  pub domains : List Named
+  pub kinds : List Named
+  pub fuel : ℕ
+
+-- what the second step makes of the first one's answer, or the first one's fault
+infixl 10 ◌>>=◌
+abbrev pub ◌>>=◌ : {X Y : Type 0} → Result X PolicyFault → (X → Result Y PolicyFault) → Result Y PolicyFault
+Ok x >>= step = step x
+Err fault >>= step = Err fault
+
+-- ---- names
+
+-- the members that a policy may have
+abbrev pub member_names : List (List ℕ)
+member_names = codes "version" ∷ codes "levels" ∷ codes "below" ∷ codes "ui" ∷ codes "domain" ∷ codes "domains" ∷ codes "kinds" ∷ codes "fuel" ∷ []
+
+-- the kinds of input that a user makes
+abbrev pub kind_names : List (List ℕ)
+kind_names = codes "open" ∷ codes "go" ∷ codes "link" ∷ codes "close" ∷ codes "type" ∷ codes "click" ∷ []
+
+-- whether the name is one of these
+abbrev pub is_among : List (List ℕ) → List ℕ → Bool
+is_among names name = list_any (bytes_eq name) names
+
+-- the keys of an object, in byte order
+abbrev pub keys_of : Members → List (List ℕ)
+keys_of no_members = []
+keys_of (member key value members) = key ∷ keys_of members
+
+-- the least key of an object in byte order that is none of these
+abbrev pub first_other : List (List ℕ) → Members → Option (List ℕ)
+first_other names members = find (λ key. not (is_among names key)) (keys_of members)
+
+-- ---- shapes
+
+-- a whole number that 64 bits hold, with no sign, point or exponent
+abbrev pub whole : Data → Option ℕ
+whole value = option_and_then as_u64 (as_number value)
+
+-- the texts of a list of strings
+abbrev pub texts_of : Items → Option (List (List ℕ))
+texts_of no_items = Some []
+texts_of (item value items) = option_and_then (λ text. option_map (λ texts. text ∷ texts) (texts_of items)) (as_str value)
+
+abbrev pub texts : Data → Option (List (List ℕ))
+texts value = option_and_then texts_of (as_array value)
+
+-- two texts as a pair, low then high
+abbrev pub pair_of : List (List ℕ) → Option Pair
+pair_of (low ∷ high ∷ []) = Some (record { low = low; high = high })
+pair_of texts = None
+
+-- the pairs of a list of arrays of two strings
+abbrev pub pairs_of : Items → Option (List Pair)
+pairs_of no_items = Some []
+pairs_of (item value items) = option_and_then (λ pair. option_map (λ pairs. pair ∷ pairs) (pairs_of items)) (option_and_then pair_of (texts value))
+
+abbrev pub pairs : Data → Option (List Pair)
+pairs value = option_and_then pairs_of (as_array value)
+
+-- the keys of an object of strings, each with its string
+abbrev pub named_of : Members → Option (List Named)
+named_of no_members = Some []
+named_of (member key value members) = option_and_then (λ level. option_map (λ named. record { key = key; level = level } ∷ named) (named_of members)) (as_str value)
+
+abbrev pub named : Data → Option (List Named)
+named value = option_and_then named_of (as_object value)
+
+-- ---- the members in order
+
+-- what `shape` reads of the member of this name, which must be there
+abbrev pub required : {X : Type 0} → (Data → Option X) → List ℕ → Members → Result X PolicyFault
+required shape name members = ok_or (option_and_then shape (get_member name members)) (BadShape name)
+
+-- what `shape` reads of a member, or what stands for one that isn't there
+abbrev pub shape_or : {X : Type 0} → X → (Data → Option X) → Option Data → Option X
+shape_or absent shape None = Some absent
+shape_or absent shape (Some value) = shape value
+
+-- the same of the member of this name
+abbrev pub optional : {X : Type 0} → X → (Data → Option X) → List ℕ → Members → Result X PolicyFault
+optional absent shape name members = ok_or (shape_or absent shape (get_member name members)) (BadShape name)
+
+-- whether a version is the number 1
+abbrev pub is_one : Option ℕ → Bool
+is_one None = false
+is_one (Some n) = n == 1
+
+-- the members of an object whose version is the number 1
+abbrev pub of_version_one : Option Members → Result Members PolicyFault
+of_version_one None = Err BadVersion
+of_version_one (Some members) = if is_one (option_and_then whole (get_member (codes "version") members)) then Ok members else Err BadVersion
+
+unfoldable pub members_in : Data → Result Members PolicyFault
+members_in value = of_version_one (as_object value)
+
+-- the least key of the member `kinds` that is no kind, where that member is an object
+abbrev pub other_kind : Members → Option (List ℕ)
+other_kind members = option_and_then (first_other kind_names) (option_and_then as_object (get_member (codes "kinds") members))
+
+-- the least other member, else the least other kind
+abbrev pub unknown_field : Option (List ℕ) → Option (List ℕ) → Option (List ℕ)
+unknown_field (Some name) kind = Some name
+unknown_field None kind = option_map (λ key. codes "kinds." ++ key) kind
+
+-- the fault of a field that isn't known
+abbrev pub no_field : Option (List ℕ) → Result (Unit {0}) PolicyFault
+no_field None = Ok tt
+no_field (Some name) = Err (UnknownField name)
+
+-- all members and kinds are known
+unfoldable pub known : Members → Result (Unit {0}) PolicyFault
+known members = no_field (unknown_field (first_other member_names members) (other_kind members))
+
+-- what the members say, in the order in which their shapes are checked
+unfoldable pub shaped : Members → Result Plan PolicyFault
+shaped members =
+    required texts (codes "levels") members >>= (λ levels.
+    optional [] pairs (codes "below") members >>= (λ below.
+    required as_str (codes "ui") members >>= (λ ui.
+    required as_str (codes "domain") members >>= (λ other.
+    optional [] named (codes "domains") members >>= (λ domains.
+    optional [] named (codes "kinds") members >>= (λ kinds.
+    optional 10000 whole (codes "fuel") members >>= (λ fuel.
+    Ok (record { levels = levels; below = below; ui = ui; other = other; domains = domains; kinds = kinds; fuel = fuel }))))))))
+
+-- what a value says as a policy: it is an object of version 1, no other member stands in it, and each has its shape
+unfoldable pub plan_in : Data → Result Plan PolicyFault
+plan_in value = members_in value >>= (λ members. known members >>= (λ _. shaped members))

@@ -1,0 +1,64 @@
+-- What bytes are as a policy: the policy that they give, or the first fault in them.
+use Rattle.std.specs.Prelude.{◌≡◌, ◌⊎◌, ◌<◌, ◌≤◌, ℕ, List, length, Some, Result, Ok, Err}
+use Rattle.std.specs.Str.{IsUtf8}
+use Rattle.serde_json.specs.Data.{Data}
+use Rattle.serde_json.specs.Read.{read}
+use Rattle.ff_lattice.specs.Order.{Order}
+use Rattle.ff_lattice.specs.Levels as levels
+use Rattle.ff_policy.specs.declared.fault.PolicyFault.{PolicyFault}
+use Rattle.ff_policy.specs.declared.fault.PolicyFault.TheVariants.{TooLarge, NotJson, Levels, BadDomain, BadFuel}
+use Rattle.ff_policy.specs.Assignment.{Key, Assignment, key_at, IsKey}
+use Rattle.ff_policy.specs.Members.{Plan, plan_in}
+use Rattle.ff_policy.specs.Naming.{assigned}
+
+-- the bytes are this JSON value
+pub record IsValueOf (bytes : List ℕ) (value : Data) : Type 0 where
+  pub utf8 : IsUtf8 bytes
+  pub is : read bytes ≡ Some value
+
+-- each key is a domain, or a dot and a domain
+abbrev pub AreSpelled : List Key → Type 0
+AreSpelled keys = (k : ℕ) → k < length keys → IsKey (key_at keys k).key
+
+-- the first key that isn't
+pub record IsFirstNoKey (keys : List Key) (text : List ℕ) : Type 0 where
+  pub place : ℕ
+  pub within : place < length keys
+  pub before : (k : ℕ) → k < place → IsKey (key_at keys k).key
+  pub is : text ≡ (key_at keys place).key
+  pub wrong : ¬ IsKey text
+
+-- a policy whose levels are known: its keys are spelled, and then its fuel is from 1 to 1,000,000
+pub data Checks (policy : Assignment) : Result Assignment PolicyFault → Type 0 where
+  bad_domain : (key : List ℕ) → IsFirstNoKey policy.domains key → Checks policy (Err (BadDomain key))
+  bad_fuel : AreSpelled policy.domains → (policy.fuel ≡ 0) ⊎ (1000000 < policy.fuel) → Checks policy (Err BadFuel)
+  whole : AreSpelled policy.domains → 1 ≤ policy.fuel → policy.fuel ≤ 1000000 → Checks policy (Ok policy)
+
+-- a plan over a lattice: the names that it gives are those of levels
+pub data Names (order : Order) (plan : Plan) : Result Assignment PolicyFault → Type 0 where
+  unknown : (fault : PolicyFault) → assigned order plan ≡ Err fault → Names order plan (Err fault)
+  named : (policy : Assignment) (answer : Result Assignment PolicyFault) → assigned order plan ≡ Ok policy → Checks policy answer → Names order plan answer
+
+-- a plan: its levels and pairs are a lattice
+pub data Orders (plan : Plan) : Result Assignment PolicyFault → Type 0 where
+  no_lattice : (fault : _) → levels.IsFault plan.levels plan.below fault → Orders plan (Err (Levels fault))
+  lattice : (order : Order) (answer : Result Assignment PolicyFault) → levels.IsLatticeOf plan.levels plan.below order → Names order plan answer → Orders plan answer
+
+-- a JSON value: its members are those of a policy
+pub data Says (value : Data) : Result Assignment PolicyFault → Type 0 where
+  bad_member : (fault : PolicyFault) → plan_in value ≡ Err fault → Says value (Err fault)
+  planned : (plan : Plan) (answer : Result Assignment PolicyFault) → plan_in value ≡ Ok plan → Orders plan answer → Says value answer
+
+-- bytes: there are at most 65,536, and they are a JSON value
+pub data Reads (bytes : List ℕ) : Result Assignment PolicyFault → Type 0 where
+  too_large : 65536 < length bytes → Reads bytes (Err TooLarge)
+  not_json : length bytes ≤ 65536 → ((value : Data) → ¬ IsValueOf bytes value) → Reads bytes (Err NotJson)
+  valued : (value : Data) (answer : Result Assignment PolicyFault) → length bytes ≤ 65536 → IsValueOf bytes value → Says value answer → Reads bytes answer
+
+-- the policy that the bytes give
+abbrev pub IsPolicyOf : List ℕ → Assignment → Type 0
+IsPolicyOf bytes policy = Reads bytes (Ok policy)
+
+-- the first fault in the bytes
+abbrev pub IsFault : List ℕ → PolicyFault → Type 0
+IsFault bytes fault = Reads bytes (Err fault)
