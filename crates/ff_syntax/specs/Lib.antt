@@ -1,1 +1,4 @@
+-- What this crate specifies.
+pub mod Words
+pub mod Grammar
 pub mod Canonical

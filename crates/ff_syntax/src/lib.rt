@@ -2,8 +2,11 @@
 #![tactic(auto)]
 
 mod fault;
+mod heads;
 mod print;
+mod reading;
 
 pub use fault::SyntaxFault;
 pub use ff_name::NoMemory;
 pub use print::{print_doc, print_expr, print_pairs, print_resp, print_shown};
+pub use reading::{read_doc, read_expr, read_resp};
