@@ -1,6 +1,7 @@
-ghost use Rattle.std.specs.Prelude.{◌≡◌, ◌↔◌, ◌<◌, ◌^◌, ℕ, ℤ, negsuc, suc, IfSome, IsTrue, FitsSigned};
-ghost use Rattle.std.specs.Int.{w64, is_negative};
-ghost use Rattle.std.specs.Str.{all_ascii_digits};
+ghost use Rattle.std.specs.Prelude.{◌≡◌, ◌≢◌, ◌↔◌, ◌<◌, ◌^◌, ℕ, ℤ, pos, negsuc, suc, List, ◌∷◌, IfSome, MatchOption, FitsSigned};
+ghost use Rattle.std.specs.Int.{w64};
+ghost use Rattle.std.specs.Char.{is_ascii_digit};
+ghost use Rattle.std.specs.List.{list_all};
 ghost use Rattle.ff_number.specs.Decimal.{nat_text, num_text};
 ghost use Rattle.ff_number.specs.Decimal as spelling;
 
@@ -12,8 +13,10 @@ pub fn read_nat(bytes: &[u8]) -> Option<u64>
     if !is_canonical(bytes) {
         return None;
     }
-    let text = str::from_utf8(bytes).ok()?;
-    text.parse::<u64>().ok()
+    match str::from_utf8(bytes) {
+        Ok(text) => text.parse::<u64>().ok(),
+        Err(_) => None,
+    }
 }
 
 /// The number that these bytes spell: `0`, or digits that begin with 1 to 9, after a minus where it is negative. `None`
@@ -22,16 +25,23 @@ pub fn read_num(bytes: &[u8]) -> Option<i64>
     ensures spelled { (n : ℤ) → FitsSigned w64 n → (result ≡ Some n) ↔ (bytes.now ≡ num_text n) }
     ensures within { IfSome result (λ n. FitsSigned w64 n) }
 {
-    match bytes.strip_prefix(b"-") {
+    match strip_minus(bytes) {
         Some(digits) => read_below_zero(digits),
         None => i64::try_from(read_nat(bytes)?).ok(),
     }
 }
 
+/// The bytes after the minus that stands first.
+fn strip_minus(bytes: &[u8]) -> Option<&[u8]>
+    ensures { MatchOption result ((rest : List ℕ) → bytes.now ≢ 45 ∷ rest) (λ rest. bytes.now ≡ 45 ∷ rest.now) }
+{
+    bytes.strip_prefix(b"-")
+}
+
 /// The negative number whose size these bytes spell.
 fn read_below_zero(digits: &[u8]) -> Option<i64>
     ensures spelled { (n : ℕ) → n < 2 ^ 63 → (result ≡ Some (negsuc n)) ↔ (digits.now ≡ nat_text (suc n)) }
-    ensures negative { IfSome result (λ n. IsTrue (is_negative n)) }
+    ensures negative { (n : ℕ) → result ≢ Some (pos n) }
 {
     let past_one = read_nat(digits)?.checked_sub(1)?;
     let past_one = i64::try_from(past_one).ok()?;
@@ -49,7 +59,7 @@ fn is_canonical(bytes: &[u8]) -> bool
 }
 
 fn are_digits(bytes: &[u8]) -> bool
-    ensures { result ≡ all_ascii_digits bytes.now }
+    ensures { result ≡ list_all is_ascii_digit bytes.now }
 {
     bytes.iter().all(|b| b.is_ascii_digit())
 }
