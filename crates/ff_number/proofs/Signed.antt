@@ -1,5 +1,5 @@
 -- The text of a whole number: a minus stands first exactly where it is negative.
-use Rattle.std.proofs.Common.{◌≡◌, ◌≢◌, ◌≤◌, ◌<◌, ◌+◌, ◌^◌, ◌↔◌, ℕ, ℤ, pos, negsuc, suc, Bool, true, false, List, [], ◌∷◌, length, get_or, drop, arith, refl, sym, ap, ◌∙◌, subst, ◌==◌, Option, Some, None, FitsSigned}
+use Rattle.std.proofs.Common.{◌≡◌, ◌≢◌, ◌<◌, ◌^◌, ◌↔◌, ℕ, ℤ, pos, negsuc, suc, true, List, ◌∷◌, drop, arith, sym, ap, ◌∙◌, Option, Some, FitsSigned}
 use Rattle.std.specs.Int.{w64}
 use Rattle.std.specs.List.{list_all}
 use Rattle.std.specs.Char.{is_ascii_digit}

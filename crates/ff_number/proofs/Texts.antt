@@ -1,5 +1,5 @@
 -- What the callers of this crate know of the texts of numbers.
-use Rattle.std.proofs.Common.{◌≡◌, ◌≢◌, ◌≤◌, ◌<◌, ◌+◌, ◌^◌, ℕ, ℤ, pos, negsuc, suc, Bool, true, false, ◌||◌, ◌==◌, List, [], ◌∷◌, length, get_or, arith, refl, sym, ap, ◌∙◌, FitsSigned}
+use Rattle.std.proofs.Common.{◌≡◌, ◌<◌, ◌^◌, ℕ, ℤ, pos, negsuc, suc, Bool, true, ◌||◌, ◌==◌, List, [], ◌∷◌, length, arith, refl, sym, ap, FitsSigned}
 use Rattle.std.specs.Char.{is_ascii_digit}
 use Rattle.std.specs.Int.{w64}
 use Rattle.std.specs.List.{list_all}

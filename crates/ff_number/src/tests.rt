@@ -75,7 +75,11 @@ fn printed_natural_numbers(rt: HostRuntime) -> Result<(), NoMemory> {
 
 #[test]
 fn digits_of_a_number(rt: HostRuntime) {
-    for (n, want) in [(0, "0"), (1_000_000, "1000000"), (u64::MAX, "18446744073709551615")] {
+    for (n, want) in [
+        (0, "0"),
+        (1_000_000, "1000000"),
+        (u64::MAX, "18446744073709551615"),
+    ] {
         assert_eq!(rt; Digits::of(n).as_slice(), want.as_bytes(), "{n}");
     }
 }
