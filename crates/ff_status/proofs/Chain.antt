@@ -1,0 +1,46 @@
+-- The answers of a function that puts one text after another, and stops at the first failure.
+use Rattle.std.proofs.Common.{◌≡◌, ◌<◌, ◌+◌, ℕ, List, [], ◌∷◌, ◌++◌, Option, Result, Ok, Err, OnOk, OnErr, length, take, drop, get_or, refl, sym, ap, ◌∙◌, subst, append-nil, flat_map}
+use Rattle.std.proofs.lemmas.List.{take_more, take-append-drop}
+use Rattle.std.proofs.lemmas.List.Concat.{flat_map-append}
+use Rattle.ff_text.specs.Printed.{quoted, spelled_byte}
+use Rattle.ff_status.specs.Putting.{Puts, Stops}
+use Rattle.ff_status.proofs.Sending.{puts_both, stops_first, stops_second}
+
+-- a failure in the first text, or in the second
+pub at_first : {before now : Option (List ℕ)} {low high : ℕ} {first : List ℕ} (second : List ℕ) → Stops before now low high first → Stops before now low high (first ++ second)
+at_first second s = stops_first _ _ _ _ _ _ s
+
+pub at_second : {before mid now : Option (List ℕ)} {low count high : ℕ} {first second : List ℕ}
+    → Puts before mid low count first → Stops mid now count high second → Stops before now low high (first ++ second)
+at_second p s = stops_second _ _ _ _ _ _ _ _ p s
+
+-- the answer of the call that puts the second text is the answer
+pub ok_after : {T E : Type 0} (answer : Result T E) {before mid : Option (List ℕ)} {low count : ℕ} {first : List ℕ} (now : Option (List ℕ)) (high : ℕ) (second : List ℕ)
+    → Puts before mid low count first → OnOk answer (Puts mid now count high second) → OnOk answer (Puts before now low high (first ++ second))
+ok_after (Ok x) now high second p q = puts_both _ _ _ _ _ _ _ _ p q
+ok_after (Err e) now high second p q = tt
+
+pub stopped_after : {T E : Type 0} (answer : Result T E) {before mid : Option (List ℕ)} {low count : ℕ} {first : List ℕ} (now : Option (List ℕ)) (high : ℕ) (second : List ℕ)
+    → Puts before mid low count first → OnErr answer (Stops mid now count high second) → OnErr answer (Stops before now low high (first ++ second))
+stopped_after (Ok x) now high second p s = tt
+stopped_after (Err e) now high second p s = stops_second _ _ _ _ _ _ _ _ p s
+
+-- what holds, whatever the answer
+pub failed : {T E P : Type 0} (answer : Result T E) → P → OnErr answer P
+failed (Ok x) p = tt
+failed (Err e) p = p
+
+pub quoted-is : (value : List ℕ) → quoted value ≡ 34 ∷ (flat_map spelled_byte value ++ 34 ∷ [])
+unfolding quoted
+quoted-is value = refl
+
+-- the bytes before a place, the byte there, and the rest
+pub value_cut : (value : List ℕ) (i d : ℕ) → i < length value
+    → flat_map spelled_byte value ≡ (flat_map spelled_byte (take i value) ++ spelled_byte (get_or value i d)) ++ flat_map spelled_byte (drop (i + 1) value)
+value_cut value i d inside =
+    ap (flat_map spelled_byte) (sym (take-append-drop (i + 1) value))
+    ∙ flat_map-append spelled_byte (take (i + 1) value) (drop (i + 1) value)
+    ∙ ap (λ l. l ++ flat_map spelled_byte (drop (i + 1) value))
+    (ap (flat_map spelled_byte) (take_more value i d inside)
+    ∙ flat_map-append spelled_byte (take i value) (get_or value i d ∷ [])
+    ∙ ap (λ l. flat_map spelled_byte (take i value) ++ l) (append-nil (spelled_byte (get_or value i d))))

@@ -1,0 +1,18 @@
+use Rattle.std.proofs.Common.{[], ◌∷◌, ◌++◌}
+use Rattle.ff_status.specs.Words.{policy_words}
+use Rattle.ff_status.proofs.Chain.{at_first, at_second, failed, ok_after, stopped_after}
+use Rattle.ff_status.proofs.words.put_policy_line.Goals as goal
+
+pub returns-in_err-put-clause-stopped : goal.returns-in_err-put-clause-stopped
+returns-in_err-put-clause-stopped g c = failed c.from_residual.result (at_first (policy_words c.args.fault.now ++ 10 ∷ []) c.in_err-put.ensures.stopped)
+
+pub returns-in_err-put_policy-clause-stopped : goal.returns-in_err-put_policy-clause-stopped
+returns-in_err-put_policy-clause-stopped g c =
+    failed c.from_residual-in_err-put_policy.result (at_second c.in_ok-put.ensures.ok (at_first (10 ∷ []) c.in_err-put_policy.ensures.stopped))
+
+pub returns-clause-ok : goal.returns-clause-ok
+returns-clause-ok g c = ok_after c.put-2.result _ _ _ c.in_ok-put.ensures.ok (ok_after c.put-2.result _ _ _ c.in_ok-put_policy.ensures.ok c.put-2.ensures.ok)
+
+pub returns-clause-stopped : goal.returns-clause-stopped
+returns-clause-stopped g c =
+    stopped_after c.put-2.result _ _ _ c.in_ok-put.ensures.ok (stopped_after c.put-2.result _ _ _ c.in_ok-put_policy.ensures.ok c.put-2.ensures.stopped)

@@ -1,0 +1,23 @@
+use Rattle.std.proofs.Common.{[], ◌∷◌, ◌++◌, codes}
+use Rattle.ff_number.specs.Decimal.{nat_text}
+use Rattle.ff_status.specs.Words.{trace_words}
+use Rattle.ff_status.proofs.Chain.{at_first, at_second, failed, ok_after, stopped_after}
+use Rattle.ff_status.proofs.words.put_trace_line.Goals as goal
+
+pub returns-in_err-put_number-clause-stopped : goal.returns-in_err-put_number-clause-stopped
+returns-in_err-put_number-clause-stopped g c =
+    failed c.from_residual.result (at_first (codes ": " ++ (trace_words c.args.fault ++ 10 ∷ [])) c.in_err-put_number.ensures.stopped)
+
+pub returns-in_err-put-clause-stopped : goal.returns-in_err-put-clause-stopped
+returns-in_err-put-clause-stopped g c =
+    failed c.from_residual-in_err-put.result (at_second c.in_ok-put_number.ensures.ok (at_first (trace_words c.args.fault ++ 10 ∷ []) c.in_err-put.ensures.stopped))
+
+pub returns-in_err-put_trace-clause-stopped : goal.returns-in_err-put_trace-clause-stopped
+returns-in_err-put_trace-clause-stopped g c =
+    failed c.from_residual-in_err-put_trace.result
+    (at_second c.in_ok-put_number.ensures.ok (at_second c.in_ok-put.ensures.ok (at_first (10 ∷ []) c.in_err-put_trace.ensures.stopped)))
+
+pub returns-clause-stopped : goal.returns-clause-stopped
+returns-clause-stopped g c =
+    stopped_after c.put-2.result _ _ _ c.in_ok-put_number.ensures.ok
+    (stopped_after c.put-2.result _ _ _ c.in_ok-put.ensures.ok (stopped_after c.put-2.result _ _ _ c.in_ok-put_trace.ensures.ok c.put-2.ensures.stopped))

@@ -1,0 +1,10 @@
+//! How a run ends, and the line of it that goes to the error stream.
+#![tactic(auto)]
+
+mod putting;
+mod status;
+#[cfg(test)]
+mod tests;
+mod words;
+
+pub use status::{Status, TraceFault};

@@ -1,0 +1,120 @@
+//! Pieces of a line, put one after another.
+ghost use Rattle.std.specs.Prelude.{◌≡◌, ◌<◌, ◌++◌, flat_map, length, OnOk, OnErr};
+ghost use Rattle.ff_number.specs.Decimal.{nat_text};
+ghost use Rattle.ff_text.specs.Notation as notation;
+ghost use Rattle.ff_text.specs.Printed.{quoted, spelled_byte};
+ghost use Rattle.ff_status.specs.Putting.{Puts, Stops};
+ghost use Rattle.ff_status.specs.Words.{paired};
+
+use ff_io::{Failed, Sink};
+use ff_number::Digits;
+
+/// Puts all of the bytes. It makes no write where there are none.
+///
+/// # Errors
+///
+/// `Failed` where a write failed; a front of the bytes was put before it.
+pub(crate) fn put<E: Sink>(bytes: &[u8], err: &mut E) -> Result<(), Failed>
+    ensures ok { OnOk result (Puts (E.put err.old) (E.put err.new) (E.faults err.old) (E.faults err.new) bytes.now) }
+    ensures stopped { OnErr result (Stops (E.put err.old) (E.put err.new) (E.faults err.old) (E.faults err.new) bytes.now) }
+    ensures none { length bytes.now ≡ 0 → err.new ≡ err.old }
+{
+    let mut left = bytes;
+    while !left.is_empty() {
+        let n = err.write(left)?;
+        left = &left[n..];
+    }
+    Ok(())
+}
+
+/// Puts words, and then a text as it is.
+#[tactic(auto, using(crate::proofs::Sending::puts_both, crate::proofs::Sending::stops_first, crate::proofs::Sending::stops_second))]
+pub(crate) fn put_both<E: Sink>(words: &[u8], text: &[u8], err: &mut E) -> Result<(), Failed>
+    ensures ok { OnOk result (Puts (E.put err.old) (E.put err.new) (E.faults err.old) (E.faults err.new) (words.now ++ text.now)) }
+    ensures stopped { OnErr result (Stops (E.put err.old) (E.put err.new) (E.faults err.old) (E.faults err.new) (words.now ++ text.now)) }
+{
+    put(words, err)?;
+    put(text, err)
+}
+
+/// Puts words, and then a number in decimal.
+pub(crate) fn put_number<E: Sink>(words: &[u8], n: u64, err: &mut E) -> Result<(), Failed>
+    ensures ok { OnOk result (Puts (E.put err.old) (E.put err.new) (E.faults err.old) (E.faults err.new) (words.now ++ nat_text n)) }
+    ensures stopped { OnErr result (Stops (E.put err.old) (E.put err.new) (E.faults err.old) (E.faults err.new) (words.now ++ nat_text n)) }
+{
+    let digits = Digits::of(n);
+    put_both(words, digits.as_slice(), err)
+}
+
+/// Puts words, and then two texts as they are, with a blank between them.
+#[tactic(auto, using(crate::proofs::Sending::puts_both, crate::proofs::Sending::stops_first, crate::proofs::Sending::stops_second))]
+pub(crate) fn put_pair<E: Sink>(words: &[u8], first: &[u8], second: &[u8], err: &mut E) -> Result<(), Failed>
+    ensures ok { OnOk result (Puts (E.put err.old) (E.put err.new) (E.faults err.old) (E.faults err.new) (words.now ++ paired first.now second.now)) }
+    ensures stopped { OnErr result (Stops (E.put err.old) (E.put err.new) (E.faults err.old) (E.faults err.new) (words.now ++ paired first.now second.now)) }
+{
+    put(words, err)?;
+    put(first, err)?;
+    put_both(b" ", second, err)
+}
+
+/// Puts words, and then a text as a string in its canonical spelling.
+#[tactic(auto, using(crate::proofs::Sending::puts_both, crate::proofs::Sending::stops_first, crate::proofs::Sending::stops_second))]
+pub(crate) fn put_quoted<E: Sink>(words: &[u8], text: &[u8], err: &mut E) -> Result<(), Failed>
+    ensures ok { OnOk result (Puts (E.put err.old) (E.put err.new) (E.faults err.old) (E.faults err.new) (words.now ++ quoted text.now)) }
+    ensures stopped { OnErr result (Stops (E.put err.old) (E.put err.new) (E.faults err.old) (E.faults err.new) (words.now ++ quoted text.now)) }
+{
+    put(words, err)?;
+    put_string(text, err)
+}
+
+#[tactic(auto, using(crate::proofs::Sending::puts_both, crate::proofs::Sending::stops_first, crate::proofs::Sending::stops_second))]
+fn put_string<E: Sink>(text: &[u8], err: &mut E) -> Result<(), Failed>
+    ensures ok { OnOk result (Puts (E.put err.old) (E.put err.new) (E.faults err.old) (E.faults err.new) (quoted text.now)) }
+    ensures stopped { OnErr result (Stops (E.put err.old) (E.put err.new) (E.faults err.old) (E.faults err.new) (quoted text.now)) }
+{
+    put(b"\"", err)?;
+    put_value(text, err)?;
+    put(b"\"", err)
+}
+
+/// Puts what stands for a string's value between its marks.
+fn put_value<E: Sink>(text: &[u8], err: &mut E) -> Result<(), Failed>
+    ensures ok { OnOk result (Puts (E.put err.old) (E.put err.new) (E.faults err.old) (E.faults err.new) (flat_map spelled_byte text.now)) }
+    ensures stopped { OnErr result (Stops (E.put err.old) (E.put err.new) (E.faults err.old) (E.faults err.new) (flat_map spelled_byte text.now)) }
+{
+    for b in text {
+        put_byte(*b, err)?;
+    }
+    Ok(())
+}
+
+/// Puts what stands for a byte of a string's value.
+fn put_byte<E: Sink>(b: u8, err: &mut E) -> Result<(), Failed>
+    ensures ok { OnOk result (Puts (E.put err.old) (E.put err.new) (E.faults err.old) (E.faults err.new) (spelled_byte b)) }
+    ensures stopped { OnErr result (Stops (E.put err.old) (E.put err.new) (E.faults err.old) (E.faults err.new) (spelled_byte b)) }
+{
+    if b == b'"' {
+        put(b"\\\"", err)
+    } else if b == b'\\' {
+        put(b"\\\\", err)
+    } else if b == b'\n' {
+        put(b"\\n", err)
+    } else if b == b'\t' {
+        put(b"\\t", err)
+    } else if b.is_ascii_control() {
+        put(&[b'\\', b'x', hex_digit(b / 16), hex_digit(b % 16)], err)
+    } else {
+        put(&[b], err)
+    }
+}
+
+fn hex_digit(digit: u8) -> u8
+    requires { digit < 16 }
+    ensures { result ≡ notation.hex_digit digit }
+{
+    if digit < 10 {
+        b'0' + digit
+    } else {
+        b'a' - 10 + digit
+    }
+}
