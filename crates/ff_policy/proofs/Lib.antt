@@ -1,0 +1,12 @@
+pub mod Apart
+pub mod Arrays
+pub mod Assigning
+pub mod Drafts
+pub mod Fuel
+pub mod Keys
+pub mod Longest
+pub mod Places
+pub mod Seeking
+pub mod Steps
+pub mod Unique
+pub mod Within

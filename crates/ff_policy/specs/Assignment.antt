@@ -1,6 +1,6 @@
 -- A policy as a value: the levels with their order, the level of each kind of input, of each domain and of the user interface,
 -- and the fuel of an input.
-use Rattle.std.specs.Prelude.{◌≡◌, ◌≢◌, ◌⊎◌, ◌<◌, ◌≤◌, ℕ, Bool, eqb, ◌==◌, ◌&&◌, true, false, nat_le, List, [], ◌∷◌, length, get_or, Option, Some, None, bytes_eq, if◌then◌else◌}
+use Rattle.std.specs.Prelude.{◌≡◌, ◌≢◌, ◌⊎◌, ◌<◌, ◌≤◌, ℕ, Bool, eqb, ◌==◌, ◌&&◌, true, false, nat_le, List, [], ◌∷◌, length, get_or, Option, Some, None, bytes_eq, ⊤, if◌then◌else◌}
 use Rattle.std.specs.List.{find, ends_with}
 use Rattle.ff_name.specs.declared.levels.Level.{Level}
 use Rattle.ff_name.specs.Spelling.{IsDomain}
@@ -51,6 +51,11 @@ abbrev pub longer : Key → Option Key → Key
 longer first None = first
 longer first (Some second) = if nat_le (length second.key) (length first.key) then first else second
 
+-- the longer of the best key so far, if any, and another
+abbrev pub longer_of : Option Key → Key → Key
+longer_of None other = other
+longer_of (Some best) other = longer best (Some other)
+
 -- the longest of the keys that cover the domain
 abbrev pub longest : List ℕ → List Key → Option Key
 longest domain [] = None
@@ -77,6 +82,11 @@ act_level policy (Types win field text) = policy.kinds.types
 act_level policy (Clicks win button) = policy.kinds.clicks
 act_level policy (Replies domain request resp) = domain_level policy domain
 
+-- a tag, where there is one, names a level
+abbrev pub IsTag : Order → Option Level → Type 0
+IsTag order None = ⊤
+IsTag order (Some tag) = tag.0 < size order
+
 -- a level joined with a tag, where there is one
 abbrev pub with_tag : Order → Option Level → ℕ → ℕ
 with_tag order None level = level
@@ -102,6 +112,14 @@ level_out policy Stopped = policy.ui
 abbrev pub key_at : List Key → ℕ → Key
 key_at keys place = get_or keys place (record { key = []; level = 0 })
 
+-- one of the keys covers the domain, and each that does is at most as long
+pub record IsLongest (domain : List ℕ) (keys : List Key) (key : Key) : Type 0 where
+  pub place : ℕ
+  pub within : place < length keys
+  pub is : key ≡ key_at keys place
+  pub covers_it : covers key.key domain ≡ true
+  pub longest : (k : ℕ) → k < length keys → covers (key_at keys k).key domain ≡ true → length (key_at keys k).key ≤ length key.key
+
 -- a domain, or a dot and a domain
 abbrev pub IsKey : List ℕ → Type 0
 IsKey key = IsDomain key ⊎ ((domain : List ℕ) × (key ≡ 46 ∷ domain) × IsDomain domain)
@@ -115,19 +133,27 @@ pub record AreWithin (n : ℕ) (kinds : Kinds) : Type 0 where
   pub types : kinds.types < n
   pub clicks : kinds.clicks < n
 
--- keys for domains, no two of them equal, with levels below n
+-- keys no two of which are equal, with levels below n
 pub record AreKeys (n : ℕ) (keys : List Key) : Type 0 where
-  pub spelled : (k : ℕ) → k < length keys → IsKey (key_at keys k).key
   pub apart : (j k : ℕ) → j < k → k < length keys → (key_at keys j).key ≢ (key_at keys k).key
   pub levels : (k : ℕ) → k < length keys → (key_at keys k).level < n
 
--- a lattice of levels, in which all the levels lie, and a fuel from 1 to 1,000,000
-pub record IsAssignment (policy : Assignment) : Type 0 where
+-- each key is a domain, or a dot and a domain
+abbrev pub AreSpelled : List Key → Type 0
+AreSpelled keys = (k : ℕ) → k < length keys → IsKey (key_at keys k).key
+
+-- a lattice of levels, in which all the levels lie, and keys no two of which are equal
+pub record IsDraft (policy : Assignment) : Type 0 where
   pub order_is : IsOrder policy.order
   pub ui_within : policy.ui < size policy.order
   pub other_within : policy.other < size policy.order
   pub keys : AreKeys (size policy.order) policy.domains
   pub kinds_within : AreWithin (size policy.order) policy.kinds
+
+-- such levels, keys that are domains or dots and domains, and a fuel from 1 to 1,000,000
+pub record IsAssignment (policy : Assignment) : Type 0 where
+  pub draft : IsDraft policy
+  pub spelled : AreSpelled policy.domains
   pub some_fuel : 1 ≤ policy.fuel
   pub little_fuel : policy.fuel ≤ 1000000
 

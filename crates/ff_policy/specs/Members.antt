@@ -4,7 +4,7 @@ use Rattle.std.specs.Prelude.{ℕ, Bool, false, not, ◌==◌, List, [], ◌∷�
 use Rattle.std.specs.List.{find, list_any}
 use Rattle.std.specs.Option.{ok_or}
 use Rattle.serde_json.specs.Data.{Data, Items, no_items, item, Members, no_members, member}
-use Rattle.serde_json.specs.Find.{get_member, as_number, as_str, as_array, as_object, as_u64}
+use Rattle.serde_json.specs.Find.{get, as_number, as_str, as_array, as_object, as_u64}
 use Rattle.ff_lattice.specs.declared.pair.Pair.{Pair}
 use Rattle.ff_policy.specs.declared.fault.PolicyFault.{PolicyFault}
 use Rattle.ff_policy.specs.declared.fault.PolicyFault.TheVariants.{BadVersion, UnknownField, BadShape}
@@ -51,8 +51,8 @@ keys_of no_members = []
 keys_of (member key value members) = key ∷ keys_of members
 
 -- the least key of an object in byte order that is none of these
-abbrev pub first_other : List (List ℕ) → Members → Option (List ℕ)
-first_other names members = find (λ key. not (is_among names key)) (keys_of members)
+abbrev pub first_other : List (List ℕ) → Data → Option (List ℕ)
+first_other names value = option_and_then (λ members. find (λ key. not (is_among names key)) (keys_of members)) (as_object value)
 
 -- ---- shapes
 
@@ -92,8 +92,8 @@ named value = option_and_then named_of (as_object value)
 -- ---- the members in order
 
 -- what `shape` reads of the member of this name, which must be there
-abbrev pub required : {X : Type 0} → (Data → Option X) → List ℕ → Members → Result X PolicyFault
-required shape name members = ok_or (option_and_then shape (get_member name members)) (BadShape name)
+abbrev pub required : {X : Type 0} → (Data → Option X) → List ℕ → Data → Result X PolicyFault
+required shape name value = ok_or (option_and_then shape (get name value)) (BadShape name)
 
 -- what `shape` reads of a member, or what stands for one that isn't there
 abbrev pub shape_or : {X : Type 0} → X → (Data → Option X) → Option Data → Option X
@@ -101,25 +101,21 @@ shape_or absent shape None = Some absent
 shape_or absent shape (Some value) = shape value
 
 -- the same of the member of this name
-abbrev pub optional : {X : Type 0} → X → (Data → Option X) → List ℕ → Members → Result X PolicyFault
-optional absent shape name members = ok_or (shape_or absent shape (get_member name members)) (BadShape name)
+abbrev pub optional : {X : Type 0} → X → (Data → Option X) → List ℕ → Data → Result X PolicyFault
+optional absent shape name value = ok_or (shape_or absent shape (get name value)) (BadShape name)
 
--- whether a version is the number 1
+-- whether this is the number 1
 abbrev pub is_one : Option ℕ → Bool
 is_one None = false
 is_one (Some n) = n == 1
 
--- the members of an object whose version is the number 1
-abbrev pub of_version_one : Option Members → Result Members PolicyFault
-of_version_one None = Err BadVersion
-of_version_one (Some members) = if is_one (option_and_then whole (get_member (codes "version") members)) then Ok members else Err BadVersion
-
-unfoldable pub members_in : Data → Result Members PolicyFault
-members_in value = of_version_one (as_object value)
+-- whether the value is an object whose version is the number 1
+abbrev pub is_version_one : Data → Bool
+is_version_one value = is_one (option_and_then whole (get (codes "version") value))
 
 -- the least key of the member `kinds` that is no kind, where that member is an object
-abbrev pub other_kind : Members → Option (List ℕ)
-other_kind members = option_and_then (first_other kind_names) (option_and_then as_object (get_member (codes "kinds") members))
+abbrev pub other_kind : Data → Option (List ℕ)
+other_kind value = option_and_then (first_other kind_names) (get (codes "kinds") value)
 
 -- the least other member, else the least other kind
 abbrev pub unknown_field : Option (List ℕ) → Option (List ℕ) → Option (List ℕ)
@@ -132,21 +128,21 @@ no_field None = Ok tt
 no_field (Some name) = Err (UnknownField name)
 
 -- all members and kinds are known
-unfoldable pub known : Members → Result (Unit {0}) PolicyFault
-known members = no_field (unknown_field (first_other member_names members) (other_kind members))
+unfoldable pub known : Data → Result (Unit {0}) PolicyFault
+known value = no_field (unknown_field (first_other member_names value) (other_kind value))
 
 -- what the members say, in the order in which their shapes are checked
-unfoldable pub shaped : Members → Result Plan PolicyFault
-shaped members =
-    required texts (codes "levels") members >>= (λ levels.
-    optional [] pairs (codes "below") members >>= (λ below.
-    required as_str (codes "ui") members >>= (λ ui.
-    required as_str (codes "domain") members >>= (λ other.
-    optional [] named (codes "domains") members >>= (λ domains.
-    optional [] named (codes "kinds") members >>= (λ kinds.
-    optional 10000 whole (codes "fuel") members >>= (λ fuel.
+unfoldable pub shaped : Data → Result Plan PolicyFault
+shaped value =
+    required texts (codes "levels") value >>= (λ levels.
+    optional [] pairs (codes "below") value >>= (λ below.
+    required as_str (codes "ui") value >>= (λ ui.
+    required as_str (codes "domain") value >>= (λ other.
+    optional [] named (codes "domains") value >>= (λ domains.
+    optional [] named (codes "kinds") value >>= (λ kinds.
+    optional 10000 whole (codes "fuel") value >>= (λ fuel.
     Ok (record { levels = levels; below = below; ui = ui; other = other; domains = domains; kinds = kinds; fuel = fuel }))))))))
 
 -- what a value says as a policy: it is an object of version 1, no other member stands in it, and each has its shape
 unfoldable pub plan_in : Data → Result Plan PolicyFault
-plan_in value = members_in value >>= (λ members. known members >>= (λ _. shaped members))
+plan_in value = if is_version_one value then known value >>= (λ _. shaped value) else Err BadVersion

@@ -1,17 +1,24 @@
 -- The names of levels that a plan gives, each at its place, and the levels that they name.
-use Rattle.std.specs.Prelude.{ℕ, List, [], ◌∷◌, ◌++◌, codes, bytes_eq, Option, Some, None, Result, Ok, Err}
-use Rattle.std.specs.List.{find}
+use Rattle.std.specs.Prelude.{◌≢◌, ◌<◌, ℕ, List, [], ◌∷◌, ◌++◌, length, get_or, codes, bytes_eq, Option, Some, None, Result, Ok, Err}
+use Rattle.std.specs.List.{find, position_from}
 use Rattle.std.specs.Option.{ok_or}
-use Rattle.ff_lattice.specs.LevelSet.{below}
-use Rattle.ff_lattice.specs.Order.{Order, size, name, bottom}
+use Rattle.ff_lattice.specs.Order.{Order, bottom}
 use Rattle.ff_policy.specs.declared.fault.PolicyFault.{PolicyFault}
 use Rattle.ff_policy.specs.declared.fault.PolicyFault.TheVariants.{UnknownLevel}
 use Rattle.ff_policy.specs.Assignment.{Kinds, Key, Assignment}
 use Rattle.ff_policy.specs.Members.{Named, Plan, ◌>>=◌}
 
+-- the one that is named at a place
+abbrev pub named_at : List Named → ℕ → Named
+named_at named place = get_or named place (record { key = []; level = [] })
+
+-- no two of the keys are equal
+abbrev pub AreApart : List Named → Type 0
+AreApart named = (j k : ℕ) → j < k → k < length named → (named_at named j).key ≢ (named_at named k).key
+
 -- the level of this name
 abbrev pub level_named : Order → List ℕ → Option ℕ
-level_named order text = find (λ l. bytes_eq (name order l) text) (below (size order))
+level_named order text = position_from (λ name. bytes_eq name text) 0 order.names
 
 -- the level that is named at a place
 abbrev pub level_at : Order → List ℕ → List ℕ → Result ℕ PolicyFault

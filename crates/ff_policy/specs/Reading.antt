@@ -5,9 +5,10 @@ use Rattle.serde_json.specs.Data.{Data}
 use Rattle.serde_json.specs.Read.{read}
 use Rattle.ff_lattice.specs.Order.{Order}
 use Rattle.ff_lattice.specs.Levels as levels
+use Rattle.ff_lattice.specs.declared.fault.LatticeFault.{LatticeFault}
 use Rattle.ff_policy.specs.declared.fault.PolicyFault.{PolicyFault}
 use Rattle.ff_policy.specs.declared.fault.PolicyFault.TheVariants.{TooLarge, NotJson, Levels, BadDomain, BadFuel}
-use Rattle.ff_policy.specs.Assignment.{Key, Assignment, key_at, IsKey}
+use Rattle.ff_policy.specs.Assignment.{Key, Assignment, key_at, IsKey, AreSpelled}
 use Rattle.ff_policy.specs.Members.{Plan, plan_in}
 use Rattle.ff_policy.specs.Naming.{assigned}
 
@@ -16,11 +17,7 @@ pub record IsValueOf (bytes : List ℕ) (value : Data) : Type 0 where
   pub utf8 : IsUtf8 bytes
   pub is : read bytes ≡ Some value
 
--- each key is a domain, or a dot and a domain
-abbrev pub AreSpelled : List Key → Type 0
-AreSpelled keys = (k : ℕ) → k < length keys → IsKey (key_at keys k).key
-
--- the first key that isn't
+-- the first key that is neither a domain nor a dot and a domain
 pub record IsFirstNoKey (keys : List Key) (text : List ℕ) : Type 0 where
   pub place : ℕ
   pub within : place < length keys
@@ -28,9 +25,17 @@ pub record IsFirstNoKey (keys : List Key) (text : List ℕ) : Type 0 where
   pub is : text ≡ (key_at keys place).key
   pub wrong : ¬ IsKey text
 
+-- the fault of the first such key
+pub data IsKeyFault (keys : List Key) : PolicyFault → Type 0 where
+  no_key : (key : List ℕ) → IsFirstNoKey keys key → IsKeyFault keys (BadDomain key)
+
+-- the fault of levels and pairs that are no lattice
+pub data IsLevelsFault (plan : Plan) : PolicyFault → Type 0 where
+  no_levels : (fault : LatticeFault) → levels.IsFault plan.levels plan.below fault → IsLevelsFault plan (Levels fault)
+
 -- a policy whose levels are known: its keys are spelled, and then its fuel is from 1 to 1,000,000
 pub data Checks (policy : Assignment) : Result Assignment PolicyFault → Type 0 where
-  bad_domain : (key : List ℕ) → IsFirstNoKey policy.domains key → Checks policy (Err (BadDomain key))
+  bad_domain : (fault : PolicyFault) → IsKeyFault policy.domains fault → Checks policy (Err fault)
   bad_fuel : AreSpelled policy.domains → (policy.fuel ≡ 0) ⊎ (1000000 < policy.fuel) → Checks policy (Err BadFuel)
   whole : AreSpelled policy.domains → 1 ≤ policy.fuel → policy.fuel ≤ 1000000 → Checks policy (Ok policy)
 
@@ -41,7 +46,7 @@ pub data Names (order : Order) (plan : Plan) : Result Assignment PolicyFault →
 
 -- a plan: its levels and pairs are a lattice
 pub data Orders (plan : Plan) : Result Assignment PolicyFault → Type 0 where
-  no_lattice : (fault : _) → levels.IsFault plan.levels plan.below fault → Orders plan (Err (Levels fault))
+  no_lattice : (fault : PolicyFault) → IsLevelsFault plan fault → Orders plan (Err fault)
   lattice : (order : Order) (answer : Result Assignment PolicyFault) → levels.IsLatticeOf plan.levels plan.below order → Names order plan answer → Orders plan answer
 
 -- a JSON value: its members are those of a policy

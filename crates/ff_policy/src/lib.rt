@@ -1,12 +1,21 @@
 //! Policies: which levels there are, and which level each kind of input, each domain and the user interface has.
 #![tactic(auto)]
 
+mod checks;
+mod draft;
 mod fault;
 mod key;
 mod kinds;
+mod law;
+mod members;
+mod naming;
+mod plan;
 mod policy;
+#[cfg(test)]
+mod tests;
 
 pub use fault::PolicyFault;
+pub use law::{bytes_read_as_one_policy_or_fault, the_longest_key_is_taken};
 pub use policy::Policy;
 use std::alloc::AllocError;
 

@@ -1,12 +1,22 @@
-ghost use Rattle.std.specs.Prelude.{◌≡◌, ◌≢◌, ◌⊎◌, IfOk, IfErr, IsErrOf, Ok, Err};
-ghost use Rattle.ff_policy.specs.Assignment.{Assignment, IsAssignment, builtin};
-ghost use Rattle.ff_policy.specs.Reading.{IsPolicyOf, IsFault};
+ghost use Rattle.std.specs.Prelude.{◌≡◌, ◌≢◌, ◌⊎◌, ◌<◌, ℕ, List, Option, Some, None, IfOk, IfErr, IsErrOf, Ok, Err};
+ghost use Rattle.ff_lattice.specs.Levels.{IsLatticeOf};
+ghost use Rattle.ff_lattice.specs.Order.{size, IsOrder};
+ghost use Rattle.ff_policy.specs.Assignment.{Assignment, IsDraft, IsAssignment, IsTag, builtin};
+ghost use Rattle.ff_policy.specs.Assignment as spec;
+ghost use Rattle.ff_policy.specs.Reading.{IsLevelsFault, Checks, Names, Orders, Says, IsPolicyOf, IsFault};
+ghost use Rattle.serde_json.specs.View.{view};
 
+use crate::draft::Draft;
+use crate::key::{Key, level_of};
 use crate::kinds::Kinds;
-use crate::key::Key;
+use crate::members::{plan_in, value_of};
+use crate::naming::assigned;
+use crate::plan::Plan;
 use crate::{NoMemory, PolicyFault};
-use ff_lattice::Lattice;
-use ff_name::Level;
+use ff_lattice::{Lattice, LatticeFault};
+use ff_name::{Domain, Level};
+use ff_value::{Act, Input, Out};
+use serde_json::Value;
 use std::alloc::Global;
 use std::marker::Model;
 
@@ -52,11 +62,78 @@ impl Policy {
     /// 1; another member, or another kind of input; a member that is missing or has another shape; levels that are no lattice;
     /// a name that is no level's; a key that is neither a domain nor a dot followed by one; a fuel of 0 or over 1,000,000. Want
     /// of memory may come in place of any of these.
-    pub fn read(_alloc: Global, _bytes: &[u8]) -> Result<Policy, PolicyFault>
-        ensures ok { IfOk result (IsPolicyOf _bytes.now) }
-        ensures fault { IfErr result (λ fault. fault ≢ PolicyFault.NoMemory → IsFault _bytes.now fault) }
+    pub fn read(alloc: Global, bytes: &[u8]) -> Result<Policy, PolicyFault>
+        ensures ok { IfOk result (IsPolicyOf bytes.now) }
+        ensures fault { IfErr result (λ fault. fault ≢ PolicyFault.NoMemory → IsFault bytes.now fault) }
+        ensures accepts { (policy : Assignment) → IsPolicyOf bytes.now policy → (result ≡ Ok policy) ⊎ (result ≡ Err PolicyFault.NoMemory) }
+        ensures only { (fault : PolicyFault) → IsFault bytes.now fault → IsErrOf result fault ⊎ IsErrOf result PolicyFault.NoMemory }
     {
-        Err(PolicyFault::NoMemory)
+        Policy::first_read(alloc, bytes)
+    }
+
+    /// The policy or the first fault.
+    fn first_read(alloc: Global, bytes: &[u8]) -> Result<Policy, PolicyFault>
+        ensures ok { IfOk result (IsPolicyOf bytes.now) }
+        ensures fault { IfErr result (λ fault. fault ≢ PolicyFault.NoMemory → IsFault bytes.now fault) }
+    {
+        let value = value_of(alloc, bytes)?;
+        Policy::of_value(alloc, &value)
+    }
+
+    /// The policy that a JSON value says.
+    fn of_value(alloc: Global, value: &Value) -> Result<Policy, PolicyFault>
+        ensures ok { IfOk result (λ policy. Says (view value.now) (Ok policy)) }
+        ensures fault { IfErr result (λ fault. fault ≢ PolicyFault.NoMemory → Says (view value.now) (Err fault)) }
+    {
+        let plan = plan_in(alloc, value)?;
+        Policy::of_plan(alloc, plan)
+    }
+
+    /// The policy of a plan.
+    fn of_plan(alloc: Global, plan: Plan) -> Result<Policy, PolicyFault>
+        ensures ok { IfOk result (λ policy. Orders plan (Ok policy)) }
+        ensures fault { IfErr result (λ fault. fault ≢ PolicyFault.NoMemory → Orders plan (Err fault)) }
+    {
+        let lattice = lattice_of(alloc, &plan)?;
+        Policy::of_names(alloc, lattice, plan)
+    }
+
+    /// The policy of a plan over its lattice.
+    fn of_names(alloc: Global, lattice: Lattice, plan: Plan) -> Result<Policy, PolicyFault>
+        requires { IsOrder lattice }
+        ensures ok { IfOk result (λ policy. Names lattice plan (Ok policy)) }
+        ensures fault { IfErr result (λ fault. fault ≢ PolicyFault.NoMemory → Names lattice plan (Err fault)) }
+    {
+        let draft = assigned(alloc, lattice, plan)?;
+        Policy::of_draft(alloc, draft)
+    }
+
+    /// The policy of a draft.
+    fn of_draft(alloc: Global, draft: Draft) -> Result<Policy, PolicyFault>
+        requires { IsDraft draft }
+        ensures ok { IfOk result (λ policy. Checks draft (Ok policy)) }
+        ensures fault { IfErr result (λ fault. fault ≢ PolicyFault.NoMemory → Checks draft (Err fault)) }
+    {
+        draft.check_keys(alloc)?;
+        if !draft.has_fuel() {
+            return Err(PolicyFault::BadFuel);
+        }
+        Ok(Policy::whole(draft))
+    }
+
+    /// The draft as a policy.
+    fn whole(draft: Draft) -> Policy
+        requires { IsAssignment draft }
+        ensures { result ≡ draft }
+    {
+        Policy {
+            lattice: draft.lattice,
+            ui: draft.ui,
+            other: draft.other,
+            domains: draft.domains,
+            kinds: draft.kinds,
+            fuel: draft.fuel as u32,
+        }
     }
 
     /// The levels and their order.
@@ -73,5 +150,92 @@ impl Policy {
         ensures valid { IsAssignment self.now }
     {
         self.fuel
+    }
+
+    /// The level of a domain: that of its own key, else of the longest key that begins with a dot and that the domain ends
+    /// with, else that of all other domains.
+    #[tactic(auto, using(crate::proofs::Within::domain_level_within))]
+    pub fn domain_level(&self, domain: &Domain) -> Level
+        ensures value { result.0 ≡ spec.domain_level self.now domain.now }
+        ensures within { result.0 < size self.now.order }
+    {
+        self.level_for(domain)
+    }
+
+    #[tactic(auto, unfolding(crate::specs::Assignment::domain_level))]
+    fn level_for(&self, domain: &Domain) -> Level
+        ensures value { result.0 ≡ spec.domain_level self.now domain.now }
+        ensures valid { IsAssignment self.now }
+    {
+        level_of(&self.domains, domain.text().as_bytes(), self.other)
+    }
+
+    /// The level of an act: its kind's, and for a reply its domain's.
+    #[tactic(auto, using(crate::proofs::Within::act_level_within))]
+    fn act_level(&self, act: &Act) -> Level
+        ensures value { result.0 ≡ spec.act_level self.now act.now }
+        ensures within { result.0 < size self.now.order }
+    {
+        match act {
+            Act::Opens(_) => self.kinds.opens,
+            Act::Goes(_, _) => self.kinds.goes,
+            Act::Links(_, _) => self.kinds.links,
+            Act::Closes(_) => self.kinds.closes,
+            Act::Types(_, _, _) => self.kinds.types,
+            Act::Clicks(_, _) => self.kinds.clicks,
+            Act::Replies(domain, _, _) => self.domain_level(domain),
+        }
+    }
+
+    /// The level of an input: its kind's, or for a reply its domain's, joined with its tag.
+    #[tactic(auto, using(crate::proofs::Within::level_in_within), unfolding(crate::specs::Assignment::level_in))]
+    pub fn level_in(&self, input: &Input) -> Level
+        requires { IsTag self.now.order input.now.tag }
+        ensures value { result.0 ≡ spec.level_in self.now input.now }
+        ensures within { result.0 < size self.now.order }
+    {
+        let level = self.act_level(&input.act);
+        match input.tag {
+            None => level,
+            Some(tag) => self.lattice.join(level, tag),
+        }
+    }
+
+    /// The level of an output: a request has its domain's, and all else that of the user interface.
+    #[tactic(auto, using(crate::proofs::Within::level_out_within), unfolding(crate::specs::Assignment::level_out))]
+    pub fn level_out(&self, out: &Out) -> Level
+        ensures value { result.0 ≡ spec.level_out self.now out.now }
+        ensures within { result.0 < size self.now.order }
+    {
+        match out {
+            Out::Send(domain, _, _, _) => self.domain_level(domain),
+            Out::Opened
+            | Out::Closed(_)
+            | Out::Loaded(_, _, _)
+            | Out::Updated(_, _)
+            | Out::Error(_, _)
+            | Out::Stopped => self.ui,
+        }
+    }
+}
+
+/// The lattice of a plan's levels.
+fn lattice_of(alloc: Global, plan: &Plan) -> Result<Lattice, PolicyFault>
+    ensures ok { IfOk result (IsLatticeOf plan.now.levels plan.now.below) }
+    ensures fault { IfErr result (λ fault. fault ≢ PolicyFault.NoMemory → IsLevelsFault plan.now fault) }
+{
+    match Lattice::build(alloc, &plan.levels, &plan.below) {
+        Ok(lattice) => Ok(lattice),
+        Err(fault) => Err(of_levels(fault)),
+    }
+}
+
+/// The fault of levels as that of a policy.
+fn of_levels(fault: LatticeFault) -> PolicyFault
+    ensures { result ≢ PolicyFault.NoMemory → (fault ≢ LatticeFault.NoMemory) × (result ≡ PolicyFault.Levels fault) }
+{
+    match fault {
+        LatticeFault::NoMemory => PolicyFault::NoMemory,
+        fault => PolicyFault::Levels(fault),
     }
 }

@@ -1,0 +1,134 @@
+-- The levels that a plan names lie in the lattice, and its keys stay apart.
+use Rattle.std.proofs.Common.{◌≡◌, ◌≢◌, ℕ, zero, suc, ◌+◌, ◌<◌, ◌≤◌, Bool, true, false, if◌then◌else◌, List, [], ◌∷◌, ◌++◌, length, get_or, codes, Option, Some, None, Result, Ok, Err, refl, sym, ap, subst, ◌∙◌, arith, bytes_eq}
+use Rattle.std.specs.List.{find, list_all}
+use Rattle.std.specs.Option.{ok_or}
+use Rattle.ff_lattice.specs.LevelSet.{below}
+use Rattle.ff_lattice.specs.Order.{Order, size, leq, pick, bottom, IsOrder}
+use Rattle.ff_policy.specs.declared.fault.PolicyFault.{PolicyFault}
+use Rattle.ff_policy.specs.declared.fault.PolicyFault.TheVariants.{UnknownLevel}
+use Rattle.ff_policy.specs.Assignment.{Kinds, Key, Assignment, key_at, AreKeys, AreWithin, IsDraft}
+use Rattle.ff_policy.specs.Members.{Named, Plan, ◌>>=◌}
+use Rattle.ff_policy.specs.Naming.{named_at, AreApart, level_named, level_at, keys_named, level_or_bottom, kind_named, kinds_named, assigned}
+use Rattle.ff_policy.proofs.Places.{level_within}
+
+value_or : {X : Type 0} → X → Result X PolicyFault → X
+value_or x (Ok y) = y
+value_or x (Err fault) = x
+
+-- a step that gave something was given something
+pub step_ok : {X Y : Type 0} (r : Result X PolicyFault) (step : X → Result Y PolicyFault) (y : Y) → (r >>= step) ≡ Ok y → (x : X) × (r ≡ Ok x) × (step x ≡ Ok y)
+step_ok (Ok x) step y e = (x, refl, e)
+step_ok {X} {Y} (Err fault) step y e = absurd (let no : ◌≡◌ {A = Result Y PolicyFault} (Err fault) (Ok y) = e in cc)
+
+ok_same : {X : Type 0} (x y : X) → ◌≡◌ {A = Result X PolicyFault} (Ok x) (Ok y) → x ≡ y
+unfolding value_or
+ok_same x y e = ap (value_or x) e
+
+ok_or_some : {X : Type 0} (o : Option X) (fault : PolicyFault) (x : X) → ok_or o fault ≡ Ok x → o ≡ Some x
+ok_or_some None fault x e = absurd (let no : Err fault ≡ Ok x = e in cc)
+ok_or_some (Some y) fault x e = ap Some (ok_same y x e)
+
+at_within : (order : Order) (place text : List ℕ) (l : ℕ) → level_at order place text ≡ Ok l → l < size order
+at_within order place text l is = level_within order text l (ok_or_some (level_named order text) (UnknownLevel place) l is)
+
+picked_within : (passes : ℕ → Bool) (n : ℕ) → pick passes (suc n) < suc n
+unfolding pick
+picked_within passes zero = go (passes 0)
+  where
+    go : (b : Bool) → (if b then 0 else 0) < 1
+    go true = omega arith
+    go false = omega arith
+picked_within passes (suc n) = go (passes (suc n)) (picked_within passes n)
+  where
+    go : (b : Bool) → pick passes (suc n) < suc n → (if b then suc n else pick passes (suc n)) < suc (suc n)
+    go true less = omega arith
+    go false less = omega arith
+
+bottom_within : (order : Order) → IsOrder order → bottom order < size order
+unfolding bottom
+bottom_within order valid = go (size order) valid.some
+  where
+    go : (n : ℕ) → 1 ≤ n → pick (λ l. list_all (leq order l) (below (size order))) n < n
+    go zero some = absurd (omega arith)
+    go (suc n) some = picked_within (λ l. list_all (leq order l) (below (size order))) n
+
+module _ (order : Order) (within : bottom order < size order) where
+  or_bottom_within : (kind : List ℕ) (one : Option Named) (l : ℕ) → level_or_bottom order kind one ≡ Ok l → l < size order
+  or_bottom_within kind None l is = subst (λ (l : ℕ). l < size order) (ok_same (bottom order) l is) within
+  or_bottom_within kind (Some one) l is = at_within order (codes "kinds." ++ kind) one.level l is
+
+  kind_within : (named : List Named) (kind : List ℕ) (l : ℕ) → kind_named order named kind ≡ Ok l → l < size order
+  kind_within named kind l is = or_bottom_within kind (find (λ one. bytes_eq one.key kind) named) l is
+
+  kinds_within : (named : List Named) (kinds : Kinds) → kinds_named order named ≡ Ok kinds → AreWithin (size order) kinds
+  unfolding kinds_named
+  kinds_within named kinds is =
+      let opens = step_ok (kind_named order named (codes "open")) _ kinds is in
+      let goes = step_ok (kind_named order named (codes "go")) _ kinds opens.2 in
+      let links = step_ok (kind_named order named (codes "link")) _ kinds goes.2 in
+      let closes = step_ok (kind_named order named (codes "close")) _ kinds links.2 in
+      let types = step_ok (kind_named order named (codes "type")) _ kinds closes.2 in
+      let clicks = step_ok (kind_named order named (codes "click")) _ kinds types.2 in
+      subst (AreWithin (size order)) (ok_same _ kinds clicks.2) (record {
+        opens = kind_within named (codes "open") opens.0 opens.1;
+        goes = kind_within named (codes "go") goes.0 goes.1;
+        links = kind_within named (codes "link") links.0 links.1;
+        closes = kind_within named (codes "close") closes.0 closes.1;
+        types = kind_within named (codes "type") types.0 types.1;
+        clicks = kind_within named (codes "click") clicks.0 clicks.1;
+      })
+
+-- the keys as they were named, with levels of the lattice
+record AreNamed (order : Order) (named : List Named) (keys : List Key) : Type 0 where
+  long : length keys ≡ length named
+  same : (k : ℕ) → k < length keys → (key_at keys k).key ≡ (named_at named k).key
+  levels : (k : ℕ) → k < length keys → (key_at keys k).level < size order
+
+same_more : (one : Named) (named : List Named) (level : ℕ) (keys : List Key) → ((k : ℕ) → k < length keys → (key_at keys k).key ≡ (named_at named k).key)
+    → (k : ℕ) → k < length (record { key = one.key; level = level } ∷ keys) → (key_at (record { key = one.key; level = level } ∷ keys) k).key ≡ (named_at (one ∷ named) k).key
+same_more one named level keys same zero less = refl
+same_more one named level keys same (suc k) less = same k (omega arith)
+
+levels_more : (n : ℕ) (key : Key) (keys : List Key) → key.level < n → ((k : ℕ) → k < length keys → (key_at keys k).level < n) → (k : ℕ) → k < length (key ∷ keys) → (key_at (key ∷ keys) k).level < n
+levels_more n key keys within rest zero less = within
+levels_more n key keys within rest (suc k) less = rest k (omega arith)
+
+one_more : (order : Order) (one : Named) (named : List Named) (level : ℕ) (keys : List Key) → level < size order → AreNamed order named keys
+    → AreNamed order (one ∷ named) (record { key = one.key; level = level } ∷ keys)
+one_more order one named level keys within are = record {
+  long = ap suc are.long;
+  same = same_more one named level keys are.same;
+  levels = levels_more (size order) (record { key = one.key; level = level }) keys within are.levels;
+}
+
+keys_are : (order : Order) (named : List Named) (keys : List Key) → keys_named order named ≡ Ok keys → AreNamed order named keys
+keys_are order [] keys is =
+    subst (AreNamed order []) (ok_same [] keys is) (record { long = refl; same = λ k less. absurd (omega arith); levels = λ k less. absurd (omega arith) })
+keys_are order (one ∷ more) keys is =
+    let level = step_ok (level_at order (codes "domains." ++ one.key) one.level) _ keys is in
+    let rest = step_ok (keys_named order more) _ keys level.2 in
+    subst (AreNamed order (one ∷ more)) (ok_same _ keys rest.2)
+    (one_more order one more level.0 rest.0 (at_within order (codes "domains." ++ one.key) one.level level.0 level.1) (keys_are order more rest.0 rest.1))
+
+keys_apart : (order : Order) (named : List Named) (keys : List Key) → AreApart named → AreNamed order named keys → AreKeys (size order) keys
+keys_apart order named keys apart are = record {
+  apart = λ j k less within e.
+      apart j k less (subst (λ (n : ℕ). k < n) are.long within) (sym (are.same j (omega arith)) ∙ e ∙ are.same k within);
+  levels = are.levels;
+}
+
+-- what a plan names in a lattice is a draft of a policy
+pub assigned-is_draft : (order : Order) (plan : Plan) (policy : Assignment) → IsOrder order → AreApart plan.domains → assigned order plan ≡ Ok policy → IsDraft policy
+unfolding assigned
+assigned-is_draft order plan policy valid apart is =
+    let ui = step_ok (level_at order (codes "ui") plan.ui) _ policy is in
+    let other = step_ok (level_at order (codes "domain") plan.other) _ policy ui.2 in
+    let domains = step_ok (keys_named order plan.domains) _ policy other.2 in
+    let kinds = step_ok (kinds_named order plan.kinds) _ policy domains.2 in
+    subst IsDraft (ok_same _ policy kinds.2) (record {
+      order_is = valid;
+      ui_within = at_within order (codes "ui") plan.ui ui.0 ui.1;
+      other_within = at_within order (codes "domain") plan.other other.0 other.1;
+      keys = keys_apart order plan.domains domains.0 apart (keys_are order plan.domains domains.0 domains.1);
+      kinds_within = kinds_within order (bottom_within order valid) plan.kinds kinds.0 kinds.1;
+    })

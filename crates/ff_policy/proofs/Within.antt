@@ -1,0 +1,73 @@
+-- The levels of domains, inputs and outputs are levels of the lattice.
+use Rattle.std.proofs.Common.{◌≡◌, ℕ, zero, suc, ◌<◌, List, [], ◌∷◌, length, Option, Some, None, Bool, true, false, cond, refl, sym, ap, subst, ◌∙◌, arith, bytes_eq}
+use Rattle.std.specs.List.{find}
+use Rattle.ff_value.specs.declared.input.Act.{Act}
+use Rattle.ff_value.specs.declared.input.Act.TheVariants as act
+use Rattle.ff_value.specs.declared.input.Input.{Input}
+use Rattle.ff_value.specs.declared.output.Out.{Out}
+use Rattle.ff_value.specs.declared.output.Out.TheVariants as out
+use Rattle.ff_name.specs.declared.levels.Level.{Level}
+use Rattle.ff_lattice.specs.Order.{Order, size, IsOrder}
+use Rattle.ff_lattice.proofs.Callers.{join-bound}
+use Rattle.ff_policy.specs.Assignment.{Key, Assignment, key_at, longest, level_or, domain_level, act_level, with_tag, level_in, level_out, IsTag, IsLongest, IsAssignment}
+use Rattle.ff_policy.proofs.Longest.{longest_is}
+
+AreBelow : ℕ → List Key → Type 0
+AreBelow n keys = (k : ℕ) → k < length keys → (key_at keys k).level < n
+
+rest_below : (n : ℕ) (key : Key) (keys : List Key) → AreBelow n (key ∷ keys) → AreBelow n keys
+unfolding AreBelow
+rest_below n key keys all k within = all (suc k) (omega arith)
+
+found_below : (n : ℕ) (test : Key → Bool) (keys : List Key) (other : ℕ) → AreBelow n keys → other < n → level_or (find test keys) other < n
+unfolding AreBelow
+found_below n test [] other all less = less
+found_below n test (key ∷ keys) other all less = go (test key) (found_below n test keys other (rest_below n key keys all) less)
+  where
+    go : (b : Bool) → level_or (find test keys) other < n → level_or (cond b (Some key) (find test keys)) other < n
+    go true rest = all 0 (omega arith)
+    go false rest = rest
+
+longest_below : (n : ℕ) (domain : List ℕ) (keys : List Key) (other : ℕ) → AreBelow n keys → other < n → level_or (longest domain keys) other < n
+unfolding AreBelow
+longest_below n domain keys other all less = go (longest domain keys) refl
+  where
+    go : (found : Option Key) → longest domain keys ≡ found → level_or found other < n
+    go None is = less
+    go (Some key) is =
+        let long = longest_is domain keys key is in
+        subst (λ (k : Key). k.level < n) (sym long.is) (all long.place long.within)
+
+pub domain_level_within : (policy : Assignment) (domain : List ℕ) → IsAssignment policy → domain_level policy domain < size policy.order
+unfolding domain_level AreBelow
+domain_level_within policy domain valid =
+    let n = size policy.order in
+    found_below n (λ k. bytes_eq k.key domain) policy.domains (level_or (longest domain policy.domains) policy.other) valid.draft.keys.levels
+    (longest_below n domain policy.domains policy.other valid.draft.keys.levels valid.draft.other_within)
+
+pub act_level_within : (policy : Assignment) (a : Act) → IsAssignment policy → act_level policy a < size policy.order
+act_level_within policy (act.Opens url) valid = valid.draft.kinds_within.opens
+act_level_within policy (act.Goes win url) valid = valid.draft.kinds_within.goes
+act_level_within policy (act.Links win link) valid = valid.draft.kinds_within.links
+act_level_within policy (act.Closes win) valid = valid.draft.kinds_within.closes
+act_level_within policy (act.Types win field text) valid = valid.draft.kinds_within.types
+act_level_within policy (act.Clicks win button) valid = valid.draft.kinds_within.clicks
+act_level_within policy (act.Replies domain request resp) valid = domain_level_within policy domain valid
+
+with_tag_within : (order : Order) (tag : Option Level) (level : ℕ) → IsOrder order → IsTag order tag → level < size order → with_tag order tag level < size order
+with_tag_within order None level valid is less = less
+with_tag_within order (Some tag) level valid is less = (join-bound order valid level tag.0 less is).within
+
+pub level_in_within : (policy : Assignment) (input : Input) → IsAssignment policy → IsTag policy.order input.tag → level_in policy input < size policy.order
+unfolding level_in
+level_in_within policy input valid is = with_tag_within policy.order input.tag (act_level policy input.act) valid.draft.order_is is (act_level_within policy input.act valid)
+
+pub level_out_within : (policy : Assignment) (o : Out) → IsAssignment policy → level_out policy o < size policy.order
+unfolding level_out
+level_out_within policy (out.Send domain request cookies body) valid = domain_level_within policy domain valid
+level_out_within policy out.Opened valid = valid.draft.ui_within
+level_out_within policy (out.Closed win) valid = valid.draft.ui_within
+level_out_within policy (out.Loaded win url shown) valid = valid.draft.ui_within
+level_out_within policy (out.Updated win shown) valid = valid.draft.ui_within
+level_out_within policy (out.Error win fault) valid = valid.draft.ui_within
+level_out_within policy out.Stopped valid = valid.draft.ui_within

@@ -1,0 +1,51 @@
+ghost use Rattle.std.specs.Prelude.{◌≡◌, ◌≢◌, ◌≤◌, ◌↔◌, OnOk, IfErr, IsTrue};
+ghost use Rattle.ff_policy.specs.Assignment.{AreSpelled};
+ghost use Rattle.ff_policy.specs.Reading.{IsKeyFault};
+
+use crate::PolicyFault;
+use crate::checks::check_keys;
+use crate::key::Key;
+use crate::kinds::Kinds;
+use ff_lattice::Lattice;
+use ff_name::Level;
+use std::alloc::Global;
+use std::marker::Model;
+
+/// The most fuel that an input has.
+const MOST_FUEL: u64 = 1_000_000;
+
+/// A policy whose keys and fuel aren't checked yet.
+#[derive(Debug, Drop)]
+pub(crate) struct Draft {
+    pub(crate) lattice: Lattice,
+    pub(crate) ui: Level,
+    pub(crate) other: Level,
+    pub(crate) domains: Vec<Key>,
+    pub(crate) kinds: Kinds,
+    pub(crate) fuel: u64,
+}
+
+impl Model for Draft {
+    ghost use Rattle.ff_policy.specs.Assignment.{Assignment};
+
+    ghost Value = { Assignment };
+
+    ghost view = { λ s. record { order = s.lattice; ui = s.ui.0; other = s.other.0; domains = s.domains.items; kinds = s.kinds; fuel = s.fuel } };
+}
+
+impl Draft {
+    /// Tests how each key is spelled.
+    pub(crate) fn check_keys(&self, alloc: Global) -> Result<(), PolicyFault>
+        ensures ok { OnOk result (AreSpelled self.now.domains) }
+        ensures fault { IfErr result (λ fault. fault ≢ PolicyFault.NoMemory → IsKeyFault self.now.domains fault) }
+    {
+        check_keys(alloc, &self.domains)
+    }
+
+    /// Whether the fuel is from 1 to 1,000,000.
+    pub(crate) fn has_fuel(&self) -> bool
+        ensures { IsTrue result ↔ ((1 ≤ self.now.fuel) × (self.now.fuel ≤ 1000000)) }
+    {
+        1 <= self.fuel && self.fuel <= MOST_FUEL
+    }
+}
