@@ -1,0 +1,4 @@
+pub mod Bare
+pub mod Items
+pub mod Printing
+pub mod Trees

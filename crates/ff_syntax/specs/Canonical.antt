@@ -1,6 +1,6 @@
 -- The item that stands for a value, with no places: what is printed for a value is the canonical spelling of its item.
-use Rattle.std.specs.Prelude.{ℕ, ℤ, true, false, List, [], ◌∷◌, ◌++◌, map, codes}
-use Rattle.std.specs.Fmt.{signed_decimal}
+use Rattle.std.specs.Prelude.{ℕ, true, false, List, [], ◌∷◌, ◌++◌, map, codes}
+use Rattle.ff_number.specs.Decimal.{num_text}
 use Rattle.ff_name.specs.Address.{printed}
 use Rattle.ff_name.specs.declared.urls.Url.{Url}
 use Rattle.ff_text.specs.Notation.{span}
@@ -34,9 +34,6 @@ parens parts = sexp.List (span 0 0) parts
 
 abbrev pub address : Url → Sexp
 address url = word (printed url)
-
-abbrev pub num_text : ℤ → List ℕ
-num_text n = signed_decimal n
 
 abbrev pub lit_item : Lit → Sexp
 lit_item lit.Null = word (codes "null")

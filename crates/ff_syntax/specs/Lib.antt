@@ -2,3 +2,4 @@
 pub mod Words
 pub mod Grammar
 pub mod Canonical
+pub mod Pieces

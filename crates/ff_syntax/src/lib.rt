@@ -4,6 +4,10 @@
 mod fault;
 mod heads;
 mod print;
+mod print_reply;
+mod print_seen;
+mod print_tree;
+mod printer;
 mod reading;
 
 pub use fault::SyntaxFault;

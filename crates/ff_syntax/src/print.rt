@@ -1,21 +1,26 @@
-ghost use Rattle.std.specs.Prelude.{◌≡◌, ◌≢◌, ◌++◌, OnOk, OnErr, All};
+ghost use Rattle.std.specs.Prelude.{◌≡◌, ◌≢◌, ◌++◌, ◌∷◌, [], map, codes, OnOk, OnErr, All};
 ghost use Rattle.std.specs.List.{AllByRecursion};
 ghost use Rattle.ff_name.specs.Output.{AppendsFront};
 ghost use Rattle.ff_text.specs.Printed.{spelled};
 ghost use Rattle.ff_value.specs.Spelled.{IsSpelledSeen};
 ghost use Rattle.ff_syntax.specs.Canonical.{doc_item, expr_item, resp_item, shown_item, pairs_item};
 
-use crate::NoMemory;
+use crate::print_reply::put_resp;
+use crate::print_seen::{put_page, put_pairs};
+use crate::print_tree::{put_doc, put_expr};
+use crate::printer::Printer;
+use ff_name::NoMemory;
 use ff_tree::{Doc, Expr};
 use ff_value::{Pairs, Resp, Shown};
-use std::alloc::AllocError;
 
 /// Appends the canonical spelling of a document. After `NoMemory` a front of it was appended.
 pub fn print_doc(doc: &Doc, out: &mut Vec<u8>) -> Result<(), NoMemory>
     ensures ok { OnOk result (out.new.items ≡ out.old.items ++ spelled (doc_item doc.now)) }
     ensures err { OnErr result (AppendsFront out.old.items out.new.items (spelled (doc_item doc.now))) }
 {
-    Err(AllocError)
+    let mut printer = Printer::after(out)?;
+    put_doc(doc, &mut printer);
+    printer.end(out)
 }
 
 /// Appends the canonical spelling of an expression. After `NoMemory` a front of it was appended.
@@ -23,7 +28,9 @@ pub fn print_expr(expr: &Expr, out: &mut Vec<u8>) -> Result<(), NoMemory>
     ensures ok { OnOk result (out.new.items ≡ out.old.items ++ spelled (expr_item expr.now)) }
     ensures err { OnErr result (AppendsFront out.old.items out.new.items (spelled (expr_item expr.now))) }
 {
-    Err(AllocError)
+    let mut printer = Printer::after(out)?;
+    put_expr(expr, &mut printer);
+    printer.end(out)
 }
 
 /// Appends the canonical spelling of a response. After `NoMemory` a front of it was appended.
@@ -31,7 +38,9 @@ pub fn print_resp(resp: &Resp, out: &mut Vec<u8>) -> Result<(), NoMemory>
     ensures ok { OnOk result (out.new.items ≡ out.old.items ++ spelled (resp_item resp.now)) }
     ensures err { OnErr result (AppendsFront out.old.items out.new.items (spelled (resp_item resp.now))) }
 {
-    Err(AllocError)
+    let mut printer = Printer::after(out)?;
+    put_resp(resp, &mut printer);
+    printer.end(out)
 }
 
 /// Appends the canonical spelling of a page as the user sees it. After `NoMemory` a front of it was
@@ -40,7 +49,9 @@ pub fn print_shown(shown: &Shown, out: &mut Vec<u8>) -> Result<(), NoMemory>
     ensures ok { OnOk result (out.new.items ≡ out.old.items ++ spelled (shown_item shown.now)) }
     ensures err { OnErr result (AppendsFront out.old.items out.new.items (spelled (shown_item shown.now))) }
 {
-    Err(AllocError)
+    let mut printer = Printer::after(out)?;
+    put_page(shown.as_slice(), &mut printer);
+    printer.end(out)
 }
 
 /// Appends the canonical spelling of keys and values, as a list of lists of two strings. After
@@ -49,5 +60,7 @@ pub fn print_pairs(pairs: &Pairs, out: &mut Vec<u8>) -> Result<(), NoMemory>
     ensures ok { OnOk result (out.new.items ≡ out.old.items ++ spelled (pairs_item pairs.now)) }
     ensures err { OnErr result (AppendsFront out.old.items out.new.items (spelled (pairs_item pairs.now))) }
 {
-    Err(AllocError)
+    let mut printer = Printer::after(out)?;
+    put_pairs(pairs.as_slice(), &mut printer);
+    printer.end(out)
 }
