@@ -1,5 +1,5 @@
 -- The answers of a function that puts one text after another, and stops at the first failure.
-use Rattle.std.proofs.Common.{◌≡◌, ◌<◌, ◌+◌, ℕ, List, [], ◌∷◌, ◌++◌, Option, Result, Ok, Err, OnOk, OnErr, length, take, drop, get_or, refl, sym, ap, ◌∙◌, subst, append-nil, flat_map}
+use Rattle.std.proofs.Common.{◌≡◌, ◌<◌, ◌+◌, ℕ, List, [], ◌∷◌, ◌++◌, Option, Result, Ok, Err, OnOk, OnErr, length, take, drop, get_or, refl, sym, ap, ◌∙◌, append-nil, flat_map}
 use Rattle.std.proofs.lemmas.List.{take_more, take-append-drop}
 use Rattle.std.proofs.lemmas.List.Concat.{flat_map-append}
 use Rattle.ff_text.specs.Printed.{quoted, spelled_byte}

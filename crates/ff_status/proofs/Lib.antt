@@ -1,2 +1,3 @@
 pub mod Chain
+pub mod Lines
 pub mod Sending

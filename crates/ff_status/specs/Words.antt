@@ -1,5 +1,5 @@
 -- The number and the line of each status. A line ends with a newline byte.
-use Rattle.std.specs.Prelude.{ℕ, List, [], ◌∷◌, ◌++◌, codes}
+use Rattle.std.specs.Prelude.{ℕ, List, [], ◌++◌, codes}
 use Rattle.ff_lattice.specs.declared.fault.LatticeFault.{LatticeFault}
 use Rattle.ff_lattice.specs.declared.fault.LatticeFault.TheVariants as lattice
 use Rattle.ff_number.specs.Decimal.{nat_text}

@@ -48,7 +48,12 @@ pub(crate) fn put_number<E: Sink>(words: &[u8], n: u64, err: &mut E) -> Result<(
 
 /// Puts words, and then two texts as they are, with a blank between them.
 #[tactic(auto, using(crate::proofs::Sending::puts_both, crate::proofs::Sending::stops_first, crate::proofs::Sending::stops_second))]
-pub(crate) fn put_pair<E: Sink>(words: &[u8], first: &[u8], second: &[u8], err: &mut E) -> Result<(), Failed>
+pub(crate) fn put_pair<E: Sink>(
+    words: &[u8],
+    first: &[u8],
+    second: &[u8],
+    err: &mut E,
+) -> Result<(), Failed>
     ensures ok { OnOk result (Puts (E.put err.old) (E.put err.new) (E.faults err.old) (E.faults err.new) (words.now ++ paired first.now second.now)) }
     ensures stopped { OnErr result (Stops (E.put err.old) (E.put err.new) (E.faults err.old) (E.faults err.new) (words.now ++ paired first.now second.now)) }
 {

@@ -45,7 +45,10 @@ fn bad_lines(rt: HostRuntime) {
             "ffox: line 18446744073709551615: unknown level\n",
         ),
     ] {
-        assert!(rt; reports(rt.alloc(), &Status::Trace(line, fault), 4, want), "{want}");
+        assert!(rt;
+            reports(rt.alloc(), &Status::Trace(line, fault), 4, want),
+            "{want}"
+        );
     }
 }
 
@@ -56,18 +59,54 @@ fn faults_of_lines(rt: HostRuntime) {
         (LineFault::Count, "ffox: line 7: wrong count\n"),
         (LineFault::Number, "ffox: line 7: bad number\n"),
         (LineFault::Url, "ffox: line 7: bad address\n"),
-        (LineFault::Text(TextFault::Unclosed(0)), "ffox: line 7: text unclosed at 0\n"),
-        (LineFault::Text(TextFault::Extra(1)), "ffox: line 7: text extra at 1\n"),
-        (LineFault::Text(TextFault::BadByte(2)), "ffox: line 7: text bad-byte at 2\n"),
-        (LineFault::Text(TextFault::BadEscape(3)), "ffox: line 7: text bad-escape at 3\n"),
-        (LineFault::Text(TextFault::BadUtf8(40)), "ffox: line 7: text bad-utf8 at 40\n"),
-        (LineFault::Text(TextFault::TooDeep(64)), "ffox: line 7: text too-deep at 64\n"),
-        (LineFault::Syntax(SyntaxFault::Head(5)), "ffox: line 7: syntax head at 5\n"),
-        (LineFault::Syntax(SyntaxFault::Count(6)), "ffox: line 7: syntax count at 6\n"),
-        (LineFault::Syntax(SyntaxFault::Name(7)), "ffox: line 7: syntax name at 7\n"),
-        (LineFault::Syntax(SyntaxFault::Number(8)), "ffox: line 7: syntax number at 8\n"),
-        (LineFault::Syntax(SyntaxFault::Url(9)), "ffox: line 7: syntax url at 9\n"),
-        (LineFault::Syntax(SyntaxFault::Place(10)), "ffox: line 7: syntax place at 10\n"),
+        (
+            LineFault::Text(TextFault::Unclosed(0)),
+            "ffox: line 7: text unclosed at 0\n",
+        ),
+        (
+            LineFault::Text(TextFault::Extra(1)),
+            "ffox: line 7: text extra at 1\n",
+        ),
+        (
+            LineFault::Text(TextFault::BadByte(2)),
+            "ffox: line 7: text bad-byte at 2\n",
+        ),
+        (
+            LineFault::Text(TextFault::BadEscape(3)),
+            "ffox: line 7: text bad-escape at 3\n",
+        ),
+        (
+            LineFault::Text(TextFault::BadUtf8(40)),
+            "ffox: line 7: text bad-utf8 at 40\n",
+        ),
+        (
+            LineFault::Text(TextFault::TooDeep(64)),
+            "ffox: line 7: text too-deep at 64\n",
+        ),
+        (
+            LineFault::Syntax(SyntaxFault::Head(5)),
+            "ffox: line 7: syntax head at 5\n",
+        ),
+        (
+            LineFault::Syntax(SyntaxFault::Count(6)),
+            "ffox: line 7: syntax count at 6\n",
+        ),
+        (
+            LineFault::Syntax(SyntaxFault::Name(7)),
+            "ffox: line 7: syntax name at 7\n",
+        ),
+        (
+            LineFault::Syntax(SyntaxFault::Number(8)),
+            "ffox: line 7: syntax number at 8\n",
+        ),
+        (
+            LineFault::Syntax(SyntaxFault::Url(9)),
+            "ffox: line 7: syntax url at 9\n",
+        ),
+        (
+            LineFault::Syntax(SyntaxFault::Place(10)),
+            "ffox: line 7: syntax place at 10\n",
+        ),
     ] {
         let status = Status::Trace(7, TraceFault::Line(fault));
         assert!(rt; reports(rt.alloc(), &status, 4, want), "{want}");
@@ -80,23 +119,40 @@ fn text(alloc: Global, bytes: &str) -> Result<Text, NoMemory> {
 }
 
 #[test]
-fn faults_of_policies(rt: HostRuntime) -> Result<(), NoMemory> {
-    let alloc = rt.alloc();
+fn faults_of_policies(rt: HostRuntime) {
     for (fault, want) in [
         (PolicyFault::TooLarge, "ffox: policy: too large\n"),
         (PolicyFault::NotJson, "ffox: policy: not JSON\n"),
         (PolicyFault::BadVersion, "ffox: policy: bad version\n"),
+        (PolicyFault::BadFuel, "ffox: policy: bad fuel\n"),
+    ] {
+        assert!(rt;
+            reports(rt.alloc(), &Status::Policy(fault), 3, want),
+            "{want}"
+        );
+    }
+}
+
+#[test]
+fn faults_at_places_of_policies(rt: HostRuntime) -> Result<(), NoMemory> {
+    let alloc = rt.alloc();
+    for (fault, want) in [
         (
             PolicyFault::UnknownField(text(alloc, "a\"\\\n\t\u{1f}é")?),
             "ffox: policy: unknown field \"a\\\"\\\\\\n\\t\\x1fé\"\n",
         ),
-        (PolicyFault::BadShape(text(alloc, "ui")?), "ffox: policy: bad shape \"ui\"\n"),
         (
-            PolicyFault::UnknownLevel(text(alloc, "kinds.go")?),
-            "ffox: policy: unknown level at \"kinds.go\"\n",
+            PolicyFault::BadShape(text(alloc, "ui")?),
+            "ffox: policy: bad shape \"ui\"\n",
         ),
-        (PolicyFault::BadDomain(text(alloc, "")?), "ffox: policy: bad domain \"\"\n"),
-        (PolicyFault::BadFuel, "ffox: policy: bad fuel\n"),
+        (
+            PolicyFault::UnknownLevel(text(alloc, "ui")?),
+            "ffox: policy: unknown level at \"ui\"\n",
+        ),
+        (
+            PolicyFault::BadDomain(text(alloc, "")?),
+            "ffox: policy: bad domain \"\"\n",
+        ),
     ] {
         assert!(rt; reports(alloc, &Status::Policy(fault), 3, want), "{want}");
     }
@@ -109,12 +165,30 @@ fn faults_of_levels(rt: HostRuntime) -> Result<(), NoMemory> {
     for (fault, want) in [
         (LatticeFault::NoLevels, "ffox: policy: no levels\n"),
         (LatticeFault::TooMany, "ffox: policy: too many levels\n"),
-        (LatticeFault::BadName(15), "ffox: policy: bad level name 15\n"),
-        (LatticeFault::Repeated(text(alloc, "L")?), "ffox: policy: repeated level \"L\"\n"),
-        (LatticeFault::Unknown(text(alloc, "M")?), "ffox: policy: unknown name \"M\"\n"),
-        (LatticeFault::Cycle(text(alloc, "L")?, text(alloc, "H")?), "ffox: policy: cycle L H\n"),
-        (LatticeFault::NoJoin(text(alloc, "L")?, text(alloc, "H")?), "ffox: policy: no join L H\n"),
-        (LatticeFault::NoMeet(text(alloc, "L")?, text(alloc, "H")?), "ffox: policy: no meet L H\n"),
+        (
+            LatticeFault::BadName(15),
+            "ffox: policy: bad level name 15\n",
+        ),
+        (
+            LatticeFault::Repeated(text(alloc, "L")?),
+            "ffox: policy: repeated level \"L\"\n",
+        ),
+        (
+            LatticeFault::Unknown(text(alloc, "M")?),
+            "ffox: policy: unknown name \"M\"\n",
+        ),
+        (
+            LatticeFault::Cycle(text(alloc, "L")?, text(alloc, "H")?),
+            "ffox: policy: cycle L H\n",
+        ),
+        (
+            LatticeFault::NoJoin(text(alloc, "L")?, text(alloc, "H")?),
+            "ffox: policy: no join L H\n",
+        ),
+        (
+            LatticeFault::NoMeet(text(alloc, "L")?, text(alloc, "H")?),
+            "ffox: policy: no meet L H\n",
+        ),
     ] {
         let status = Status::Policy(PolicyFault::Levels(fault));
         assert!(rt; reports(alloc, &status, 3, want), "{want}");
@@ -123,7 +197,12 @@ fn faults_of_levels(rt: HostRuntime) -> Result<(), NoMemory> {
 }
 
 /// How many bytes of the line are put where the write with this number fails, or `None` where they are no front of it.
-fn front_of(alloc: Global, bad: u64, status: &Status, line: &[u8]) -> Result<Option<usize>, NoMemory> {
+fn front_of(
+    alloc: Global,
+    bad: u64,
+    status: &Status,
+    line: &[u8],
+) -> Result<Option<usize>, NoMemory> {
     let mut sink = MemSink::new(alloc, vec![in alloc; bad]?);
     status.report(&mut sink);
     let put = sink.put_bytes();
@@ -136,7 +215,16 @@ fn each_write_fails(rt: HostRuntime) -> Result<(), NoMemory> {
     let fault = LatticeFault::Repeated(text(alloc, "a\n")?);
     let status = Status::Policy(PolicyFault::Levels(fault));
     let line = b"ffox: policy: repeated level \"a\\n\"\n";
-    for (bad, want) in [(1, 0), (2, 14), (3, 29), (4, 30), (5, 31), (6, 33), (7, 34), (8, 35)] {
+    for (bad, want) in [
+        (1, 0),
+        (2, 14),
+        (3, 29),
+        (4, 30),
+        (5, 31),
+        (6, 33),
+        (7, 34),
+        (8, 35),
+    ] {
         assert_eq!(rt; front_of(alloc, bad, &status, line)?, Some(want), "{bad}");
     }
     Ok(())

@@ -1,7 +1,6 @@
 use Rattle.std.proofs.Common.{[], ◌∷◌, ◌++◌, codes}
-use Rattle.ff_number.specs.Decimal.{nat_text}
 use Rattle.ff_status.specs.Words.{trace_words}
-use Rattle.ff_status.proofs.Chain.{at_first, at_second, failed, ok_after, stopped_after}
+use Rattle.ff_status.proofs.Chain.{at_first, at_second, failed, stopped_after}
 use Rattle.ff_status.proofs.words.put_trace_line.Goals as goal
 
 pub returns-in_err-put_number-clause-stopped : goal.returns-in_err-put_number-clause-stopped
