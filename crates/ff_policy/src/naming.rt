@@ -5,12 +5,12 @@ ghost use Rattle.ff_lattice.specs.Order.{IsOrder};
 ghost use Rattle.ff_policy.specs.Naming as spec;
 ghost use Rattle.ff_policy.specs.Naming.{AreApart, kinds_named};
 
+use crate::PolicyFault;
 use crate::draft::Draft;
 use crate::key::Key;
 use crate::kinds::Kinds;
 use crate::members::joined;
 use crate::plan::{Named, Plan};
-use crate::PolicyFault;
 use ff_lattice::Lattice;
 use ff_name::{Level, Text};
 use std::alloc::Global;
@@ -52,11 +52,7 @@ fn level_at(
 }
 
 /// The keys with their levels.
-fn keys_named(
-    alloc: Global,
-    lattice: &Lattice,
-    domains: &[Named],
-) -> Result<Vec<Key>, PolicyFault>
+fn keys_named(alloc: Global, lattice: &Lattice, domains: &[Named]) -> Result<Vec<Key>, PolicyFault>
     requires { IsOrder lattice.now }
     ensures ok { IfOk result (λ keys. spec.keys_named lattice.now domains.now ≡ Ok keys.items) }
     ensures fault { IfErr result (λ fault. fault ≢ PolicyFault.NoMemory → spec.keys_named lattice.now domains.now ≡ Err fault) }
@@ -104,11 +100,7 @@ fn kind_named(
 
 /// The levels of the kinds.
 #[tactic(auto, unfolding(crate::specs::Naming::kinds_named))]
-fn kinds_named(
-    alloc: Global,
-    lattice: &Lattice,
-    kinds: &[Named],
-) -> Result<Kinds, PolicyFault>
+fn kinds_named(alloc: Global, lattice: &Lattice, kinds: &[Named]) -> Result<Kinds, PolicyFault>
     requires { IsOrder lattice.now }
     ensures ok { IfOk result (λ levels. kinds_named lattice.now kinds.now ≡ Ok levels) }
     ensures fault { IfErr result (λ fault. fault ≢ PolicyFault.NoMemory → kinds_named lattice.now kinds.now ≡ Err fault) }
@@ -131,11 +123,7 @@ fn kinds_named(
 
 /// The levels that a plan names.
 #[tactic(auto, unfolding(crate::specs::Naming::assigned))]
-pub(crate) fn assigned(
-    alloc: Global,
-    lattice: Lattice,
-    plan: Plan,
-) -> Result<Draft, PolicyFault>
+pub(crate) fn assigned(alloc: Global, lattice: Lattice, plan: Plan) -> Result<Draft, PolicyFault>
     requires { IsOrder lattice }
     ensures ok { IfOk result (λ draft. spec.assigned lattice plan ≡ Ok draft) }
     ensures apart { IfOk result (λ _. AreApart plan.domains) }

@@ -202,7 +202,8 @@ fn the_deepest_value(rt: HostRuntime) {
 }
 
 /// A policy of four levels in a row, with keys of several lengths.
-const KEYS: &str = r#"{"version":1,"levels":["a","b","c","d"],"below":[["a","b"],["b","c"],["c","d"]],
+const KEYS: &str =
+    r#"{"version":1,"levels":["a","b","c","d"],"below":[["a","b"],["b","c"],["c","d"]],
     "ui":"d","domain":"a","domains":{".com":"b",".shop.com":"c","x.shop.com":"d"}}"#;
 
 /// The level of a domain, or `None` where the text is none.
