@@ -1,5 +1,5 @@
 -- The levels of a policy fit a multi-executed run.
-use Rattle.std.proofs.Common.{◌≡◌, ◌≢◌, ℕ, ◌+◌, ◌<◌, List, [], ◌∷◌, ◌++◌, length, get_or, map, Bool, true, false, cond, Option, Some, None, refl, sym, ap, subst, ◌∙◌, arith}
+use Rattle.std.proofs.Common.{◌≡◌, ◌≢◌, ℕ, suc, ◌+◌, ◌<◌, List, [], ◌∷◌, ◌++◌, length, get_or, map, Bool, true, false, cond, Option, Some, None, refl, sym, ap, subst, ◌∙◌, arith}
 use Rattle.std.specs.Option.{option_and_then}
 use Rattle.std.proofs.lemmas.Bool.{true≢false}
 use Rattle.std.proofs.lemmas.Option.{cond_some}
@@ -25,6 +25,9 @@ module _ (policy : Assignment) where
   pub sees_ok : (InputOk : Input → Type 0) (l : ℕ) (i x : Input) → InputOk i → sees policy l i ≡ Some x → InputOk x
   sees_ok InputOk l i x input seen = subst InputOk (sees_same l i x seen) input
 
+  pub sees_tagged : (l : ℕ) (i x : Input) → IsTagged policy.order i → sees policy l i ≡ Some x → IsTagged policy.order x
+  sees_tagged l i x tagged seen = sees_ok (IsTagged policy.order) l i x tagged seen
+
   -- what a lower level sees of an input is what it sees of that which a higher level sees of it
   pub sees_below : (k l : ℕ) (i : Input) → IsAssignment policy → leq policy.order k l ≡ true → sees policy k i ≡ option_and_then (sees policy k) (sees policy l i)
   unfolding sees
@@ -45,7 +48,7 @@ module _ (policy : Assignment) where
   -- a level's name has no blank and no newline
   pub name_ok : (l : ℕ) → IsAssignment policy → l < size policy.order → IsWord (name policy.order l)
   name_ok l valid within =
-      All-from_get_or (name policy.order l) 0 (λ k less.
+      All-from_get_or (λ b. (b ≢ 32) × (b ≢ 10)) (name policy.order l) 0 (λ k less.
       let graphic = name_graphic (name policy.order l) (valid.draft.order_is.named l within) k less in
       ((λ blank. omega (arith, graphic.0, blank)), (λ newline. omega (arith, graphic.0, newline))))
 
@@ -56,3 +59,4 @@ module _ (policy : Assignment) where
   -- one offer more
   pub offers_more : (i : Input) (so_far : List (Option Input)) (n : ℕ) (one : Option Input) → so_far ≡ map (λ l. sees policy l i) (below n) → one ≡ sees policy n i → so_far ++ one ∷ [] ≡ map (λ l. sees policy l i) (below (n + 1))
   offers_more i so_far n one is seen = ap (λ os. os ++ one ∷ []) is ∙ ap (λ o. map (λ l. sees policy l i) (below n) ++ o ∷ []) seen ∙ sym (map-append (λ l. sees policy l i) (below n) (n ∷ []))
+      ∙ ap (λ m. map (λ l. sees policy l i) (below m)) (let next : suc n ≡ n + 1 = omega arith in next)

@@ -4,12 +4,13 @@ ghost use Rattle.ff_reactive.specs.Laws.{IsWord};
 ghost use Rattle.ff_value.specs.declared.input.Input.{Input};
 ghost use Rattle.ff_value.specs.declared.output.Out.{Out};
 ghost use Rattle.ff_policy.specs.Assignment.{Assignment, IsAssignment};
-ghost use Rattle.ff_route.specs.Route.{the_levels};
+ghost use Rattle.ff_route.specs.Route.{IsTagged, the_levels};
 
-/// What is seen of an input is that input, so whatever holds of it holds of what is seen.
-#[tactic(auto, using(crate::proofs::Fits::sees_ok))]
+/// What is seen of an input is that input, its tag too.
+#[tactic(auto, using(crate::proofs::Fits::sees_same, crate::proofs::Fits::sees_tagged))]
 pub fn what_is_seen_is_the_input()
-    ensures { (policy : Assignment) (print : Out → List ℕ) (InputOk : Input → Type 0) (l : ℕ) (i x : Input) → InputOk i → (the_levels policy print).sees l i ≡ Some x → InputOk x }
+    ensures same { (policy : Assignment) (print : Out → List ℕ) (l : ℕ) (i x : Input) → (the_levels policy print).sees l i ≡ Some x → i ≡ x }
+    ensures tagged { (policy : Assignment) (print : Out → List ℕ) (l : ℕ) (i x : Input) → IsTagged policy.order i → (the_levels policy print).sees l i ≡ Some x → IsTagged policy.order x }
 {}
 
 /// What a lower level sees of an input is what it sees of that which a higher level sees of it.
