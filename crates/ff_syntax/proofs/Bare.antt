@@ -36,11 +36,27 @@ content = items_ind (λ item. Content item (out-Sexp (bare item)))
     (λ at value. subst (Content (sexp.Str at value)) (sym (ap out-Sexp (bare-Str at value) ∙ sexp.outs-Str (span 0 0) value)) (record { at = at; is = refl }))
     (λ at parts _. subst (Content (sexp.List at parts)) (sym (ap out-Sexp (bare-List at parts) ∙ sexp.outs-List (span 0 0) (map bare parts))) (record { at = at; parts = parts; is = refl; same = refl }))
 
-pub word_item : (item : Sexp) (text : List ℕ) → bare item ≡ word text → WordItem item text
-word_item item text e = subst (Content item) (ap out-Sexp e ∙ sexp.outs-Word (span 0 0) text) (content item)
+pub word_item : (item : Sexp) (text : List ℕ) → bare item ≡ bare (word text) → WordItem item text
+word_item item text e = subst (Content item) (ap out-Sexp (e ∙ bare-Word (span 0 0) text) ∙ sexp.outs-Word (span 0 0) text) (content item)
 
-pub string_item : (item : Sexp) (value : List ℕ) → bare item ≡ string value → StringItem item value
-string_item item value e = subst (Content item) (ap out-Sexp e ∙ sexp.outs-Str (span 0 0) value) (content item)
+pub string_item : (item : Sexp) (value : List ℕ) → bare item ≡ bare (string value) → StringItem item value
+string_item item value e = subst (Content item) (ap out-Sexp (e ∙ bare-Str (span 0 0) value) ∙ sexp.outs-Str (span 0 0) value) (content item)
 
-pub list_item : (item : Sexp) (bares : List Sexp) → bare item ≡ parens bares → ListItem item bares
-list_item item bares e = subst (Content item) (ap out-Sexp e ∙ sexp.outs-List (span 0 0) bares) (content item)
+pub list_item : (item : Sexp) (contents : List Sexp) → bare item ≡ bare (parens contents) → ListItem item (map bare contents)
+list_item item contents e = subst (Content item) (ap out-Sexp (e ∙ bare-List (span 0 0) contents) ∙ sexp.outs-List (span 0 0) (map bare contents)) (content item)
+
+-- the first of some items with known content, and the others
+pub record Cut (items : List Sexp) (content : Sexp) (contents : List Sexp) : Type 0 where
+  pub first : Sexp
+  pub others : List Sexp
+  pub is : items ≡ first ∷ others
+  pub first_same : bare first ≡ bare content
+  pub others_same : map bare others ≡ map bare contents
+
+pub cut : (items : List Sexp) (content : Sexp) (contents : List Sexp) → map bare items ≡ map bare (content ∷ contents) → Cut items content contents
+cut [] content contents e = cc
+cut (item ∷ items) content contents e = record { first = item; others = items; is = refl; first_same = cc; others_same = cc }
+
+pub none : (items : List Sexp) → map bare items ≡ [] → items ≡ []
+none [] e = refl
+none (item ∷ items) e = cc

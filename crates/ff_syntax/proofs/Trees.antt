@@ -20,9 +20,6 @@ abbrev pub Each : {X : Type 0} → (X → Type 0) → List X → Type 0
 Each P [] = Unit {0}
 Each P (x ∷ xs) = P x × Each P xs
 
-pub handler : List ℕ → Expr → Handler
-handler param body = roll-Handler (record { param = param; body = body })
-
 -- a fact of each form whose parts have theirs
 pub record ByForms (P : Doc → Type 0) (Q : Expr → Type 0) (R : Handler → Type 0) : Type 0 where
   pub lit : (l : Lit) → Q (expr.Lit l)
@@ -38,7 +35,7 @@ pub record ByForms (P : Doc → Type 0) (Q : Expr → Type 0) (R : Handler → T
   pub apply_form : (e : Expr) (es : List Expr) → Q e → Each Q es → Q (expr.Apply e es)
   pub tree_form : (d : Doc) → P d → Q (expr.Tree d)
   pub prim_form : (op : Op) (es : List Expr) → Each Q es → Q (expr.Prim op es)
-  pub handler_form : (x : List ℕ) (e : Expr) → Q e → R (handler x e)
+  pub handler_form : (x : List ℕ) (e : Expr) → Q e → R (roll-Handler (record { param = x; body = e }))
   pub text_form : (x text : List ℕ) → P (doc.Text x text)
   pub link_form : (x : List ℕ) (url : Url) (label : List ℕ) → P (doc.Link x url label)
   pub box_form : (x text : List ℕ) (hs : List Handler) → Each R hs → P (doc.TextBox x text hs)
@@ -72,7 +69,6 @@ expr_layer P Q R by (Expr-F.Prim op es) = by.prim_form op (map (λ e. e.0) es) (
 handler_layer : (P : Doc → Type 0) (Q : Expr → Type 0) (R : Handler → Type 0) → ByForms P Q R
     → (y : Handler-F (Such the_family (claims P Q R) member-Doc) (Such the_family (claims P Q R) member-Expr) (Such the_family (claims P Q R) member-Handler))
     → R (roll-Handler (map-Handler (Such the_family (claims P Q R) member-Doc) (Such the_family (claims P Q R) member-Expr) (Such the_family (claims P Q R) member-Handler) Doc Expr Handler (λ e. e.0) (λ e. e.0) (λ e. e.0) y))
-unfolding handler
 handler_layer P Q R by y = by.handler_form y.param y.body.0 y.body.1
 
 doc_layer : (P : Doc → Type 0) (Q : Expr → Type 0) (R : Handler → Type 0) → ByForms P Q R

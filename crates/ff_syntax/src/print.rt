@@ -48,6 +48,8 @@ pub fn print_resp(resp: &Resp, out: &mut Vec<u8>) -> Result<(), NoMemory>
 pub fn print_shown(shown: &Shown, out: &mut Vec<u8>) -> Result<(), NoMemory>
     ensures ok { OnOk result (out.new.items ≡ out.old.items ++ spelled (shown_item shown.now)) }
     ensures err { OnErr result (AppendsFront out.old.items out.new.items (spelled (shown_item shown.now))) }
+    // It stands in one line.
+    ensures one_line { AllByRecursion IsSpelledSeen shown.now → All (λ b. b ≢ 10) (spelled (shown_item shown.now)) }
 {
     let mut printer = Printer::after(out)?;
     put_page(shown.as_slice(), &mut printer);
@@ -59,6 +61,7 @@ pub fn print_shown(shown: &Shown, out: &mut Vec<u8>) -> Result<(), NoMemory>
 pub fn print_pairs(pairs: &Pairs, out: &mut Vec<u8>) -> Result<(), NoMemory>
     ensures ok { OnOk result (out.new.items ≡ out.old.items ++ spelled (pairs_item pairs.now)) }
     ensures err { OnErr result (AppendsFront out.old.items out.new.items (spelled (pairs_item pairs.now))) }
+    ensures one_line { All (λ b. b ≢ 10) (spelled (pairs_item pairs.now)) }
 {
     let mut printer = Printer::after(out)?;
     put_pairs(pairs.as_slice(), &mut printer);

@@ -31,9 +31,9 @@ pub(crate) fn put_expr(expr: &Expr, out: &mut Printer)
             put_first(b"and", left.get(), out);
             put_last(right.get(), out);
         }
-        Expr::Or(left, right) => {
-            put_first(b"or", left.get(), out);
-            put_last(right.get(), out);
+        Expr::Or(first, second) => {
+            put_first(b"or", first.get(), out);
+            put_last(second.get(), out);
         }
         Expr::Make(params, body) => put_function(params.as_slice(), body.get(), out),
         Expr::Apply(function, args) => {

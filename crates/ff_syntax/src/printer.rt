@@ -84,7 +84,7 @@ impl Printer {
     {
         self.bytes(b" (");
         self.bytes(name.text().as_bytes());
-        self.bytes(b")");
+        self.close_list();
     }
 
     /// Appends a list of a word and a string.
