@@ -1,5 +1,5 @@
 -- What a line of a trace says: an input, nothing, or what is wrong with it.
-use Rattle.std.specs.Prelude.{◌≡◌, ◌<◌, ℕ, Bool, true, false, ◌==◌, if◌then◌else◌, Option, Some, None, Result, Ok, Err, List, [], ◌∷◌}
+use Rattle.std.specs.Prelude.{◌≡◌, ◌<◌, ◌⊎◌, ℕ, Bool, true, false, ◌==◌, if◌then◌else◌, Option, Some, None, Result, Ok, Err, List, [], ◌∷◌}
 use Rattle.std.specs.List.{position_from}
 use Rattle.std.specs.Str.{bytes_eq}
 use Rattle.ff_lattice.specs.Order.{Order, size}
@@ -110,6 +110,11 @@ pub data ReadsLine (order : Order) (line : List ℕ) : Result (Option Input) Lin
   silent : is_silent line ≡ true → ReadsLine order line (Ok None)
   bad_text : (which : TextFault) → is_silent line ≡ false → FirstFault line which → ReadsLine order line (Err (fault.Text which))
   as_items : (items : List Sexp) (answer : Result (Option Input) LineFault) → is_silent line ≡ false → SpellsItems line items → answer ≡ input_in order items → ReadsLine order line answer
+
+-- the answer, unless memory ran out
+abbrev pub Answers : {A : Type 0} → Result A LineFault → Result A LineFault → Type 0
+Answers (Ok value) answer = answer ≡ Ok value
+Answers (Err which) answer = (which ≡ fault.NoMemory) ⊎ (answer ≡ Err which)
 
 -- no tag, or the tag of a level
 abbrev pub IsTag : Order → Option Level → Type 0

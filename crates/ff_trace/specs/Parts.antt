@@ -1,17 +1,14 @@
 -- The parts of an input's line: numbers, addresses, domains, strings and responses, each of which is one item.
-use Rattle.std.specs.Prelude.{ℕ, Bool, ◌&&◌, ◌==◌, if◌then◌else◌, nat_lt, nat_le, Option, Some, None, Result, Ok, Err, List, [], ◌∷◌, ◌++◌, length, take, drop}
-use Rattle.std.specs.List.{list_all, slice_split, position_or_len}
+use Rattle.std.specs.Prelude.{ℕ, ◌&&◌, if◌then◌else◌, nat_lt, Option, Some, None, Result, Ok, Err, List}
 use Rattle.std.specs.Str.{bytes_eq}
 use Rattle.std.specs.Str.Parse.{digits_value}
-use Rattle.ff_name.specs.Spelling.{is_label}
-use Rattle.ff_name.specs.Address.{blank, scheme, stands_in_request, request_or_slash}
 use Rattle.ff_name.specs.declared.urls.Url.{Url}
-use Rattle.ff_name.specs.declared.urls.Url.TheVariants.{Blank, At}
 use Rattle.ff_number.specs.Decimal.{nat_text}
 use Rattle.ff_text.specs.declared.items.Sexp.{Sexp, out-Sexp}
 use Rattle.ff_text.specs.declared.items.Sexp.TheOpen.{Sexp-F}
 use Rattle.ff_value.specs.declared.reply.Resp.{Resp}
 use Rattle.ff_syntax.specs.Grammar.{resp_in}
+use Rattle.ff_syntax.specs.Words.{is_domain, address_of}
 use Rattle.ff_syntax.specs.declared.fault.SyntaxFault.{SyntaxFault}
 use Rattle.ff_syntax.specs.declared.fault.SyntaxFault.TheVariants as syntax
 use Rattle.ff_trace.specs.declared.fault.LineFault.{LineFault}
@@ -24,31 +21,9 @@ number_of text =
     then Some (digits_value 10 text)
     else None
 
--- labels joined by dots, at most 253 bytes in all
-abbrev pub is_domain : List ℕ → Bool
-is_domain text = nat_le (length text) 253 && list_all is_label (slice_split (λ b. b == 46) text)
-
+-- the domain that these bytes are
 abbrev pub domain_of : List ℕ → Option (List ℕ)
 domain_of text = if is_domain text then Some text else None
-
--- the address with this host and request text
-abbrev pub address_at : List ℕ → List ℕ → Option Url
-address_at host request =
-    if is_domain host && (list_all stands_in_request request && nat_le (length request) 2048)
-    then Some (At host (request_or_slash request))
-    else None
-
--- the address whose bytes after the scheme these are: its host ends at the first `/`
-abbrev pub address_after : List ℕ → Option Url
-address_after bytes =
-    let n = position_or_len (λ b. b == 47) bytes in address_at (take n bytes) (drop n bytes)
-
--- the address that these bytes spell
-abbrev pub address_of : List ℕ → Option Url
-address_of text =
-    if bytes_eq text blank then Some Blank
-    else if bytes_eq (take 7 text) scheme then address_after (drop 7 text)
-    else None
 
 -- what is read, or else this fault
 abbrev pub or_fault : {A : Type 0} → LineFault → Option A → Result A LineFault

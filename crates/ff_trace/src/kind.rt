@@ -1,4 +1,6 @@
 ghost use Rattle.std.specs.Prelude.{◌≡◌};
+ghost use Rattle.std.specs.List.{find};
+ghost use Rattle.std.specs.Str.{bytes_eq};
 ghost use Rattle.ff_trace.specs.Kinds.{kind_named, word_of};
 
 /// What an input does: the word of its line after the tag.
@@ -43,6 +45,16 @@ impl Kind {
     pub(crate) fn by_word(word: &[u8]) -> Option<Kind>
         ensures { result ≡ kind_named word.now }
     {
-        ALL.into_iter().find(|kind| kind.word().as_bytes() == word)
+        find_word(&ALL, word)
     }
+}
+
+/// The first of some kinds that has the word.
+fn find_word(kinds: &[Kind], word: &[u8]) -> Option<Kind>
+    ensures { result ≡ find (λ kind. bytes_eq (word_of kind) word.now) kinds.now }
+{
+    kinds
+        .iter()
+        .copied()
+        .find(|kind| kind.word().as_bytes() == word)
 }

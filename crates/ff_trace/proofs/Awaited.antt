@@ -1,0 +1,41 @@
+use Rattle.std.proofs.Common.{◌≡◌, ◌≢◌, true, List, ℕ, Some, Ok}
+use Rattle.std.specs.List.{All, AllByRecursion}
+use Rattle.ff_name.specs.Address.{Spells}
+use Rattle.ff_name.specs.Spelling.{IsDomain}
+use Rattle.ff_name.specs.declared.urls.Url.{Url}
+use Rattle.ff_text.specs.Printed.{bare, IsWellSpelled, spelled}
+use Rattle.ff_text.specs.declared.items.Sexp.{Sexp}
+use Rattle.ff_value.specs.Spelled.{IsWellSpelledResp, IsSpelledSeen, IsSpelledPair}
+use Rattle.ff_value.specs.declared.reply.Resp.{Resp}
+use Rattle.ff_value.specs.declared.output.Seen.{Seen}
+use Rattle.ff_value.specs.declared.output.Pair.{Pair}
+use Rattle.ff_syntax.specs.Canonical.{resp_item, shown_item, pairs_item}
+use Rattle.ff_syntax.specs.Words.{is_domain, address_of}
+use Rattle.ff_syntax.specs.Grammar.{resp_in}
+
+pub address_found : (word : List ℕ) (url : Url) → Spells word url → address_of word ≡ Some url
+address_found = ?
+
+pub address_spelled : (word : List ℕ) (url : Url) → address_of word ≡ Some url → Spells word url
+address_spelled = ?
+
+pub is_domain-from : (host : List ℕ) → IsDomain host → is_domain host ≡ true
+is_domain-from = ?
+
+pub IsDomain-from : (host : List ℕ) → is_domain host ≡ true → IsDomain host
+IsDomain-from = ?
+
+pub resp_again : (resp : Resp) (item : Sexp) → IsWellSpelledResp resp → bare item ≡ bare (resp_item resp) → resp_in item ≡ Ok resp
+resp_again = ?
+
+pub spelled_one_line : (item : Sexp) → IsWellSpelled item → All (λ b. b ≢ 10) (spelled item)
+spelled_one_line = ?
+
+pub resp_item_well_spelled : (resp : Resp) → IsWellSpelledResp resp → IsWellSpelled (resp_item resp)
+resp_item_well_spelled = ?
+
+pub shown_one_line : (shown : List Seen) → AllByRecursion IsSpelledSeen shown → All (λ b. b ≢ 10) (spelled (shown_item shown))
+shown_one_line = ?
+
+pub pairs_one_line : (pairs : List Pair) → AllByRecursion IsSpelledPair pairs → All (λ b. b ≢ 10) (spelled (pairs_item pairs))
+pairs_one_line = ?

@@ -1,0 +1,93 @@
+ghost use Rattle.std.specs.Prelude.{◌≡◌, ◌≤◌, ◌⊎◌, Result, Option, length, IfOk, IfSome, MatchOption, IsTrue};
+ghost use Rattle.ff_text.specs.Printed.{AreWellSpelled};
+ghost use Rattle.ff_value.specs.declared.input.Input.{Input};
+ghost use Rattle.ff_trace.specs.declared.fault.LineFault.{LineFault};
+ghost use Rattle.ff_trace.specs.Lines.{Answers, IsInputOf, ReadsLine, input_in, tag_of};
+ghost use Rattle.ff_trace.specs.Lines as lines;
+
+use crate::LineFault;
+use crate::acts::read_act;
+use crate::levels::level_named;
+use ff_lattice::Lattice;
+use ff_text::{Sexp, TextFault, read_items};
+use ff_value::Input;
+use std::alloc::Global;
+
+/// The input of a line of at most 1,048,576 bytes, without its newline. `None` for a line of blanks
+/// alone, and for a comment: a line whose first byte that isn't a blank is `#`. The refusals, the
+/// first of which decides: the line isn't a text of items; its tag names no level of the lattice; no
+/// kind follows, or none of the seven; a wrong number of parts; a part that is no number below 2^32,
+/// no address or domain, no string or no response, the parts from left to right.
+pub fn read_input(
+    alloc: Global,
+    line: &[u8],
+    lattice: &Lattice,
+) -> Result<Option<Input>, LineFault>
+    requires { length line.now ≤ 1048576 }
+    ensures found { (result ≡ Err LineFault.NoMemory) ⊎ ReadsLine lattice.now line.now result }
+    ensures exact { (answer : Result (Option Input) LineFault) → ReadsLine lattice.now line.now answer → (result ≡ answer) ⊎ (result ≡ Err LineFault.NoMemory) }
+    ensures well_spelled { IfOk result (λ answer. IfSome answer (IsInputOf lattice.now)) }
+{
+    if is_silent(line) {
+        return Ok(None);
+    }
+    match read_items(alloc, line) {
+        Ok(items) => read_tagged(alloc, items.as_slice(), lattice),
+        Err(fault) => match fault {
+            TextFault::NoMemory => Err(LineFault::NoMemory),
+            _ => Err(LineFault::Text(fault)),
+        },
+    }
+}
+
+/// Whether a line gives no input: blanks alone, or blanks and then `#`.
+fn is_silent(line: &[u8]) -> bool
+    ensures { result ≡ lines.is_silent line.now }
+{
+    for b in line {
+        if *b != b' ' {
+            return *b == b'#';
+        }
+    }
+    true
+}
+
+/// The input of a line's items: a tag or none, and an act.
+fn read_tagged(
+    alloc: Global,
+    items: &[Sexp],
+    lattice: &Lattice,
+) -> Result<Option<Input>, LineFault>
+    ensures value { Answers result (input_in lattice.now items.now) }
+    ensures well_spelled { AreWellSpelled items.now → IfOk result (λ answer. IfSome answer (IsInputOf lattice.now)) }
+{
+    match items.split_first() {
+        Some((first, rest)) => match tag_of(first) {
+            Some(name) => match level_named(lattice, name) {
+                Some(level) => {
+                    let act = read_act(alloc, rest)?;
+                    Ok(Some(Input {
+                        tag: Some(level),
+                        act,
+                    }))
+                }
+                None => Err(LineFault::Level),
+            },
+            None => {
+                let act = read_act(alloc, items)?;
+                Ok(Some(Input { tag: None, act }))
+            }
+        },
+        None => Err(LineFault::Kind),
+    }
+}
+
+/// What follows the `@` of a tag, or `None` where the item is no tag.
+fn tag_of(item: &Sexp) -> Option<&[u8]>
+    ensures { MatchOption result (lines.tag_of item.now ≡ None) (λ name. lines.tag_of item.now ≡ Some name.now) }
+{
+    match item {
+        Sexp::Word(_, text) => text.as_bytes().strip_prefix(b"@"),
+        _ => None,
+    }
+}
