@@ -91,7 +91,6 @@ record Reread (from : ℕ) (items : List Sexp) : Type 0 where
   spells : Spells 0 from end (joined items) again ended
   same : map bare again ≡ map bare items
 
-
 one_again : (item : Sexp) → IsWellSpelled item → (from : ℕ) → Reread from (item ∷ [])
 one_again item well from =
     let back = reads_back item well in

@@ -132,11 +132,16 @@ out_lines (out.Loaded win url shown) well =
 out_lines (out.Updated win shown) well = (word_line (codes "updated") refl, (number_line win well.0, (shown_one_line shown well.1, tt)))
 out_lines (out.Error win which) well = (word_line (codes "error") refl, (number_line win well, (word_line (faults.word_of which) (fault_word which), tt)))
 out_lines out.Stopped well = (word_line (codes "stopped") refl, tt)
-out_lines (out.Send domain request cookies body) well =
-    (word_line (codes "send") refl,
-    (word_line domain (domain_word domain well.0),
-    (string_line request (IsUtf8-from_request request well.1.made_of),
-    (pairs_one_line (in_key_order cookies) (all_ordered IsSpelledPair cookies well.2), (string_line body well.3, tt)))))
+out_lines (out.Send domain request cookies body) well = (
+  word_line (codes "send") refl,
+  (
+    word_line domain (domain_word domain well.0),
+    (
+      string_line request (IsUtf8-from_request request well.1.made_of),
+      (pairs_one_line (in_key_order cookies) (all_ordered IsSpelledPair cookies well.2), (string_line body well.3, tt)),
+    ),
+  ),
+)
 
 -- the line of an output, after the name of its level, holds no newline
 pub out_one_line : (one : Out) → IsWellSpelledOut one → IsOneLine (out_text one)

@@ -51,11 +51,7 @@ fn print_part(part: &Part, out: &mut Vec<u8>) -> Result<(), NoMemory>
 fn put_blank(at: usize, out: &mut Vec<u8>) -> Result<(), NoMemory>
     ensures { AppendsAll result out.old.items out.new.items (blank_before at) }
 {
-    if at == 0 {
-        Ok(())
-    } else {
-        put_all(b" ", out)
-    }
+    if at == 0 { Ok(()) } else { put_all(b" ", out) }
 }
 
 /// Appends all of the bytes or none.

@@ -29,11 +29,7 @@ pub fn print_input(input: &Input, lattice: &Lattice, out: &mut Vec<u8>) -> Resul
     print_input_line(input, lattice, out)
 }
 
-fn print_input_line(
-    input: &Input,
-    lattice: &Lattice,
-    out: &mut Vec<u8>,
-) -> Result<(), NoMemory>
+fn print_input_line(input: &Input, lattice: &Lattice, out: &mut Vec<u8>) -> Result<(), NoMemory>
     requires { IsTag lattice.now input.now.tag }
     ensures { Appends result out.old.items out.new.items (input_text lattice.now input.now ++ 10 ∷ []) }
 {
@@ -43,11 +39,7 @@ fn print_input_line(
 }
 
 /// Appends a tag and a blank, and nothing for no tag.
-fn print_tag(
-    tag: Option<Level>,
-    lattice: &Lattice,
-    out: &mut Vec<u8>,
-) -> Result<(), NoMemory>
+fn print_tag(tag: Option<Level>, lattice: &Lattice, out: &mut Vec<u8>) -> Result<(), NoMemory>
     requires { IsTag lattice.now tag }
     ensures { Appends result out.old.items out.new.items (tag_text lattice.now tag) }
 {
@@ -93,7 +85,11 @@ fn print_act(act: &Act, out: &mut Vec<u8>) -> Result<(), NoMemory>
             out,
         ),
         Act::Clicks(win, button) => print_parts(
-            &[Part::Word(b"click"), Part::Number(*win), Part::Number(*button)],
+            &[
+                Part::Word(b"click"),
+                Part::Number(*win),
+                Part::Number(*button),
+            ],
             out,
         ),
         Act::Replies(domain, request, resp) => print_parts(
@@ -158,7 +154,11 @@ fn print_output(one: &Out, out: &mut Vec<u8>) -> Result<(), NoMemory>
             out,
         ),
         Out::Updated(win, shown) => print_parts(
-            &[Part::Word(b"updated"), Part::Number(*win), Part::Shown(shown)],
+            &[
+                Part::Word(b"updated"),
+                Part::Number(*win),
+                Part::Shown(shown),
+            ],
             out,
         ),
         Out::Error(win, fault) => print_parts(

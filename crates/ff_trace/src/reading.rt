@@ -18,11 +18,7 @@ use std::alloc::Global;
 /// first of which decides: the line isn't a text of items; its tag names no level of the lattice; no
 /// kind follows, or none of the seven; a wrong number of parts; a part that is no number below 2^32,
 /// no address or domain, no string or no response, the parts from left to right.
-pub fn read_input(
-    alloc: Global,
-    line: &[u8],
-    lattice: &Lattice,
-) -> Result<Option<Input>, LineFault>
+pub fn read_input(alloc: Global, line: &[u8], lattice: &Lattice) -> Result<Option<Input>, LineFault>
     requires { length line.now ≤ 1048576 }
     ensures found { (result ≡ Err LineFault.NoMemory) ⊎ ReadsLine lattice.now line.now result }
     ensures exact { (answer : Result (Option Input) LineFault) → ReadsLine lattice.now line.now answer → (result ≡ answer) ⊎ (result ≡ Err LineFault.NoMemory) }
@@ -53,11 +49,7 @@ fn is_silent(line: &[u8]) -> bool
 }
 
 /// The input of a line's items: a tag or none, and an act.
-fn read_tagged(
-    alloc: Global,
-    items: &[Sexp],
-    lattice: &Lattice,
-) -> Result<Option<Input>, LineFault>
+fn read_tagged(alloc: Global, items: &[Sexp], lattice: &Lattice) -> Result<Option<Input>, LineFault>
     ensures value { Answers result (input_in lattice.now items.now) }
     ensures well_spelled { AreWellSpelled items.now → IfOk result (λ answer. IfSome answer (IsInputOf lattice.now)) }
 {

@@ -39,7 +39,10 @@ fn inputs(rt: HostRuntime) -> Result<(), NoMemory> {
         (b"  #\xff\"(", b""),
         (b"open http://a.com", b"open http://a.com/"),
         (b"open about:blank", b"open about:blank"),
-        (b" @L  open http://a.com/?q=1 ", b"@L open http://a.com/?q=1"),
+        (
+            b" @L  open http://a.com/?q=1 ",
+            b"@L open http://a.com/?q=1",
+        ),
         (b"go 0 http://a.com/", b"go 0 http://a.com/"),
         (b"link 4294967295 0", b"link 4294967295 0"),
         (b"close 12", b"close 12"),
@@ -55,9 +58,15 @@ fn inputs(rt: HostRuntime) -> Result<(), NoMemory> {
             b"reply a-b.c 1 (script () (+ 1 -2))",
             b"reply a-b.c 1 (script () (+ 1 -2))",
         ),
-        (b"reply a 1 (data () \"\\x41\")", b"reply a 1 (data () \"A\")"),
+        (
+            b"reply a 1 (data () \"\\x41\")",
+            b"reply a 1 (data () \"A\")",
+        ),
         (b"@L close 0", b"@L close 0"),
-        (b"@H reply a 0 (data () \"\")", b"@H reply a 0 (data () \"\")"),
+        (
+            b"@H reply a 0 (data () \"\")",
+            b"@H reply a 0 (data () \"\")",
+        ),
     ];
     for (line, want) in cases {
         assert!(rt; reads_as(rt.alloc(), &lattice, line, Ok(want))?, "{line:?}");
@@ -108,10 +117,7 @@ fn faults(rt: HostRuntime) -> Result<(), NoMemory> {
         (b"open http://A.com/", LineFault::Url),
         (b"go 1 \"http://a.com/\"", LineFault::Url),
         (b"reply A x x", LineFault::Url),
-        (
-            b"@H type 0 0 x",
-            LineFault::Syntax(SyntaxFault::Place(12)),
-        ),
+        (b"@H type 0 0 x", LineFault::Syntax(SyntaxFault::Place(12))),
         (
             b"type 0 0  (\"x\")",
             LineFault::Syntax(SyntaxFault::Place(10)),
@@ -122,7 +128,10 @@ fn faults(rt: HostRuntime) -> Result<(), NoMemory> {
         ),
     ];
     for (line, want) in cases {
-        assert!(rt; reads_as(rt.alloc(), &lattice, line, Err(want))?, "{line:?}");
+        assert!(rt;
+            reads_as(rt.alloc(), &lattice, line, Err(want))?,
+            "{line:?}"
+        );
     }
     Ok(())
 }
@@ -178,22 +187,12 @@ fn pairs(alloc: Global, keys: &[&[u8]]) -> Result<Pairs, NoMemory> {
 fn sent(alloc: Global) -> Result<Out, NoMemory> {
     let cookies = pairs(alloc, &[b"b", b"", b"ab", b"a"])?;
     match Domain::of(alloc, b"a.com")? {
-        Some(domain) => Ok(Out::Send(
-            domain,
-            text(alloc, b"/x")?,
-            cookies,
-            text(alloc, b"\"")?,
-        )),
+        Some(domain) => Ok(Out::Send(domain, text(alloc, b"/x")?, cookies, text(alloc, b"\"")?)),
         None => Ok(Out::Opened),
     }
 }
 
-fn prints_as(
-    alloc: Global,
-    lattice: &Lattice,
-    one: &Out,
-    want: &[u8],
-) -> Result<bool, NoMemory> {
+fn prints_as(alloc: Global, lattice: &Lattice, one: &Out, want: &[u8]) -> Result<bool, NoMemory> {
     let mut out = Vec::new(alloc);
     print_out(Level(0), lattice, one, &mut out)?;
     Ok(out.as_slice() == want)
@@ -205,7 +204,10 @@ fn outputs(rt: HostRuntime) -> Result<(), NoMemory> {
     let cases: [(Out, &[u8]); 5] = [
         (Out::Opened, b"L opened\n"),
         (Out::Closed(7), b"L closed 7\n"),
-        (Out::Error(4294967295, Fault::Overflow), b"L error 4294967295 overflow\n"),
+        (
+            Out::Error(4294967295, Fault::Overflow),
+            b"L error 4294967295 overflow\n",
+        ),
         (Out::Error(0, Fault::Dead), b"L error 0 dead\n"),
         (Out::Stopped, b"L stopped\n"),
     ];
@@ -219,7 +221,8 @@ fn outputs(rt: HostRuntime) -> Result<(), NoMemory> {
 fn a_page_that_was_loaded(rt: HostRuntime) -> Result<(), NoMemory> {
     let lattice = Lattice::two(rt.alloc())?;
     let one = Out::Loaded(1, Url::Blank, shown(rt.alloc())?);
-    let want = b"L loaded 1 about:blank (page (link about:blank \"l\") (button \"ok\") (div (text \"a\\nb\") (box \"\")))\n";
+    let want =
+        b"L loaded 1 about:blank (page (link about:blank \"l\") (button \"ok\") (div (text \"a\\nb\") (box \"\")))\n";
     assert!(rt; prints_as(rt.alloc(), &lattice, &one, want)?);
     Ok(())
 }
@@ -236,7 +239,8 @@ fn a_page_that_was_changed(rt: HostRuntime) -> Result<(), NoMemory> {
 fn a_request_with_cookies_in_order(rt: HostRuntime) -> Result<(), NoMemory> {
     let lattice = Lattice::two(rt.alloc())?;
     let one = sent(rt.alloc())?;
-    let want = b"L send a.com \"/x\" ((\"\" \"v\") (\"a\" \"v\") (\"ab\" \"v\") (\"b\" \"v\")) \"\\\"\"\n";
+    let want =
+        b"L send a.com \"/x\" ((\"\" \"v\") (\"a\" \"v\") (\"ab\" \"v\") (\"b\" \"v\")) \"\\\"\"\n";
     assert!(rt; prints_as(rt.alloc(), &lattice, &one, want)?);
     Ok(())
 }
