@@ -28,14 +28,6 @@ IsDomain-from = ?
 pub resp_again : (resp : Resp) (item : Sexp) → IsWellSpelledResp resp → bare item ≡ bare (resp_item resp) → resp_in item ≡ Ok resp
 resp_again = ?
 
-pub spelled_one_line : (item : Sexp) → IsWellSpelled item → All (λ b. b ≢ 10) (spelled item)
-spelled_one_line = ?
-
 pub resp_item_well_spelled : (resp : Resp) → IsWellSpelledResp resp → IsWellSpelled (resp_item resp)
 resp_item_well_spelled = ?
 
-pub shown_one_line : (shown : List Seen) → AllByRecursion IsSpelledSeen shown → All (λ b. b ≢ 10) (spelled (shown_item shown))
-shown_one_line = ?
-
-pub pairs_one_line : (pairs : List Pair) → AllByRecursion IsSpelledPair pairs → All (λ b. b ≢ 10) (spelled (pairs_item pairs))
-pairs_one_line = ?

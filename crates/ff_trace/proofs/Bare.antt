@@ -4,9 +4,7 @@ use Rattle.ff_text.specs.declared.items.Span.{Span}
 use Rattle.ff_text.specs.declared.items.Sexp.{Sexp, out-Sexp}
 use Rattle.ff_text.specs.declared.items.Sexp.TheVariants as sexp
 use Rattle.ff_text.specs.declared.items.Sexp.TheOpen.{Sexp-F}
-use Rattle.ff_text.specs.Notation.{span}
 use Rattle.ff_text.specs.Printed.{bare}
-use Rattle.ff_text.proofs.Layers.{bare-Word, bare-Str}
 use Rattle.ff_syntax.specs.Canonical.{word, string}
 use Rattle.ff_syntax.proofs.Bare.{word_item, string_item}
 
@@ -22,12 +20,12 @@ pub record IsStringOf (item : Sexp) (value : List ℕ) : Type 0 where
 
 pub word_from : (item : Sexp) (text : List ℕ) → bare item ≡ bare (word text) → IsWordOf item text
 word_from item text e =
-    let is = word_item item text (e ∙ bare-Word (span 0 0) text) in
+    let is = word_item item text e in
     record { at = is.at; is = ap out-Sexp is.is ∙ sexp.outs-Word is.at text }
 
 pub string_from : (item : Sexp) (value : List ℕ) → bare item ≡ bare (string value) → IsStringOf item value
 string_from item value e =
-    let is = string_item item value (e ∙ bare-Str (span 0 0) value) in
+    let is = string_item item value e in
     record { at = is.at; is = ap out-Sexp is.is ∙ sexp.outs-Str is.at value }
 
 -- items that are others, in all but their places

@@ -14,7 +14,7 @@ use Rattle.ff_name.specs.declared.levels.Level.{Level}
 use Rattle.ff_text.specs.Printed.{spelled, fits_at, is_word, IsWellSpelled, AreWellSpelled}
 use Rattle.ff_text.specs.declared.items.Sexp.{Sexp}
 use Rattle.ff_value.specs.Faults as faults
-use Rattle.ff_value.specs.Spelled.{IsWellSpelledAct, IsWellSpelledInput, IsWellSpelledOut, IsSpelledPair}
+use Rattle.ff_value.specs.Spelled.{IsWellSpelledAct, IsWellSpelledInput, IsWellSpelledOut}
 use Rattle.ff_value.specs.declared.fault.Fault.{Fault}
 use Rattle.ff_value.specs.declared.fault.Fault.TheVariants as fault
 use Rattle.ff_value.specs.declared.input.Act.{Act}
@@ -23,14 +23,15 @@ use Rattle.ff_value.specs.declared.input.Input.{Input}
 use Rattle.ff_value.specs.declared.output.Out.{Out}
 use Rattle.ff_value.specs.declared.output.Out.TheVariants as out
 use Rattle.ff_syntax.specs.Canonical.{word, string}
+use Rattle.ff_syntax.proofs.OneLine.{spelled_one_line, shown_one_line, pairs_one_line}
+use Rattle.ff_syntax.proofs.WordTexts.{url_word}
 use Rattle.ff_trace.specs.Kinds.{word_of}
 use Rattle.ff_trace.specs.Lines.{IsTag}
 use Rattle.ff_trace.specs.Printed.{number, act_items, tag_items, input_items, input_text, out_items, out_text, joined, in_key_order}
 use Rattle.ff_trace.specs.declared.kind.Kind.{Kind}
 use Rattle.ff_trace.specs.declared.kind.Kind.TheVariants as kind
-use Rattle.ff_trace.proofs.Awaited.{resp_item_well_spelled, spelled_one_line, shown_one_line, pairs_one_line}
-use Rattle.ff_trace.proofs.Sorting.{all_ordered}
-use Rattle.ff_trace.proofs.Worded.{number_word, domain_word, address_word, tag_is_word, fits_word, fits_string, fits_more, fits_none}
+use Rattle.ff_trace.proofs.Awaited.{resp_item_well_spelled}
+use Rattle.ff_trace.proofs.Worded.{number_word, domain_word, tag_is_word, fits_word, fits_string, fits_more, fits_none}
 
 kind_is_word : (k : Kind) → is_word (word_of k) ≡ true
 kind_is_word kind.Open = refl
@@ -56,8 +57,8 @@ number_fits : (n : ℕ) → n < 2 ^ 32 → IsWellSpelled (number n)
 number_fits n small = fits_word (nat_text n) (number_word n small)
 
 act_fit : (one : Act) → IsWellSpelledAct one → Fit (act_items one)
-act_fit (act.Opens url) well = (kind_fits kind.Open, (fits_word (printed url) (address_word url well), tt))
-act_fit (act.Goes win url) well = (kind_fits kind.Go, (number_fits win well.0, (fits_word (printed url) (address_word url well.1), tt)))
+act_fit (act.Opens url) well = (kind_fits kind.Open, (fits_word (printed url) (url_word url well), tt))
+act_fit (act.Goes win url) well = (kind_fits kind.Go, (number_fits win well.0, (fits_word (printed url) (url_word url well.1), tt)))
 act_fit (act.Links win link) well = (kind_fits kind.Link, (number_fits win well.0, (number_fits link well.1, tt)))
 act_fit (act.Closes win) well = (kind_fits kind.Close, (number_fits win well, tt))
 act_fit (act.Types win field text) well = (kind_fits kind.Type, (number_fits win well.0, (number_fits field well.1, (fits_string text well.2, tt))))
@@ -128,7 +129,7 @@ out_lines : (one : Out) → IsWellSpelledOut one → OneLines (out_items one)
 out_lines out.Opened well = (word_line (codes "opened") refl, tt)
 out_lines (out.Closed win) well = (word_line (codes "closed") refl, (number_line win well, tt))
 out_lines (out.Loaded win url shown) well =
-    (word_line (codes "loaded") refl, (number_line win well.0, (word_line (printed url) (address_word url well.1), (shown_one_line shown well.2, tt))))
+    (word_line (codes "loaded") refl, (number_line win well.0, (word_line (printed url) (url_word url well.1), (shown_one_line shown well.2, tt))))
 out_lines (out.Updated win shown) well = (word_line (codes "updated") refl, (number_line win well.0, (shown_one_line shown well.1, tt)))
 out_lines (out.Error win which) well = (word_line (codes "error") refl, (number_line win well, (word_line (faults.word_of which) (fault_word which), tt)))
 out_lines out.Stopped well = (word_line (codes "stopped") refl, tt)
@@ -138,7 +139,7 @@ out_lines (out.Send domain request cookies body) well = (
     word_line domain (domain_word domain well.0),
     (
       string_line request (IsUtf8-from_request request well.1.made_of),
-      (pairs_one_line (in_key_order cookies) (all_ordered IsSpelledPair cookies well.2), (string_line body well.3, tt)),
+      (pairs_one_line (in_key_order cookies), (string_line body well.3, tt)),
     ),
   ),
 )

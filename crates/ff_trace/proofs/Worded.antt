@@ -35,9 +35,6 @@ digit_byte b h = grind (arith, nat_tests)
 label_byte : (b : ℕ) → stands_in_label b ≡ true → is_word_byte b ≡ true
 label_byte b h = grind (arith, nat_tests)
 
-request_byte : (b : ℕ) → stands_in_request b ≡ true → is_word_byte b ≡ true
-request_byte b h = grind (arith, nat_tests)
-
 name_byte : (b : ℕ) → stands_in_name b ≡ true → is_word_byte b ≡ true
 name_byte b h = grind (arith, nat_tests)
 
@@ -74,14 +71,6 @@ joined_some ((b ∷ label) ∷ next ∷ rest) some each e = cc
 -- a domain is a word
 pub domain_word : (domain : List ℕ) → IsDomain domain → is_word domain ≡ true
 domain_word domain h = word_from domain (domain_bytes domain h) (λ e. joined_some h.labels h.some h.each (sym h.joined ∙ e))
-
--- an address is a word
-pub address_word : (url : Url) → address.IsWellSpelled url → is_word (printed url) ≡ true
-address_word Blank well = refl
-address_word (At domain request) well =
-    list_all-append is_word_byte scheme (domain ++ request)
-    ∙ list_all-append is_word_byte domain request
-    ∙ and_from _ _ (domain_bytes domain well.0) (list_all-wider stands_in_request is_word_byte request_byte request well.1.made_of)
 
 level_bytes : (text : List ℕ) → is_level_name text ≡ true → list_all is_word_byte text ≡ true
 level_bytes [] h = refl
