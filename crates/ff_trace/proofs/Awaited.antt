@@ -19,12 +19,6 @@ address_found = ?
 pub address_spelled : (word : List ℕ) (url : Url) → address_of word ≡ Some url → Spells word url
 address_spelled = ?
 
-pub is_domain-from : (host : List ℕ) → IsDomain host → is_domain host ≡ true
-is_domain-from = ?
-
-pub IsDomain-from : (host : List ℕ) → is_domain host ≡ true → IsDomain host
-IsDomain-from = ?
-
 pub resp_again : (resp : Resp) (item : Sexp) → IsWellSpelledResp resp → bare item ≡ bare (resp_item resp) → resp_in item ≡ Ok resp
 resp_again = ?
 

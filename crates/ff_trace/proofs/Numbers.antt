@@ -25,6 +25,9 @@ above_test n large = grind (arith, nat_tests)
 below_from : (n : ℕ) → nat_lt n 4294967296 ≡ true → n < 2 ^ 64
 below_from n test = grind (arith, nat_tests)
 
+small_from : (n : ℕ) → nat_lt n 4294967296 ≡ true → n < 2 ^ 32
+small_from n test = grind (arith, nat_tests)
+
 value_of : (n : ℕ) (text : List ℕ) → n < 2 ^ 64 → text ≡ nat_text n → digits_value 10 text ≡ n
 value_of n text small e = ap (digits_value 10) e ∙ (decimal_is_IsNumeral n small).1
 
@@ -57,3 +60,17 @@ number_of_small text answer n is e small = number_spelled n text small ((is.spel
 
 pub number_of_large : (text : List ℕ) (answer : Option ℕ) (n : ℕ) → IsNatOf text answer → answer ≡ Some n → n < 2 ^ 64 → 2 ^ 32 ≤ n → number_of text ≡ None
 number_of_large text answer n is e small large = number_large n text small large ((is.spelled n small).0 e)
+
+number_back : (text : List ℕ) (n : ℕ) → number_of text ≡ Some n → (n < 2 ^ 32) × (text ≡ nat_text n)
+number_back text n e = go (is_number text) refl e where
+  go : (t : Bool) → is_number text ≡ t → cond t (Some (digits_value 10 text)) None ≡ Some n → (n < 2 ^ 32) × (text ≡ nat_text n)
+  go true is f =
+      let parts = and_parts (nat_lt (digits_value 10 text) 4294967296) (bytes_eq (nat_text (digits_value 10 text)) text) is in
+      let same : digits_value 10 text ≡ n = cc in
+      (subst (λ m. m < 2 ^ 32) same (small_from (digits_value 10 text) parts.0),
+      sym ((bytes_eq-Decides (nat_text (digits_value 10 text)) text).0 parts.1) ∙ ap nat_text same)
+  go false is f = cc
+
+-- bytes are a number exactly where they are its canonical spelling
+pub number_exactly : (text : List ℕ) (n : ℕ) → (number_of text ≡ Some n) ↔ ((n < 2 ^ 32) × (text ≡ nat_text n))
+number_exactly text n = (number_back text n, λ h. number_spelled n text h.0 h.1)

@@ -20,7 +20,8 @@ use Rattle.ff_value.specs.declared.input.Input.{Input}
 use Rattle.ff_value.specs.declared.reply.Resp.{Resp}
 use Rattle.ff_syntax.specs.Canonical.{word, string, resp_item}
 use Rattle.ff_syntax.specs.Words.{is_domain, address_of}
-use Rattle.ff_trace.proofs.Awaited.{address_found, is_domain-from, resp_again}
+use Rattle.ff_trace.proofs.Awaited.{address_found, resp_again}
+use Rattle.ff_trace.proofs.Spelt.{is_domain-from}
 use Rattle.ff_trace.specs.declared.fault.LineFault.{LineFault}
 use Rattle.ff_trace.specs.declared.fault.LineFault.TheVariants as fault
 use Rattle.ff_trace.specs.declared.kind.Kind.{Kind}

@@ -7,7 +7,7 @@ use Rattle.std.specs.List.Sorted.{IsSortedBy, IsStableBy, IsPermutation, ties}
 use Rattle.std.specs.Ordering.{nat_cmp}
 use Rattle.std.proofs.lemmas.Bool.{and_parts, and_from, true≢false}
 use Rattle.std.proofs.lemmas.Cmp.{nat_list_cmp_total}
-use Rattle.std.proofs.lemmas.List.Sorted.{sorted_far, ranks_by, IsPermutation-refl, IsPermutation-cons, IsPermutation-trans}
+use Rattle.std.proofs.lemmas.List.Sorted.{sorted_far, ranks_by, IsPermutation-refl, IsPermutation-cons, IsPermutation-trans, IsPermutation-append_left, IsPermutation-append_comm}
 use native.Mathlib.Numerals.{unary_clauses}
 use Rattle.ff_value.specs.declared.output.Pair.{Pair}
 use Rattle.ff_trace.specs.Printed.{key_below, placed, in_key_order}
@@ -173,3 +173,35 @@ stable_ordered (p ∷ pairs) z = stable_placed z p (in_key_order pairs) ∙ filt
 pub ordered_by_sort : (pairs sorted : List Pair) → IsSortedBy key_below sorted → IsStableBy key_below pairs sorted → sorted ≡ in_key_order pairs
 ordered_by_sort pairs sorted rises stable =
     same_sorted key_below key_order sorted (in_key_order pairs) (rises_from key_below key_order sorted rises) (rises_ordered pairs) (λ z. stable z ∙ sym (stable_ordered pairs z))
+
+-- ---- laws
+
+sorted_from : (pairs : List Pair) → Rises key_below key_order pairs → IsSortedBy key_below pairs
+sorted_from [] rises k d low inside = absurd (omega (arith, inside))
+sorted_from (x ∷ []) rises k d low inside = absurd (omega (arith, inside))
+sorted_from (x ∷ y ∷ pairs) rises zero d low inside = rises.0.0
+sorted_from (x ∷ y ∷ pairs) rises (suc k) d low inside =
+    let next : get_or (x ∷ y ∷ pairs) (suc k + 1) d ≡ get_or (y ∷ pairs) (k + 1) d = simp unary_clauses refl in
+    subst (λ z. key_below z (get_or (y ∷ pairs) k d) ≡ false) (sym next) (sorted_from (y ∷ pairs) rises.1 k d (omega arith) (omega (arith, inside)))
+
+pub sorted_ordered : (pairs : List Pair) → IsSortedBy key_below (in_key_order pairs)
+sorted_ordered pairs = sorted_from (in_key_order pairs) (rises_ordered pairs)
+
+pub kept_ordered : (pairs : List Pair) → IsSortedBy key_below pairs → in_key_order pairs ≡ pairs
+kept_ordered pairs sorted = sym (ordered_by_sort pairs pairs sorted (λ z. refl))
+
+swapped : (p q : Pair) (others : List Pair) → IsPermutation (p ∷ q ∷ others) (q ∷ p ∷ others)
+swapped p q others = IsPermutation-append_left others (p ∷ q ∷ []) (q ∷ p ∷ []) (IsPermutation-append_comm (p ∷ []) (q ∷ []))
+
+permuted_placed : (p : Pair) (pairs : List Pair) → IsPermutation (p ∷ pairs) (placed p pairs)
+permuted_placed p [] = IsPermutation-refl (p ∷ [])
+permuted_placed p (q ∷ others) = go (key_below q p) refl (permuted_placed p others) where
+  go : (t : Bool) → key_below q p ≡ t → IsPermutation (p ∷ others) (placed p others) → IsPermutation (p ∷ q ∷ others) (placed p (q ∷ others))
+  go true e rest =
+      rw e (IsPermutation-trans (p ∷ q ∷ others) (q ∷ p ∷ others) (q ∷ placed p others) (swapped p q others) (IsPermutation-cons q (p ∷ others) (placed p others) rest))
+  go false e rest = rw e (IsPermutation-refl (p ∷ q ∷ others))
+
+pub permuted_ordered : (pairs : List Pair) → IsPermutation pairs (in_key_order pairs)
+permuted_ordered [] = IsPermutation-refl []
+permuted_ordered (p ∷ pairs) =
+    IsPermutation-trans (p ∷ pairs) (p ∷ in_key_order pairs) (placed p (in_key_order pairs)) (IsPermutation-cons p pairs (in_key_order pairs) (permuted_ordered pairs)) (permuted_placed p (in_key_order pairs))

@@ -1,0 +1,5 @@
+use Rattle.ff_trace.proofs.Once.{reads_line_once}
+use Rattle.ff_trace.proofs.law.a_line_is_read_in_one_way.Goals as goal
+
+pub returns : goal.returns
+returns c = reads_line_once
