@@ -1,9 +1,11 @@
 -- Which items are documents, expressions and responses, what they stand for, and which fault is met first: tables of the
 -- forms that lists may have.
-use Rattle.std.specs.Prelude.{ℕ, ◌-◌, Bool, true, false, ◌&&◌, ◌==◌, nat_le, if◌then◌else◌, Option, ok_or, Result, Ok, Err, List, [], ◌∷◌, map, length, codes, find}
+use Rattle.std.specs.Prelude.{◌≡◌, ◌⊎◌, ℕ, ◌-◌, Bool, true, false, ◌&&◌, ◌==◌, nat_le, if◌then◌else◌, Option, ok_or, Result, Ok, Err, List, [], ◌∷◌, ◌++◌, map, length, codes, find}
 use Rattle.std.specs.List.{list_any}
 use Rattle.std.specs.Str.{bytes_eq}
 use Rattle.ff_name.specs.declared.urls.Url.{Url}
+use Rattle.ff_name.specs.declared.urls.UrlFault.{UrlFault}
+use Rattle.ff_name.specs.declared.urls.UrlFault.TheVariants as url_fault
 use Rattle.ff_tree.specs.Ops.{word_of, arity_of}
 use Rattle.ff_tree.specs.declared.op.Op.{Op}
 use Rattle.ff_tree.specs.declared.op.Op.TheVariants as op
@@ -166,8 +168,11 @@ abbrev pub cookie_form : CookieHead → Form CookieOp
 cookie_form cookie_head.Put = form (a_string ∷ a_string ∷ []) nothing cookie.Put
 cookie_form cookie_head.Drop = form (a_string ∷ []) nothing cookie.Drop
 
+abbrev pub handler : List ℕ → Expr → Handler
+handler param body = roll-Handler (record { param = param; body = body })
+
 abbrev pub handler_form : Form Handler
-handler_form = form (one_parameter ∷ an_expression ∷ []) nothing (λ x e. roll-Handler (record { param = x; body = e }))
+handler_form = form (one_parameter ∷ an_expression ∷ []) nothing handler
 
 -- The words at each position, and the form whose word it is there.
 
@@ -180,10 +185,15 @@ operators =
     ∷ op.Cookie ∷ op.SetCookie ∷ op.DelCookie ∷ op.SelfWindow ∷ op.Opener ∷ op.Live ∷ op.Url ∷ op.Page ∷ op.Window ∷ op.Open ∷ op.OpenNamed
     ∷ op.Go ∷ op.Close ∷ op.Kind ∷ op.Text ∷ op.SetText ∷ op.Count ∷ op.Child ∷ op.Find ∷ op.Nth ∷ op.Insert ∷ op.Listen ∷ op.Ask ∷ []
 
+abbrev pub own_heads : List ExprHead
+own_heads =
+    expr_head.Let ∷ expr_head.Set ∷ expr_head.If ∷ expr_head.While ∷ expr_head.Do ∷ expr_head.And ∷ expr_head.Or ∷ expr_head.Make ∷ expr_head.Apply ∷ expr_head.Tree ∷ []
+
+abbrev pub operator_heads : List ExprHead
+operator_heads = map expr_head.Prim operators
+
 abbrev pub expr_heads : List ExprHead
-expr_heads =
-    expr_head.Let ∷ expr_head.Set ∷ expr_head.If ∷ expr_head.While ∷ expr_head.Do ∷ expr_head.And ∷ expr_head.Or ∷ expr_head.Make ∷ expr_head.Apply ∷ expr_head.Tree
-    ∷ map expr_head.Prim operators
+expr_heads = own_heads ++ operator_heads
 
 abbrev pub resp_heads : List RespHead
 resp_heads = resp_head.Page ∷ resp_head.Script ∷ resp_head.Data ∷ []
@@ -226,27 +236,46 @@ parts_as at (sort ∷ sorts) more makes (part ∷ parts) = and_then (part sort) 
 abbrev pub form_as : {X : Type 0} → ℕ → Form X → List Reading → Result X SyntaxFault
 form_as at f parts = if may_have f.sorts f.more (length parts) then parts_as at f.sorts f.more f.makes parts else Err (fault.Count at)
 
+-- the form whose word the first item of a list is
+abbrev pub head_as : {H : Type 0} → (H → List ℕ) → List H → Reading → Result H SyntaxFault
+head_as word_at heads first = and_then (first a_head) (λ placed. ok_or (headed word_at heads placed.word) (fault.Head placed.from))
+
 -- a list is checked for its head, and then its form for the rest
 abbrev pub list_as : {H X : Type 0} → (H → List ℕ) → List H → (H → Form X) → ℕ → List Reading → Result X SyntaxFault
 list_as word_at heads form_at at [] = Err (fault.Head at)
-list_as word_at heads form_at at (first ∷ parts) =
-    and_then (first a_head) (λ placed. and_then (ok_or (headed word_at heads placed.word) (fault.Head placed.from)) (λ head. form_as at (form_at head) parts))
+list_as word_at heads form_at at (first ∷ parts) = and_then (head_as word_at heads first) (λ head. form_as at (form_at head) parts)
 
 -- a handler's list has one head
-abbrev pub handler_as : ℕ → List Reading → Result Handler SyntaxFault
-handler_as = list_as (λ (head : Unit {0}). codes "fn") (tt ∷ []) (λ head. handler_form)
+abbrev pub handler_word : Unit {0} → List ℕ
+handler_word head = codes "fn"
 
--- parameters, none of which stands before
+abbrev pub handler_heads : List (Unit {0})
+handler_heads = tt ∷ []
+
+abbrev pub handler_as : ℕ → List Reading → Result Handler SyntaxFault
+handler_as = list_as handler_word handler_heads (λ head. handler_form)
+
+-- a parameter, after those that stand before
+abbrev pub parameter_as : List (List ℕ) → Reading → Result (List ℕ) SyntaxFault
+parameter_as before part = and_then (part a_parameter) (λ x. if list_any (bytes_eq x.word) before then Err (fault.Name x.from) else Ok x.word)
+
+-- some parameters, after those that stand before
 abbrev pub parameters_as : List (List ℕ) → List Reading → Result (List (List ℕ)) SyntaxFault
-parameters_as before [] = Ok []
-parameters_as before (part ∷ parts) =
-    and_then (part a_parameter) (λ x. if list_any (bytes_eq x.word) before then Err (fault.Name x.from)
-    else and_then (parameters_as (x.word ∷ before) parts) (λ xs. Ok (x.word ∷ xs)))
+parameters_as before [] = Ok before
+parameters_as before (part ∷ parts) = and_then (parameter_as before part) (λ x. parameters_as (before ++ x ∷ []) parts)
 
 -- the one parameter of a handler, in a list at a place
 abbrev pub one_parameter_as : ℕ → List Reading → Result (List ℕ) SyntaxFault
 one_parameter_as at (part ∷ []) = part a_variable
 one_parameter_as at _ = Err (fault.Count at)
+
+-- a word that has to be a number
+abbrev pub number_as : ℕ → List ℕ → Result Expr SyntaxFault
+number_as at word = and_then (ok_or (number_of word) (fault.Number at)) (λ n. Ok (expr.Lit (lit.Num n)))
+
+-- a word that has to be a variable, where it is no literal
+abbrev pub name_as_expression : ℕ → List ℕ → Result Expr SyntaxFault
+name_as_expression at word = if is_name word then Ok (expr.Var word) else Err (fault.Name at)
 
 -- a word where an expression is wanted
 abbrev pub word_as_expression : ℕ → List ℕ → Result Expr SyntaxFault
@@ -254,9 +283,8 @@ word_as_expression at word =
     if bytes_eq word (codes "null") then Ok (expr.Lit lit.Null)
     else if bytes_eq word (codes "true") then Ok (expr.Lit (lit.Bool true))
     else if bytes_eq word (codes "false") then Ok (expr.Lit (lit.Bool false))
-    else if looks_like_number word then and_then (ok_or (number_of word) (fault.Number at)) (λ n. Ok (expr.Lit (lit.Num n)))
-    else if is_name word then Ok (expr.Var word)
-    else Err (fault.Name at)
+    else if looks_like_number word then number_as at word
+    else name_as_expression at word
 
 -- a word at a place, where a sort is wanted
 abbrev pub word_as : ℕ → List ℕ → (sort : Sort) → Result (Value sort) SyntaxFault
@@ -307,3 +335,12 @@ expr_in item = reading item an_expression
 
 abbrev pub resp_in : Sexp → Result Resp SyntaxFault
 resp_in item = reading item a_response
+
+-- the answer, or else want of memory
+abbrev pub Gives : {X : Type 0} → Result X SyntaxFault → Result X SyntaxFault → Type 0
+Gives result answer = (result ≡ answer) ⊎ (result ≡ Err fault.NoMemory)
+
+-- the fault of a word that is no address, from the fault of reading it as one
+abbrev pub address_fault : ℕ → UrlFault → SyntaxFault
+address_fault at url_fault.NoMemory = fault.NoMemory
+address_fault at _ = fault.Url at

@@ -1,5 +1,6 @@
 -- What this crate specifies.
-pub mod Words
-pub mod Grammar
 pub mod Canonical
+pub mod Grammar
 pub mod Pieces
+pub mod Spellings
+pub mod Words

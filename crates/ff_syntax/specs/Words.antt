@@ -1,13 +1,13 @@
 -- Which words are names, variables, numbers and addresses, and what they stand for.
-use Rattle.std.specs.Prelude.{ℕ, ℤ, pos, neg_ℤ, ◌^◌, Bool, false, ◌&&◌, ◌||◌, not, ◌==◌, nat_le, int_le, int_lt, if◌then◌else◌, Option, Some, None, List, [], ◌∷◌, ◌++◌, length, codes, drop}
+use Rattle.std.specs.Prelude.{ℕ, ℤ, pos, negsuc, neg_ℤ, ◌^◌, Bool, false, ◌&&◌, ◌||◌, not, ◌==◌, nat_le, nat_lt, if◌then◌else◌, Option, Some, None, List, [], ◌∷◌, ◌++◌, length, codes, drop}
 use Rattle.std.specs.List.{list_all, slice_split}
 use Rattle.std.specs.Char.{is_ascii_digit}
 use Rattle.std.specs.Str.{bytes_eq}
-use Rattle.std.specs.Str.Parse.{signed_digits_value}
-use Rattle.std.specs.Fmt.{signed_decimal}
+use Rattle.std.specs.Str.Parse.{digits_value}
 use Rattle.ff_name.specs.Spelling.{is_named, is_label}
 use Rattle.ff_name.specs.Address.{blank, scheme, stands_in_request, request_or_slash}
 use Rattle.ff_name.specs.declared.urls.Url.{Url}
+use Rattle.ff_number.specs.Decimal.{num_text}
 use Rattle.ff_name.specs.declared.urls.Url.TheVariants.{Blank, At}
 
 -- a name: a letter or `_`, then letters, digits, `_` and `-`, at most 64 bytes
@@ -22,21 +22,28 @@ is_literal word = bytes_eq word (codes "null") || bytes_eq word (codes "true") |
 abbrev pub is_variable : List ℕ → Bool
 is_variable word = is_name word && not (is_literal word)
 
+abbrev pub begins_with_digit : List ℕ → Bool
+begins_with_digit [] = false
+begins_with_digit (b ∷ word) = is_ascii_digit b
+
 -- a word that has to be a number: it begins with a digit, or with a minus and a digit
 abbrev pub looks_like_number : List ℕ → Bool
 looks_like_number [] = false
-looks_like_number (b ∷ []) = is_ascii_digit b
-looks_like_number (b ∷ c ∷ word) = is_ascii_digit b || (b == 45 && is_ascii_digit c)
+looks_like_number (b ∷ word) = is_ascii_digit b || (b == 45 && begins_with_digit word)
 
--- a number of 64 bits with its sign
+-- a number of 64 bits with its sign: below 2 ^ 63 where it is not negative, else above -1 - 2 ^ 63
 abbrev pub fits : ℤ → Bool
-fits n = int_le (neg_ℤ (pos (2 ^ 63))) n && int_lt n (pos (2 ^ 63))
+fits (pos n) = nat_lt n (2 ^ 63)
+fits (negsuc n) = nat_lt n (2 ^ 63)
+
+-- the value of digits, which a minus before them makes negative
+abbrev pub value_of : List ℕ → ℤ
+value_of [] = pos 0
+value_of (b ∷ digits) = if b == 45 then neg_ℤ (pos (digits_value 10 digits)) else pos (digits_value 10 (b ∷ digits))
 
 -- the number of 64 bits whose canonical spelling the word is
 abbrev pub number_of : List ℕ → Option ℤ
-number_of word =
-    let n = signed_digits_value 10 word in
-    if fits n && bytes_eq (signed_decimal n) word then Some n else None
+number_of word = if fits (value_of word) && bytes_eq (num_text (value_of word)) word then Some (value_of word) else None
 
 -- labels between dots, at most 253 bytes in all
 abbrev pub is_domain : List ℕ → Bool
