@@ -6,6 +6,7 @@ pub mod Fuel
 pub mod Keys
 pub mod Longest
 pub mod Places
+pub mod Rising
 pub mod Seeking
 pub mod Steps
 pub mod Unique

@@ -1,4 +1,5 @@
 pub mod Assignment
+pub mod ByteOrder
 pub mod Members
 pub mod Naming
 pub mod Reading

@@ -15,7 +15,10 @@ mod policy;
 mod tests;
 
 pub use fault::PolicyFault;
-pub use law::{bytes_read_as_one_policy_or_fault, the_longest_key_is_taken};
+pub use law::{
+    bytes_read_as_one_policy_or_fault, members_stand_in_byte_order, the_first_key_is_the_least,
+    the_longest_key_is_taken,
+};
 pub use policy::Policy;
 use std::alloc::AllocError;
 

@@ -166,7 +166,7 @@ fn bytes_that_are_no_text(rt: HostRuntime) {
 fn read_long(alloc: Global, bytes: usize) -> Result<Policy, PolicyFault> {
     let mut text = String::from_str(alloc, TWO)?;
     text.push('}')?;
-    while text.len() < bytes {
+    for _ in text.len()..bytes {
         text.push(' ')?;
     }
     Policy::read(alloc, text.as_bytes())
