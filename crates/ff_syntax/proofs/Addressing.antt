@@ -59,9 +59,9 @@ found_parts (b ∷ host) request slashless begins =
     let tests = and_parts (not (b == 47)) (list_all (λ b. not (b == 47)) host) slashless in
     let rest = found_parts host request tests.1 begins in
     by_test (b == 47) refl tests.0 rest where
-  by_test : (t : Bool) → (b == 47) ≡ t → not (b == 47) ≡ true → Found (host ++ request) host request → Found (b ∷ (host ++ request)) (b ∷ host) request
-  by_test true e tested rest = let other : not (b == 47) ≡ false = rw e refl in cc
-  by_test false e tested rest = (rw e (ap (λ bytes. b ∷ bytes) rest.0), rw e rest.1)
+      by_test : (t : Bool) → (b == 47) ≡ t → not (b == 47) ≡ true → Found (host ++ request) host request → Found (b ∷ (host ++ request)) (b ∷ host) request
+      by_test true e tested rest = let other : not (b == 47) ≡ false = rw e refl in cc
+      by_test false e tested rest = (rw e (ap (λ bytes. b ∷ bytes) rest.0), rw e rest.1)
 
 -- and bytes are made of them
 split_joined : (bytes : List ℕ) → bytes ≡ host_of bytes ++ request_of bytes

@@ -186,21 +186,21 @@ named_back before (item ∷ items) all e =
     let placed = came_from (reading item a_parameter) (λ p. cond (list_any (bytes_eq p.word) before) (Err (fault.Name p.from)) (Ok p.word)) first.0 first.1 in
     more first.0 placed.0 (parameter_case item (item_cases item) placed.0 placed.1) placed.2 (named_back (before ++ first.0 ∷ []) items all first.2)
   where
-  more : (x : List ℕ) (p : Placed) → IsWordThat IsVar item p.word → cond (list_any (bytes_eq p.word) before) (err_of (fault.Name p.from)) (Ok p.word) ≡ Ok x → Named (before ++ x ∷ []) items all → Named before (item ∷ items) all
-  more x p word tested rest = by_test (list_any (bytes_eq p.word) before) refl tested where
-    by_test : (t : Bool) → list_any (bytes_eq p.word) before ≡ t → cond t (err_of (fault.Name p.from)) (Ok p.word) ≡ Ok x → Named before (item ∷ items) all
-    by_test true t f = absurd (err_value (fault.Name p.from) x f)
-    by_test false t f =
-        let same : p.word ≡ x = ok_value p.word x f in
-        let others = each_front before x rest.xs rest.apart in
-        record {
-          xs = x ∷ rest.xs;
-          joined = rest.joined ∙ append_assoc before (x ∷ []) rest.xs;
-          words = subst (λ (i : Sexp). AreWords (i ∷ items) (x ∷ rest.xs)) (sym (word.is ∙ ap (Word word.at) same)) (a_word word.at x items rest.xs rest.words);
-          vars = (subst IsVar same word.holds, rest.vars);
-          differ = (others.0, rest.differ);
-          apart = (subst (λ y. list_any (bytes_eq y) before ≡ false) same t, others.1);
-        }
+    more : (x : List ℕ) (p : Placed) → IsWordThat IsVar item p.word → cond (list_any (bytes_eq p.word) before) (err_of (fault.Name p.from)) (Ok p.word) ≡ Ok x → Named (before ++ x ∷ []) items all → Named before (item ∷ items) all
+    more x p word tested rest = by_test (list_any (bytes_eq p.word) before) refl tested where
+      by_test : (t : Bool) → list_any (bytes_eq p.word) before ≡ t → cond t (err_of (fault.Name p.from)) (Ok p.word) ≡ Ok x → Named before (item ∷ items) all
+      by_test true t f = absurd (err_value (fault.Name p.from) x f)
+      by_test false t f =
+          let same : p.word ≡ x = ok_value p.word x f in
+          let others = each_front before x rest.xs rest.apart in
+          record {
+            xs = x ∷ rest.xs;
+            joined = rest.joined ∙ append_assoc before (x ∷ []) rest.xs;
+            words = subst (λ (i : Sexp). AreWords (i ∷ items) (x ∷ rest.xs)) (sym (word.is ∙ ap (Word word.at) same)) (a_word word.at x items rest.xs rest.words);
+            vars = (subst IsVar same word.holds, rest.vars);
+            differ = (others.0, rest.differ);
+            apart = (subst (λ y. list_any (bytes_eq y) before ≡ false) same t, others.1);
+          }
 
 pub record AreParameterWords (items : List Sexp) (xs : List (List ℕ)) : Type 0 where
   pub words : AreWords items xs
@@ -358,52 +358,52 @@ pub one_back : {X : Type 0} (at : ℕ) (s : Sort) (makes : Value s → X) (parts
 one_back at s makes parts x e =
     let back = counted at (form (s ∷ []) nothing makes) parts x e in
     cases parts (same_number (length parts) 1 back.0) back.1 where
-  cases : (parts : List Sexp) → length parts ≡ 1 → parts_as at (s ∷ []) nothing makes (map reading parts) ≡ Ok x → OneBack s makes parts x
-  cases [] n f = absurd (omega arith)
-  cases (a ∷ []) n f =
-      let first = came_from (reading a s) (λ v. Ok (makes v)) x f in
-      record { a = a; v = first.0; is = refl; first = first.1; made = ok_value (makes first.0) x first.2 }
-  cases (a ∷ b ∷ parts) n f = absurd (omega arith)
+      cases : (parts : List Sexp) → length parts ≡ 1 → parts_as at (s ∷ []) nothing makes (map reading parts) ≡ Ok x → OneBack s makes parts x
+      cases [] n f = absurd (omega arith)
+      cases (a ∷ []) n f =
+          let first = came_from (reading a s) (λ v. Ok (makes v)) x f in
+          record { a = a; v = first.0; is = refl; first = first.1; made = ok_value (makes first.0) x first.2 }
+      cases (a ∷ b ∷ parts) n f = absurd (omega arith)
 
 pub two_back : {X : Type 0} (at : ℕ) (s t : Sort) (makes : Value s → Value t → X) (parts : List Sexp) (x : X) → form_as at (form (s ∷ t ∷ []) nothing makes) (map reading parts) ≡ Ok x → TwoBack s t makes parts x
 two_back at s t makes parts x e =
     let back = counted at (form (s ∷ t ∷ []) nothing makes) parts x e in
     cases parts (same_number (length parts) 2 back.0) back.1 where
-  cases : (parts : List Sexp) → length parts ≡ 2 → parts_as at (s ∷ t ∷ []) nothing makes (map reading parts) ≡ Ok x → TwoBack s t makes parts x
-  cases [] n f = absurd (omega arith)
-  cases (a ∷ []) n f = absurd (omega arith)
-  cases (a ∷ b ∷ []) n f =
-      let first = came_from (reading a s) (λ v. and_then (reading b t) (λ w. Ok (makes v w))) x f in
-      let second = came_from (reading b t) (λ w. Ok (makes first.0 w)) x first.2 in
-      record { a = a; b = b; v = first.0; w = second.0; is = refl; first = first.1; second = second.1; made = ok_value (makes first.0 second.0) x second.2 }
-  cases (a ∷ b ∷ c ∷ parts) n f = absurd (omega arith)
+      cases : (parts : List Sexp) → length parts ≡ 2 → parts_as at (s ∷ t ∷ []) nothing makes (map reading parts) ≡ Ok x → TwoBack s t makes parts x
+      cases [] n f = absurd (omega arith)
+      cases (a ∷ []) n f = absurd (omega arith)
+      cases (a ∷ b ∷ []) n f =
+          let first = came_from (reading a s) (λ v. and_then (reading b t) (λ w. Ok (makes v w))) x f in
+          let second = came_from (reading b t) (λ w. Ok (makes first.0 w)) x first.2 in
+          record { a = a; b = b; v = first.0; w = second.0; is = refl; first = first.1; second = second.1; made = ok_value (makes first.0 second.0) x second.2 }
+      cases (a ∷ b ∷ c ∷ parts) n f = absurd (omega arith)
 
 pub three_back : {X : Type 0} (at : ℕ) (s t u : Sort) (makes : Value s → Value t → Value u → X) (parts : List Sexp) (x : X) → form_as at (form (s ∷ t ∷ u ∷ []) nothing makes) (map reading parts) ≡ Ok x → ThreeBack s t u makes parts x
 three_back at s t u makes parts x e =
     let back = counted at (form (s ∷ t ∷ u ∷ []) nothing makes) parts x e in
     cases parts (same_number (length parts) 3 back.0) back.1 where
-  cases : (parts : List Sexp) → length parts ≡ 3 → parts_as at (s ∷ t ∷ u ∷ []) nothing makes (map reading parts) ≡ Ok x → ThreeBack s t u makes parts x
-  cases [] n f = absurd (omega arith)
-  cases (a ∷ []) n f = absurd (omega arith)
-  cases (a ∷ b ∷ []) n f = absurd (omega arith)
-  cases (a ∷ b ∷ c ∷ []) n f =
-      let first = came_from (reading a s) (λ v. and_then (reading b t) (λ w. and_then (reading c u) (λ y. Ok (makes v w y)))) x f in
-      let second = came_from (reading b t) (λ w. and_then (reading c u) (λ y. Ok (makes first.0 w y))) x first.2 in
-      let third = came_from (reading c u) (λ y. Ok (makes first.0 second.0 y)) x second.2 in
-      record {
-        a = a;
-        b = b;
-        c = c;
-        v = first.0;
-        w = second.0;
-        y = third.0;
-        is = refl;
-        first = first.1;
-        second = second.1;
-        third = third.1;
-        made = ok_value (makes first.0 second.0 third.0) x third.2;
-      }
-  cases (a ∷ b ∷ c ∷ d ∷ parts) n f = absurd (omega arith)
+      cases : (parts : List Sexp) → length parts ≡ 3 → parts_as at (s ∷ t ∷ u ∷ []) nothing makes (map reading parts) ≡ Ok x → ThreeBack s t u makes parts x
+      cases [] n f = absurd (omega arith)
+      cases (a ∷ []) n f = absurd (omega arith)
+      cases (a ∷ b ∷ []) n f = absurd (omega arith)
+      cases (a ∷ b ∷ c ∷ []) n f =
+          let first = came_from (reading a s) (λ v. and_then (reading b t) (λ w. and_then (reading c u) (λ y. Ok (makes v w y)))) x f in
+          let second = came_from (reading b t) (λ w. and_then (reading c u) (λ y. Ok (makes first.0 w y))) x first.2 in
+          let third = came_from (reading c u) (λ y. Ok (makes first.0 second.0 y)) x second.2 in
+          record {
+            a = a;
+            b = b;
+            c = c;
+            v = first.0;
+            w = second.0;
+            y = third.0;
+            is = refl;
+            first = first.1;
+            second = second.1;
+            third = third.1;
+            made = ok_value (makes first.0 second.0 third.0) x third.2;
+          }
+      cases (a ∷ b ∷ c ∷ d ∷ parts) n f = absurd (omega arith)
 
 pub all_back : {X : Type 0} (at : ℕ) (so_many : ℕ → Bool) (sort : Sort) (makes : List (Value sort) → X) (parts : List Sexp) (x : X) → form_as at (form [] (further so_many sort) makes) (map reading parts) ≡ Ok x
     → AllBack so_many sort makes parts x
@@ -428,29 +428,29 @@ pub two_all_back : {X : Type 0} (at : ℕ) (s t sort : Sort) (makes : Value s �
 two_all_back at s t sort makes parts x e =
     let back = counted at (form (s ∷ t ∷ []) (further at_most_16 sort) makes) parts x e in
     cases parts back.0 back.1 where
-  few_rest : (n : ℕ) → nat_le 2 (suc (suc n)) && nat_le (suc (suc n) - 2) 16 ≡ true → n ≤ 16
-  few_rest n h = let test : nat_le (suc (suc n) - 2) 16 ≡ true = (and_parts (nat_le 2 (suc (suc n))) (nat_le (suc (suc n) - 2) 16) h).1 in grind (arith, nat_tests)
+      few_rest : (n : ℕ) → nat_le 2 (suc (suc n)) && nat_le (suc (suc n) - 2) 16 ≡ true → n ≤ 16
+      few_rest n h = let test : nat_le (suc (suc n) - 2) 16 ≡ true = (and_parts (nat_le 2 (suc (suc n))) (nat_le (suc (suc n) - 2) 16) h).1 in grind (arith, nat_tests)
 
-  cases : (parts : List Sexp) → may_have (s ∷ t ∷ []) (further at_most_16 sort) (length parts) ≡ true → parts_as at (s ∷ t ∷ []) (further at_most_16 sort) makes (map reading parts) ≡ Ok x → TwoAllBack s t sort makes parts x
-  cases [] n f = absurd (err_value (fault.Count at) x f)
-  cases (a ∷ []) n f =
-      let first = came_from (reading a s) (λ v. err_of (fault.Count at)) x f in
-      absurd (err_value (fault.Count at) x first.2)
-  cases (a ∷ b ∷ rest) n f =
-      let first = came_from (reading a s) (λ v. and_then (reading b t) (λ w. and_then (each_as sort (map reading rest)) (λ values. Ok (makes v w values)))) x f in
-      let second = came_from (reading b t) (λ w. and_then (each_as sort (map reading rest)) (λ values. Ok (makes first.0 w values))) x first.2 in
-      let each = came_from (each_as sort (map reading rest)) (λ values. Ok (makes first.0 second.0 values)) x second.2 in
-      record {
-        a = a;
-        b = b;
-        rest = rest;
-        v = first.0;
-        w = second.0;
-        values = each.0;
-        is = refl;
-        few = few_rest (length rest) n;
-        first = first.1;
-        second = second.1;
-        each = each.1;
-        made = ok_value (makes first.0 second.0 each.0) x each.2;
-      }
+      cases : (parts : List Sexp) → may_have (s ∷ t ∷ []) (further at_most_16 sort) (length parts) ≡ true → parts_as at (s ∷ t ∷ []) (further at_most_16 sort) makes (map reading parts) ≡ Ok x → TwoAllBack s t sort makes parts x
+      cases [] n f = absurd (err_value (fault.Count at) x f)
+      cases (a ∷ []) n f =
+          let first = came_from (reading a s) (λ v. err_of (fault.Count at)) x f in
+          absurd (err_value (fault.Count at) x first.2)
+      cases (a ∷ b ∷ rest) n f =
+          let first = came_from (reading a s) (λ v. and_then (reading b t) (λ w. and_then (each_as sort (map reading rest)) (λ values. Ok (makes v w values)))) x f in
+          let second = came_from (reading b t) (λ w. and_then (each_as sort (map reading rest)) (λ values. Ok (makes first.0 w values))) x first.2 in
+          let each = came_from (each_as sort (map reading rest)) (λ values. Ok (makes first.0 second.0 values)) x second.2 in
+          record {
+            a = a;
+            b = b;
+            rest = rest;
+            v = first.0;
+            w = second.0;
+            values = each.0;
+            is = refl;
+            few = few_rest (length rest) n;
+            first = first.1;
+            second = second.1;
+            each = each.1;
+            made = ok_value (makes first.0 second.0 each.0) x each.2;
+          }

@@ -66,9 +66,9 @@ pub each_stops : (sort : Sort) (parts : List Sexp) (i : ℕ) (done : List (Value
     → Before sort parts i done → i < length parts → part ≡ get_or parts i part → Gives (Err which) (reading part sort) → Gives (Err which) (each_as sort (map reading parts))
 each_stops sort parts i done part which before within is gives =
     fault_gives which (reading part sort) (each_as sort (map reading parts)) gives (λ e.
-      before.is
-      ∙ ap (λ (answer : Result (List (Value sort)) SyntaxFault). and_then answer (λ rest. Ok (done ++ rest))) (at_place sort parts i part within is)
-      ∙ ap (λ (answer : Result (Value sort) SyntaxFault). and_then (and_then answer (λ v. and_then (each_as sort (map reading (drop (i + 1) parts))) (λ values. Ok (v ∷ values)))) (λ rest. Ok (done ++ rest))) e)
+    before.is
+    ∙ ap (λ (answer : Result (List (Value sort)) SyntaxFault). and_then answer (λ rest. Ok (done ++ rest))) (at_place sort parts i part within is)
+    ∙ ap (λ (answer : Result (Value sort) SyntaxFault). and_then (and_then answer (λ v. and_then (each_as sort (map reading (drop (i + 1) parts))) (λ values. Ok (v ∷ values)))) (λ rest. Ok (done ++ rest))) e)
 
 pub each_all : (sort : Sort) (parts : List Sexp) (i : ℕ) (done : List (Value sort)) → Before sort parts i done → length parts ≤ i → each_as sort (map reading parts) ≡ Ok done
 each_all sort parts i done before end =
@@ -101,8 +101,8 @@ pub named_stops : (parts : List Sexp) (i : ℕ) (done : List (List ℕ)) (part :
     → Named parts i done → i < length parts → part ≡ get_or parts i part → Gives (Err which) (parameter_as done (reading part)) → Gives (Err which) (parameters_as [] (map reading parts))
 named_stops parts i done part which before within is gives =
     fault_gives which (parameter_as done (reading part)) (parameters_as [] (map reading parts)) gives (λ e.
-      before.is ∙ name_at parts i done part within is
-      ∙ ap (λ (answer : Result (List ℕ) SyntaxFault). and_then answer (λ y. parameters_as (done ++ y ∷ []) (map reading (drop (i + 1) parts)))) e)
+    before.is ∙ name_at parts i done part within is
+    ∙ ap (λ (answer : Result (List ℕ) SyntaxFault). and_then answer (λ y. parameters_as (done ++ y ∷ []) (map reading (drop (i + 1) parts)))) e)
 
 pub named_all : (parts : List Sexp) (i : ℕ) (done : List (List ℕ)) → Named parts i done → length parts ≤ i → parameters_as [] (map reading parts) ≡ Ok done
 named_all parts i done before end = before.is ∙ ap (λ (ps : List Sexp). parameters_as done (map reading ps)) (drop_of_length-le parts end)

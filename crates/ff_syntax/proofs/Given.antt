@@ -144,9 +144,9 @@ parameters_read before (_ ∷ items) (x ∷ xs) (a_word at _ _ _ words) vars dif
     ∙ parameters_read (before ++ x ∷ []) items xs words vars.1 differ.1 (each_apart xs differ.0 apart.1)
     ∙ ap Ok (append_assoc before (x ∷ []) xs)
   where
-  each_apart : (ys : List (List ℕ)) → AllByRecursion (λ y. x ≢ y) ys → AllByRecursion (λ y. Apart y before) ys → AllByRecursion (λ y. Apart y (before ++ x ∷ [])) ys
-  each_apart [] others aparts = tt
-  each_apart (y ∷ ys) others aparts = (apart_more y before x aparts.0 (λ e. others.0 (sym e)), each_apart ys others.1 aparts.1)
+    each_apart : (ys : List (List ℕ)) → AllByRecursion (λ y. x ≢ y) ys → AllByRecursion (λ y. Apart y before) ys → AllByRecursion (λ y. Apart y (before ++ x ∷ [])) ys
+    each_apart [] others aparts = tt
+    each_apart (y ∷ ys) others aparts = (apart_more y before x aparts.0 (λ e. others.0 (sym e)), each_apart ys others.1 aparts.1)
 
 none_before : (xs : List (List ℕ)) → AllByRecursion (λ x. Apart x []) xs
 none_before [] = tt

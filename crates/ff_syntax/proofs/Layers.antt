@@ -31,7 +31,6 @@ string_layer item at text sort e = rw e (reading-Str at text sort)
 pub list_layer : (item : Sexp) (at : Span) (parts : List Sexp) (sort : Sort) → item ≡ sexp.List at parts → reading item sort ≡ parts_in_list_as at.from (map reading parts) sort
 list_layer item at parts sort e = rw e (reading-List at parts sort)
 
-
 -- what is given for a layer is given for the item
 
 pub word_gives : (item : Sexp) (at : Span) (word bytes : List ℕ) (sort : Sort) (given : Result (Value sort) SyntaxFault) → item ≡ sexp.Word at word → bytes ≡ word → Gives given (word_as at.from bytes sort) → Gives given (reading item sort)

@@ -308,18 +308,18 @@ cookie_sound _ (is_string at text) entry e = absurd (err_value (fault.Place at.f
 cookie_sound _ (is_list at parts) entry e =
     let back = list_back cookie_word cookie_heads cookie_form at.from parts entry (sym (reading-List at parts sort.a_cookie) ∙ e) in
     subst (λ (ps : List Sexp). SpellsCookie (Parens at ps) entry) (sym back.is) (by_head back.h back.head back.parts back.formed) where
-  by_head : (h : Span) (head : CookieHead) (items : List Sexp) → form_as at.from (cookie_form head) (map reading items) ≡ Ok entry → SpellsCookie (Parens at (Word h (cookie_word head) ∷ items)) entry
-  by_head h cookie_head.Put items f =
-      let back = two_back at.from sort.a_string sort.a_string cookie.Put items entry f in
-      let key = string_back back.a back.v back.first in
-      let value = string_back back.b back.w back.second in
-      spelled_as SpellsCookie at h (codes "set") items _ _ entry back.made (back.is ∙ cons_is key.is (cons_is value.is refl))
-    (a_put at h key.at value.at back.v back.w)
-  by_head h cookie_head.Drop items f =
-      let back = one_back at.from sort.a_string cookie.Drop items entry f in
-      let key = string_back back.a back.v back.first in
-      spelled_as SpellsCookie at h (codes "del") items _ _ entry back.made (back.is ∙ cons_is key.is refl)
-    (a_drop at h key.at back.v)
+      by_head : (h : Span) (head : CookieHead) (items : List Sexp) → form_as at.from (cookie_form head) (map reading items) ≡ Ok entry → SpellsCookie (Parens at (Word h (cookie_word head) ∷ items)) entry
+      by_head h cookie_head.Put items f =
+          let back = two_back at.from sort.a_string sort.a_string cookie.Put items entry f in
+          let key = string_back back.a back.v back.first in
+          let value = string_back back.b back.w back.second in
+          spelled_as SpellsCookie at h (codes "set") items _ _ entry back.made (back.is ∙ cons_is key.is (cons_is value.is refl))
+          (a_put at h key.at value.at back.v back.w)
+      by_head h cookie_head.Drop items f =
+          let back = one_back at.from sort.a_string cookie.Drop items entry f in
+          let key = string_back back.a back.v back.first in
+          spelled_as SpellsCookie at h (codes "del") items _ _ entry back.made (back.is ∙ cons_is key.is refl)
+          (a_drop at h key.at back.v)
 
 cookies_sound : (items : List Sexp) (entries : List CookieOp) → each_as sort.a_cookie (map reading items) ≡ Ok entries → SpellsCookies items entries
 cookies_sound [] entries e = subst (SpellsCookies []) (ok_value [] entries e) no_cookies

@@ -50,7 +50,10 @@ impl DocHead {
 fn first_doc_head(heads: &[DocHead], word: &[u8]) -> Option<DocHead>
     ensures { result ≡ headed doc_word heads.now word.now }
 {
-    heads.iter().copied().find(|head| head.word().as_bytes() == word)
+    heads
+        .iter()
+        .copied()
+        .find(|head| head.word().as_bytes() == word)
 }
 
 /// The words that head an expression: those of the language's own forms, and those of the operators.
@@ -120,7 +123,10 @@ fn own_head(word: &[u8]) -> Option<ExprHead>
 fn first_expr_head(heads: &[ExprHead], word: &[u8]) -> Option<ExprHead>
     ensures { result ≡ headed expr_word heads.now word.now }
 {
-    heads.iter().copied().find(|head| head.word().as_bytes() == word)
+    heads
+        .iter()
+        .copied()
+        .find(|head| head.word().as_bytes() == word)
 }
 
 fn operator(word: &[u8]) -> Option<ExprHead>
@@ -163,7 +169,10 @@ impl RespHead {
 fn first_resp_head(heads: &[RespHead], word: &[u8]) -> Option<RespHead>
     ensures { result ≡ headed resp_word heads.now word.now }
 {
-    heads.iter().copied().find(|head| head.word().as_bytes() == word)
+    heads
+        .iter()
+        .copied()
+        .find(|head| head.word().as_bytes() == word)
 }
 
 /// The words that head a cookie entry.
@@ -195,5 +204,8 @@ impl CookieHead {
 fn first_cookie_head(heads: &[CookieHead], word: &[u8]) -> Option<CookieHead>
     ensures { result ≡ headed cookie_word heads.now word.now }
 {
-    heads.iter().copied().find(|head| head.word().as_bytes() == word)
+    heads
+        .iter()
+        .copied()
+        .find(|head| head.word().as_bytes() == word)
 }

@@ -11,5 +11,4 @@ pub fn what_is_spelled_is_read()
     ensures docs { (item : Sexp) (doc : Doc) → (doc_in item ≡ Ok doc) ↔ SpellsDoc item doc }
     ensures exprs { (item : Sexp) (expr : Expr) → (expr_in item ≡ Ok expr) ↔ SpellsExpr item expr }
     ensures resps { (item : Sexp) (resp : Resp) → (resp_in item ≡ Ok resp) ↔ SpellsResp item resp }
-{
-}
+{}

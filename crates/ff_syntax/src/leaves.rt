@@ -92,7 +92,11 @@ fn parameter_in(alloc: Global, at: u32, word: &[u8], before: &[Name]) -> Result<
     ensures { Gives result (parameter_as before.now (word_as at word.now)) }
 {
     let name = variable_in(alloc, at, word)?;
-    if is_one_of(word, before) { Err(SyntaxFault::Name(at)) } else { Ok(name) }
+    if is_one_of(word, before) {
+        Err(SyntaxFault::Name(at))
+    } else {
+        Ok(name)
+    }
 }
 
 fn is_one_of(word: &[u8], names: &[Name]) -> bool
@@ -264,5 +268,9 @@ pub(crate) fn handler_head_of(first: &Sexp) -> Result<(), SyntaxFault>
 fn is_handler_word(word: &[u8]) -> Option<()>
     ensures { result ≡ headed handler_word handler_heads word.now }
 {
-    if b"fn".as_slice() == word { Some(()) } else { None }
+    if b"fn".as_slice() == word {
+        Some(())
+    } else {
+        None
+    }
 }

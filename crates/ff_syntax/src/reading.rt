@@ -10,11 +10,14 @@ ghost use Rattle.ff_syntax.specs.declared.heads.RespHead.TheVariants as resp_hea
 use crate::fault::SyntaxFault;
 use crate::heads::{DocHead, ExprHead, RespHead};
 use crate::leaves::{
-    address_of, cookies_of, doc_head_of, expr_head_of, handler_head_of, name_of, one_parameter_of, parameters_of, resp_head_of, string_of, variable_of,
+    address_of, cookies_of, doc_head_of, expr_head_of, handler_head_of, name_of, one_parameter_of,
+    parameters_of, resp_head_of, string_of, variable_of,
 };
 use crate::words::word_in;
 use ff_text::Sexp;
-use ff_value::{Body, Doc, Docs, Expr, Exprs, Handler, Handlers, Lit, Op, Resp, Shared, SharedList};
+use ff_value::{
+    Body, Doc, Docs, Expr, Exprs, Handler, Handlers, Lit, Op, Resp, Shared, SharedList,
+};
 use std::alloc::Global;
 
 /// The most handlers that a text box or a button may have.
@@ -154,7 +157,11 @@ fn link_of(alloc: Global, at: u32, parts: &[Sexp]) -> Result<Doc, SyntaxFault>
     ensures { Gives result (form_as at (doc_form doc_head.Link) (map reading parts.now)) }
 {
     match parts {
-        [name, url, label] => Ok(Doc::Link(name_of(alloc, name)?, address_of(alloc, url)?, string_of(label)?)),
+        [name, url, label] => Ok(Doc::Link(
+            name_of(alloc, name)?,
+            address_of(alloc, url)?,
+            string_of(label)?,
+        )),
         _ => Err(SyntaxFault::Count(at)),
     }
 }
@@ -169,7 +176,11 @@ fn text_box_of(alloc: Global, at: u32, parts: &[Sexp]) -> Result<Doc, SyntaxFaul
             if handlers.len() > MOST_HANDLERS {
                 return Err(SyntaxFault::Count(at));
             }
-            Ok(Doc::TextBox(name_of(alloc, name)?, string_of(text)?, handlers_of(alloc, handlers)?))
+            Ok(Doc::TextBox(
+                name_of(alloc, name)?,
+                string_of(text)?,
+                handlers_of(alloc, handlers)?,
+            ))
         }
         _ => Err(SyntaxFault::Count(at)),
     }
@@ -185,7 +196,11 @@ fn button_of(alloc: Global, at: u32, parts: &[Sexp]) -> Result<Doc, SyntaxFault>
             if handlers.len() > MOST_HANDLERS {
                 return Err(SyntaxFault::Count(at));
             }
-            Ok(Doc::Button(name_of(alloc, name)?, string_of(label)?, handlers_of(alloc, handlers)?))
+            Ok(Doc::Button(
+                name_of(alloc, name)?,
+                string_of(label)?,
+                handlers_of(alloc, handlers)?,
+            ))
         }
         _ => Err(SyntaxFault::Count(at)),
     }
@@ -275,7 +290,10 @@ fn handler_parts_of(alloc: Global, at: u32, parts: &[Sexp]) -> Result<Handler, S
     ensures { Gives result (form_as at handler_form (map reading parts.now)) }
 {
     match parts {
-        [param, body] => Ok(Handler { param: one_parameter_of(alloc, param)?, body: body_of(alloc, body)? }),
+        [param, body] => Ok(Handler {
+            param: one_parameter_of(alloc, param)?,
+            body: body_of(alloc, body)?,
+        }),
         _ => Err(SyntaxFault::Count(at)),
     }
 }
@@ -367,7 +385,11 @@ fn if_of(alloc: Global, at: u32, parts: &[Sexp]) -> Result<Expr, SyntaxFault>
     ensures { Gives result (form_as at (expr_form expr_head.If) (map reading parts.now)) }
 {
     match parts {
-        [test, first, second] => Ok(Expr::If(body_of(alloc, test)?, body_of(alloc, first)?, body_of(alloc, second)?)),
+        [test, first, second] => Ok(Expr::If(
+            body_of(alloc, test)?,
+            body_of(alloc, first)?,
+            body_of(alloc, second)?,
+        )),
         _ => Err(SyntaxFault::Count(at)),
     }
 }

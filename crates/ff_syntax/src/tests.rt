@@ -69,7 +69,10 @@ fn documents_and_their_faults(rt: HostRuntime) {
         (b"(box b \"x\" (do))", Some(SyntaxFault::Head(12))),
         (b"(box b \"x\" 1)", Some(SyntaxFault::Place(11))),
         (b"(box b \"x\" (fn (e)))", Some(SyntaxFault::Count(11))),
-        (b"(button b \"x\" (fn (null) 1))", Some(SyntaxFault::Name(19))),
+        (
+            b"(button b \"x\" (fn (null) 1))",
+            Some(SyntaxFault::Name(19)),
+        ),
         (b"(button b \"x\" (fn e 1))", Some(SyntaxFault::Place(18))),
         (b"(button b (x))", Some(SyntaxFault::Place(10))),
         (b"(script 1 (foo))", Some(SyntaxFault::Name(8))),

@@ -89,7 +89,8 @@ fn looks_like_number(word: &[u8]) -> bool
     ensures { result ≡ words.looks_like_number word.now }
 {
     match word.split_first() {
-        Some((first, rest)) => first.is_ascii_digit() || (*first == b'-' && begins_with_digit(rest)),
+        Some((first, rest)) => first.is_ascii_digit()
+            || (*first == b'-' && begins_with_digit(rest)),
         None => false,
     }
 }
