@@ -166,7 +166,8 @@ fn bytes_that_are_no_text(rt: HostRuntime) {
 fn read_long(alloc: Global, bytes: usize) -> Result<Policy, PolicyFault> {
     let mut text = String::from_str(alloc, TWO)?;
     text.push('}')?;
-    for _ in text.len()..bytes {
+    let padding = bytes.saturating_sub(text.len());
+    for _blank in 0..padding {
         text.push(' ')?;
     }
     Policy::read(alloc, text.as_bytes())
