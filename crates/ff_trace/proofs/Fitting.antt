@@ -30,7 +30,7 @@ use Rattle.ff_trace.specs.Lines.{IsTag}
 use Rattle.ff_trace.specs.Printed.{number, act_items, tag_items, input_items, input_text, out_items, out_text, joined, in_key_order}
 use Rattle.ff_trace.specs.declared.kind.Kind.{Kind}
 use Rattle.ff_trace.specs.declared.kind.Kind.TheVariants as kind
-use Rattle.ff_trace.proofs.Awaited.{resp_item_well_spelled}
+use Rattle.ff_syntax.proofs.Fitting.{resp_item_well_spelled}
 use Rattle.ff_trace.proofs.Worded.{number_word, domain_word, tag_is_word, fits_word, fits_string, fits_more, fits_none}
 
 kind_is_word : (k : Kind) → is_word (word_of k) ≡ true

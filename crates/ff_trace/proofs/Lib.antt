@@ -1,4 +1,3 @@
-pub mod Awaited
 pub mod Back
 pub mod Bare
 pub mod Cuts
