@@ -5,6 +5,7 @@ pub mod Completes
 pub mod Depths
 pub mod Each
 pub mod Falling
+pub mod Fitting
 pub mod Given
 pub mod Heading
 pub mod Items
@@ -14,6 +15,8 @@ pub mod Naming
 pub mod Numbering
 pub mod OneLine
 pub mod Printing
+pub mod Rereading
+pub mod Respelled
 pub mod Results
 pub mod Shapes
 pub mod Sounds

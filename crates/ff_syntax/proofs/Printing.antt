@@ -46,13 +46,6 @@ then {p} {q} {r} {first} {more} (stopped a b e) (stopped c d f) = stopped a d (f
 pub prints_as : {p q : Printer} {bytes : List ℕ} (others : List ℕ) → others ≡ bytes → Prints p q bytes → Prints p q others
 prints_as {p} {q} others e prints = subst (λ bs. Prints p q bs) (sym e) prints
 
--- no piece
-pub prints_nothing : (p : Printer) → Prints p p []
-prints_nothing p = by p.failed refl where
-  by : (failed : Bool) → p.failed ≡ failed → Prints p p []
-  by true e = stopped e e refl
-  by false e = whole e e (sym (append-nil p.bytes.items))
-
 -- a call that appends, and whether it failed
 pub noted : {X E : Type 0} (p q : Printer) (bytes : List ℕ) (done : Result X E) → p.failed ≡ false → q.failed ≡ is_err done
     → OnOk done (q.bytes.items ≡ p.bytes.items ++ bytes) → OnErr done (AppendsFront p.bytes.items q.bytes.items bytes) → Prints p q bytes
@@ -126,11 +119,3 @@ one_more item xs i x inside is before here =
     ∙ flat_map-append (λ y. after_blank (item y)) (take i xs) (get_or xs i x ∷ [])
     ∙ ap (λ bs. each_after_blank item (take i xs) ++ bs) (append-nil (after_blank (item (get_or xs i x))) ∙ ap (λ y. after_blank (item y)) (sym is)))
     (then before here)
-
--- the whole of a list
-pub all_printed : {p q : Printer} {X : Type 0} (item : X → Sexp) (xs : List X) (i : ℕ) → length xs ≤ i → Prints p q (each_after_blank item (take i xs)) → Prints p q (each_after_blank item xs)
-all_printed item xs i past prints = prints_as (each_after_blank item xs) (ap (each_after_blank item) (sym (take_all i xs past))) prints
-
--- a list that holds one word
-pub spelled-one : (text : List ℕ) → spelled (parens (word text ∷ [])) ≡ 40 ∷ (text ++ 41 ∷ [])
-spelled-one text = spelled-listed text []

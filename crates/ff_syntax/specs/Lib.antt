@@ -1,4 +1,5 @@
 -- What this crate specifies.
+pub mod Again
 pub mod Canonical
 pub mod Grammar
 pub mod Pieces

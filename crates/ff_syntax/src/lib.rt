@@ -8,6 +8,8 @@ mod leaves;
 mod print;
 mod print_reply;
 mod print_seen;
+#[cfg(test)]
+mod print_tests;
 mod print_tree;
 mod printer;
 mod reading;

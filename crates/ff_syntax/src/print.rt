@@ -2,7 +2,9 @@ ghost use Rattle.std.specs.Prelude.{◌≡◌, ◌≢◌, ◌++◌, ◌∷◌, [
 ghost use Rattle.std.specs.List.{AllByRecursion};
 ghost use Rattle.ff_name.specs.Output.{AppendsFront};
 ghost use Rattle.ff_text.specs.Printed.{spelled};
-ghost use Rattle.ff_value.specs.Spelled.{IsSpelledSeen};
+ghost use Rattle.ff_tree.specs.Spelled.{IsWellSpelledDoc, IsWellSpelledExpr};
+ghost use Rattle.ff_value.specs.Spelled.{IsSpelledSeen, IsWellSpelledResp};
+ghost use Rattle.ff_syntax.specs.Again.{ReadsBackDoc, ReadsBackExpr, ReadsBackResp};
 ghost use Rattle.ff_syntax.specs.Canonical.{doc_item, expr_item, resp_item, shown_item, pairs_item};
 
 use crate::print_reply::put_resp;
@@ -17,6 +19,8 @@ use ff_value::{Pairs, Resp, Shown};
 pub fn print_doc(doc: &Doc, out: &mut Vec<u8>) -> Result<(), NoMemory>
     ensures ok { OnOk result (out.new.items ≡ out.old.items ++ spelled (doc_item doc.now)) }
     ensures err { OnErr result (AppendsFront out.old.items out.new.items (spelled (doc_item doc.now))) }
+    // What is printed is read back.
+    ensures again { IsWellSpelledDoc doc.now → ReadsBackDoc (spelled (doc_item doc.now)) doc.now }
 {
     let mut printer = Printer::after(out)?;
     put_doc(doc, &mut printer);
@@ -27,6 +31,8 @@ pub fn print_doc(doc: &Doc, out: &mut Vec<u8>) -> Result<(), NoMemory>
 pub fn print_expr(expr: &Expr, out: &mut Vec<u8>) -> Result<(), NoMemory>
     ensures ok { OnOk result (out.new.items ≡ out.old.items ++ spelled (expr_item expr.now)) }
     ensures err { OnErr result (AppendsFront out.old.items out.new.items (spelled (expr_item expr.now))) }
+    // What is printed is read back.
+    ensures again { IsWellSpelledExpr expr.now → ReadsBackExpr (spelled (expr_item expr.now)) expr.now }
 {
     let mut printer = Printer::after(out)?;
     put_expr(expr, &mut printer);
@@ -37,6 +43,8 @@ pub fn print_expr(expr: &Expr, out: &mut Vec<u8>) -> Result<(), NoMemory>
 pub fn print_resp(resp: &Resp, out: &mut Vec<u8>) -> Result<(), NoMemory>
     ensures ok { OnOk result (out.new.items ≡ out.old.items ++ spelled (resp_item resp.now)) }
     ensures err { OnErr result (AppendsFront out.old.items out.new.items (spelled (resp_item resp.now))) }
+    // What is printed is read back.
+    ensures again { IsWellSpelledResp resp.now → ReadsBackResp (spelled (resp_item resp.now)) resp.now }
 {
     let mut printer = Printer::after(out)?;
     put_resp(resp, &mut printer);
