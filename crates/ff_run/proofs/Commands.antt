@@ -1,10 +1,38 @@
 -- The words of the command line, one by one.
-use Rattle.std.proofs.Common.{◌≡◌, ℕ, ◌<◌, ◌≤◌, ◌↔◌, Bool, true, nat_eq, IsTrue, List, [], ◌∷◌, length, get_or, map, codes, String, Global, sym, ap, ◌∙◌, arith}
+use Rattle.std.proofs.Common.{◌≡◌, ℕ, ◌<◌, ◌≤◌, List, [], ◌∷◌, length, get_or, map, codes, String, Global, refl, sym, ap, ◌∙◌, arith}
+use Rattle.std.proofs.lemmas.List.{length-map}
 use Rattle.std.specs.String.{string_bytes}
-use Rattle.std.specs.Cmp.Lexicographic.{pointwise, same_text}
-use Rattle.ff_run.specs.Words.{IsMulti}
+use Rattle.ff_run.specs.Words.{word_of, Asks, AreCommand}
+use Rattle.ff_run.specs.declared.words.Command.{Command}
+use Rattle.ff_run.specs.declared.words.Command.TheVariants.{Check, Trace}
+use Rattle.ff_run.specs.declared.words.Work.TheVariants.{Multi, Format}
 
--- two words are the first and the second
+-- ---- no two commands have one word
+
+first_or_zero : List ℕ → ℕ
+first_or_zero [] = 0
+first_or_zero (b ∷ bs) = b
+
+one_command : (c d : Command) → word_of c ≡ word_of d → c ≡ d
+unfolding first_or_zero
+one_command Check Check same = refl
+one_command (Trace Multi) (Trace Multi) same = refl
+one_command (Trace Format) (Trace Format) same = refl
+one_command Check (Trace Multi) same = let bytes : ◌≡◌ {A = ℕ} 99 109 = ap first_or_zero same in absurd (omega arith)
+one_command Check (Trace Format) same = let bytes : ◌≡◌ {A = ℕ} 99 102 = ap first_or_zero same in absurd (omega arith)
+one_command (Trace Multi) Check same = let bytes : ◌≡◌ {A = ℕ} 109 99 = ap first_or_zero same in absurd (omega arith)
+one_command (Trace Multi) (Trace Format) same = let bytes : ◌≡◌ {A = ℕ} 109 102 = ap first_or_zero same in absurd (omega arith)
+one_command (Trace Format) Check same = let bytes : ◌≡◌ {A = ℕ} 102 99 = ap first_or_zero same in absurd (omega arith)
+one_command (Trace Format) (Trace Multi) same = let bytes : ◌≡◌ {A = ℕ} 102 109 = ap first_or_zero same in absurd (omega arith)
+
+-- so words ask for one command under one policy
+pub asks_once : (words : List (List ℕ)) (c d : Command) (name other : List ℕ) → Asks words c name → Asks words d other → (c ≡ d) × (name ≡ other)
+asks_once words c d name other first second =
+    let both : word_of c ∷ name ∷ [] ≡ word_of d ∷ other ∷ [] = sym first.words_are ∙ second.words_are in
+    (one_command c d (ap (λ (ws : List (List ℕ)). get_or ws 0 []) both), ap (λ (ws : List (List ℕ)). get_or ws 1 []) both)
+
+-- ---- two words
+
 two_words : (ws : List (String Global)) (a b : String Global) → 2 ≤ length ws → length ws < 3 → a ≡ get_or ws 0 a → b ≡ get_or ws 1 b
     → map string_bytes ws ≡ string_bytes a ∷ string_bytes b ∷ []
 two_words [] a b least most first second = absurd (omega arith)
@@ -12,15 +40,26 @@ two_words (w ∷ []) a b least most first second = absurd (omega arith)
 two_words (v ∷ w ∷ []) a b least most first second = ap (λ x. string_bytes x ∷ string_bytes w ∷ []) (sym first) ∙ ap (λ x. string_bytes a ∷ string_bytes x ∷ []) (sym second)
 two_words (v ∷ w ∷ x ∷ xs) a b least most first second = absurd (omega arith)
 
--- they are the command where the first is `multi`, exactly if the second is `-`
-pub command_words : (ws : List (String Global)) (a b : String Global) (x y : List ℕ) (is_first is_second : Bool) → 2 ≤ length ws → length ws < 3 → a ≡ get_or ws 0 a → b ≡ get_or ws 1 b
-    → x ≡ string_bytes a → y ≡ string_bytes b → is_first ≡ pointwise nat_eq x (codes "multi") → is_first ≡ true → is_second ≡ pointwise nat_eq y (codes "-")
-    → IsTrue is_second ↔ IsMulti (map string_bytes ws)
-command_words ws a b x y is_first is_second least most first second x_is y_is first_test first_is second_test =
-    let words : map string_bytes ws ≡ x ∷ y ∷ [] = two_words ws a b least most first second ∙ ap (λ w. w ∷ string_bytes b ∷ []) (sym x_is) ∙ ap (λ w. x ∷ w ∷ []) (sym y_is) in
-    let multi : x ≡ codes "multi" = same_text x (codes "multi") (sym first_is ∙ first_test) in (
-      (λ is. words ∙ ap (λ w. w ∷ y ∷ []) multi ∙ ap (λ w. codes "multi" ∷ w ∷ []) (same_text y (codes "-") (sym is ∙ second_test))),
-      (λ command.
-          let minus : y ≡ codes "-" = ap (λ (l : List (List ℕ)). get_or l 1 []) (sym words ∙ command) in
-          second_test ∙ ap (λ w. pointwise nat_eq w (codes "-")) minus),
-    )
+-- they ask for the command of the first, under a policy of the second
+pub asks_two : (ws : List (String Global)) (a b : String Global) (x y name : List ℕ) (c : Command) → 2 ≤ length ws → length ws < 3 → a ≡ get_or ws 0 a → b ≡ get_or ws 1 b
+    → x ≡ string_bytes a → y ≡ string_bytes b → word_of c ≡ x → name ≡ y → (y ≡ [] → ⊥) → Asks (map string_bytes ws) c name
+asks_two ws a b x y name c least most first second x_is y_is word_is name_is some = record {
+  words_are = two_words ws a b least most first second ∙ ap (λ w. w ∷ string_bytes b ∷ []) (sym x_is ∙ sym word_is) ∙ ap (λ w. word_of c ∷ w ∷ []) (sym y_is ∙ sym name_is);
+  named = λ none. some (sym name_is ∙ none);
+}
+
+-- they ask for none where the first is the word of none, or the second is empty
+pub asks_none : (ws : List (String Global)) (a b : String Global) (x y : List ℕ) → 2 ≤ length ws → length ws < 3 → a ≡ get_or ws 0 a → b ≡ get_or ws 1 b
+    → x ≡ string_bytes a → y ≡ string_bytes b → ((c : Command) → word_of c ≡ x → y ≡ []) → ¬ AreCommand (map string_bytes ws)
+asks_none ws a b x y least most first second x_is y_is none asked =
+    let both : string_bytes a ∷ string_bytes b ∷ [] ≡ word_of asked.command ∷ asked.policy ∷ [] = sym (two_words ws a b least most first second) ∙ asked.asks.words_are in
+    let word : word_of asked.command ≡ x = sym (ap (λ (ws : List (List ℕ)). get_or ws 0 []) both) ∙ sym x_is in
+    let name : asked.policy ≡ y = sym (ap (λ (ws : List (List ℕ)). get_or ws 1 []) both) ∙ sym y_is in
+    asked.asks.named (name ∙ none asked.command word)
+
+-- another number of words is no command
+length_asked : (words : List (List ℕ)) (asked : AreCommand words) → length words ≡ 2
+length_asked words asked = ap length asked.asks.words_are
+
+pub asks_other : (ws : List (String Global)) → (length ws ≡ 2 → ⊥) → ¬ AreCommand (map string_bytes ws)
+asks_other ws other asked = other (sym (length-map ws string_bytes) ∙ length_asked (map string_bytes ws) asked)

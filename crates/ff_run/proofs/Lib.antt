@@ -1,10 +1,14 @@
+pub mod Checking
 pub mod Commands
 pub mod Cuts
 pub mod Ends
 pub mod Executing
 pub mod Feeding
+pub mod Finding
+pub mod Headline
+pub mod Inputs
+pub mod Judging
 pub mod Lawful
-pub mod OneLine
+pub mod Obeying
 pub mod Printing
-pub mod Tags
 pub mod Unique

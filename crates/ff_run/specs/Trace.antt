@@ -1,37 +1,16 @@
--- A trace: its lines, the inputs that they spell, and the first bad line.
-use Rattle.std.specs.Prelude.{◌≡◌, ◌≢◌, ℕ, ◌+◌, ◌<◌, ◌≤◌, ◌⊎◌, ◌==◌, cond, Option, Some, None, List, [], ◌∷◌, ◌++◌, length, slice_get, All, codes}
+-- A trace: its lines, the inputs that they give, and the first bad line.
+use Rattle.std.specs.Prelude.{◌≡◌, ◌≢◌, ℕ, ◌+◌, ◌<◌, ◌≤◌, ◌==◌, cond, Option, Some, None, Result, Ok, Err, List, [], ◌∷◌, ◌++◌, length, All, ⊤}
 use Rattle.ff_reactive.specs.Text.{lines}
-use Rattle.ff_lattice.specs.Order.{two, size, name}
-use Rattle.ff_name.specs.declared.levels.Level.{Level}
-use Rattle.ff_name.specs.declared.urls.Url.{Url}
-use Rattle.ff_name.specs.Address as address
-use Rattle.ff_run.specs.Levels.{IsTag}
-use Rattle.ff_value.specs.declared.input.Act.TheVariants.{Opens}
+use Rattle.ff_lattice.specs.Order.{Order}
 use Rattle.ff_value.specs.declared.input.Input.{Input}
-
--- a tag as it stands before the rest of its line: `@`, the level's name and a blank
-abbrev pub tag_text : Option Level → List ℕ
-tag_text None = []
-tag_text (Some l) = 64 ∷ name two l.0 ++ 32 ∷ []
-
--- The line spells the input: a tag or none, the word `open`, a blank, and an address.
-pub record SpellsInput (line : List ℕ) (i : Input) : Type 0 where
-  pub tag_is : IsTag i.tag
-  pub bytes : List ℕ
-  pub url : Url
-  pub spelled : address.Spells bytes url
-  pub act_is : i.act ≡ Opens url
-  pub line_is : line ≡ tag_text i.tag ++ (codes "open " ++ bytes)
-
--- the bytes don't begin with a level's name and a blank
-pub record HasNoLevel (bytes : List ℕ) : Type 0 where
-  pub none : (l : ℕ) (rest : List ℕ) → l < size two → bytes ≢ name two l ++ 32 ∷ rest
-
--- The line is this tag and then the rest. A line without a tag doesn't begin with `@`.
-pub record IsCut (line : List ℕ) (tag : Option Level) (rest : List ℕ) : Type 0 where
-  pub tag_is : IsTag tag
-  pub line_is : line ≡ tag_text tag ++ rest
-  pub untagged : tag ≡ None → slice_get rest 0 ≢ Some 64
+use Rattle.ff_core.specs.Machine.{IsBuilt}
+use Rattle.ff_trace.specs.Lines.{ReadsLine, IsInputOf}
+use Rattle.ff_trace.specs.declared.fault.LineFault.{LineFault}
+use Rattle.ff_status.specs.declared.status.TraceFault.{TraceFault}
+use Rattle.ff_status.specs.declared.status.TraceFault.TheVariants as fault
+use Rattle.ff_run.specs.declared.execute.BadLine.{BadLine}
+use Rattle.ff_run.specs.declared.words.Work.{Work}
+use Rattle.ff_run.specs.declared.words.Work.TheVariants.{Multi, Format}
 
 -- The bytes are cut at the first byte of this value, which belongs to neither part.
 pub record IsCutAt (byte : ℕ) (bytes before after : List ℕ) : Type 0 where
@@ -51,28 +30,66 @@ pub record IsFirstLine (bytes line rest : List ℕ) : Type 0 where
   pub lines_are : lines bytes ≡ raw ∷ lines rest
   pub line_is : line ≡ content raw
 
--- how many bytes of a trace are read as lines
-abbrev pub trace_limit : ℕ
-trace_limit = 16777216
+-- the inputs that the work takes: the machine can do some kinds alone, and formatting takes all
+abbrev pub Takes : Work → Input → Type 0
+Takes Multi i = IsBuilt i
+Takes Format i = ⊤
 
--- The line is good: it spells the input, and no byte of it, with the newline that ends it, is past the limit. `before` bytes
--- stand before it.
-pub record IsGood (before : ℕ) (raw : List ℕ) (i : Input) : Type 0 where
-  pub within : before + length raw ≤ trace_limit
-  pub spells : SpellsInput (content raw) i
+-- what a line gives the work: no input, an input, or a fault; an input that the work doesn't take is one too
+pub data LineGives (work : Work) (order : Order) (line : List ℕ) : Result (Option Input) TraceFault → Type 0 where
+  no_input : ReadsLine order line (Ok None) → LineGives work order line (Ok None)
+  an_input : (i : Input) → ReadsLine order line (Ok (Some i)) → Takes work i → LineGives work order line (Ok (Some i))
+  not_built : (i : Input) → ReadsLine order line (Ok (Some i)) → ¬ Takes work i → LineGives work order line (Err fault.Unbuilt)
+  a_fault : (which : LineFault) → ReadsLine order line (Err which) → LineGives work order line (Err (fault.Line which))
 
--- A line that ends with so many bytes of the trace is bad: a byte of it is past the limit, or it spells no input.
-abbrev pub IsBadAt : ℕ → List ℕ → Type 0
-IsBadAt end line = (trace_limit < end) ⊎ ((i : Input) → SpellsInput line i → ⊥)
+-- A line is too long that has over 1,048,576 bytes without its newline, unless the byte past the limit of the trace comes
+-- before the first of these that is past the line's limit, or is that very byte. `start` bytes stand before the line.
+pub record IsTooLong (start size : ℕ) : Type 0 where
+  pub over : 1048576 < size
+  pub first : start + 1048577 ≤ 16777216
 
--- The lines, of which the first has this number and stands after `before` bytes, spell these inputs up to the first bad line,
--- which has the number in `bad`; up to the end where there is none.
-abbrev pub Reads : ℕ → ℕ → List (List ℕ) → List Input → Option ℕ → Type 0
-Reads number before [] [] bad = bad ≡ None
-Reads number before [] (i ∷ is) bad = ⊥
-Reads number before (raw ∷ rest) [] bad = (bad ≡ Some number) × IsBadAt (before + length raw) (content raw)
-Reads number before (raw ∷ rest) (i ∷ is) bad = IsGood before raw i × Reads (number + 1) (before + length raw) rest is bad
+-- It is too much where it holds the byte past the limit of the trace, as the last of its bytes is number `end` of these.
+pub record IsTooMuch (start size end : ℕ) : Type 0 where
+  pub over : 16777216 < end
+  pub first : ¬ IsTooLong start size
 
--- the bytes spell these inputs up to the first bad line
-abbrev pub IsTrace : List ℕ → List Input → Option ℕ → Type 0
-IsTrace bytes is bad = Reads 1 0 (lines bytes) is bad
+-- the line is neither
+pub record Fits (size end : ℕ) : Type 0 where
+  pub short : size ≤ 1048576
+  pub within : end ≤ 16777216
+
+-- the fault of a line by its size
+pub data IsSizeFault (start size end : ℕ) : TraceFault → Type 0 where
+  too_long : IsTooLong start size → IsSizeFault start size end fault.TooLong
+  too_much : IsTooMuch start size end → IsSizeFault start size end fault.TooMuch
+
+-- What a line gives that begins after `start` bytes of the trace and ends, with the newline that follows it, after `end` bytes.
+pub data Judged (work : Work) (order : Order) (start : ℕ) (line : List ℕ) (end : ℕ) : Result (Option Input) TraceFault → Type 0 where
+  by_size : (which : TraceFault) → IsSizeFault start (length line) end which → Judged work order start line end (Err which)
+  by_line : (answer : Result (Option Input) TraceFault) → Fits (length line) end → LineGives work order line answer → Judged work order start line end answer
+
+-- a well spelled input with a tag of the lattice, which the work takes
+pub record IsTaken (work : Work) (order : Order) (i : Input) : Type 0 where
+  pub input_of : IsInputOf order i
+  pub takes : Takes work i
+
+-- such an input, where the answer is an input
+abbrev pub IsInputFor : Work → Order → Result (Option Input) TraceFault → Type 0
+IsInputFor work order (Ok None) = ⊤
+IsInputFor work order (Ok (Some i)) = IsTaken work order i
+IsInputFor work order (Err which) = ⊤
+
+-- The lines, of which the first has this number and stands after `start` bytes, give these inputs up to the first bad line,
+-- which is `bad`; up to the end where there is none.
+pub data Reads (work : Work) (order : Order) : ℕ → ℕ → List (List ℕ) → List Input → Option BadLine → Type 0 where
+  at_end : (number start : ℕ) → Reads work order number start [] [] None
+  silent : (number start : ℕ) (raw : List ℕ) (rest : List (List ℕ)) (is : List Input) (bad : Option BadLine)
+      → Judged work order start (content raw) (start + length raw) (Ok None) → Reads work order (number + 1) (start + length raw) rest is bad → Reads work order number start (raw ∷ rest) is bad
+  giving : (number start : ℕ) (raw : List ℕ) (rest : List (List ℕ)) (i : Input) (is : List Input) (bad : Option BadLine)
+      → Judged work order start (content raw) (start + length raw) (Ok (Some i)) → Reads work order (number + 1) (start + length raw) rest is bad → Reads work order number start (raw ∷ rest) (i ∷ is) bad
+  bad_line : (number start : ℕ) (raw : List ℕ) (rest : List (List ℕ)) (which : TraceFault)
+      → Judged work order start (content raw) (start + length raw) (Err which) → Reads work order number start (raw ∷ rest) [] (Some (record { number = number; fault = which }))
+
+-- the bytes give these inputs up to the first bad line
+abbrev pub IsTrace : Work → Order → List ℕ → List Input → Option BadLine → Type 0
+IsTrace work order bytes is bad = Reads work order 1 0 (lines bytes) is bad

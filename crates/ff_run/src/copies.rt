@@ -1,92 +1,125 @@
-ghost use Rattle.std.specs.Prelude.{◌≡◌, ◌<◌, ◌++◌, true, length, All, IfOk, OnOk};
+ghost use Rattle.std.specs.Prelude.{◌≡◌, ◌<◌, ◌++◌, [], length, All, IfOk, OnOk};
 ghost use Rattle.ff_reactive.specs.Copies.{at_level};
 ghost use Rattle.ff_reactive.specs.Text.{text_of};
 ghost use Rattle.ff_reactive.specs.Loops.{handle_seen};
-ghost use Rattle.ff_lattice.specs.Order.{two, size};
-ghost use Rattle.ff_core.specs.Machine.{IsOutput};
+ghost use Rattle.ff_lattice.specs.Order.{size};
+ghost use Rattle.ff_core.specs.Machine.{IsBuilt, IsOutput};
 ghost use Rattle.ff_core.specs.State.{empty};
-ghost use Rattle.ff_run.specs.Levels as policy;
+ghost use Rattle.ff_route.specs.Route as route;
+ghost use Rattle.ff_trace.specs.Lines.{IsInputOf};
 ghost use Rattle.ff_run.specs.Levels.{levels, machine, IsInput, IsQuiet};
-ghost use Rattle.ff_run.specs.Execution.{GoesOn};
+ghost use Rattle.ff_run.specs.Execution.{AreReady, GoesOn, IsReady, StandsAt};
+ghost use Rattle.ff_run.specs.Trace.{Takes};
+ghost use Rattle.ff_run.specs.declared.words.Work.TheVariants as works;
 
 use crate::print::print_level;
+use crate::words::Work;
 use ff_core::Browser;
-use ff_lattice::Lattice;
+use ff_policy::Policy;
+use ff_route::sees;
 use ff_steps::Steps;
+use ff_trace::print_input;
 use ff_value::{Input, Level, Out};
 use std::alloc::{AllocError, Global};
 use std::sync::ledger::Ledger;
 
+/// What takes the inputs of a trace: for a multi-executed run new browsers, one for each level, and nothing for formatting.
+#[tactic(auto, using(crate::proofs::Feeding::fresh_ready, crate::proofs::Feeding::fresh_stands))]
+pub(crate) fn new_copies(
+    alloc: Global,
+    work: Work,
+    policy: &Policy,
+) -> Result<Vec<Browser>, AllocError>
+    ensures ready { IfOk result (λ browsers. IsReady work policy.now browsers.items) }
+    ensures stands { IfOk result (λ browsers. StandsAt work policy.now browsers.items [] []) }
+{
+    match work {
+        Work::Multi => new_browsers(alloc, policy),
+        Work::Format => Ok(Vec::new(alloc)),
+    }
+}
+
 /// New browsers, one for each level.
-pub(crate) fn new_copies(alloc: Global, lattice: &Lattice) -> Result<Vec<Browser>, AllocError>
-    requires { lattice.now ≡ two }
-    ensures count { IfOk result (λ browsers. length browsers.items ≡ 2) }
+fn new_browsers(alloc: Global, policy: &Policy) -> Result<Vec<Browser>, AllocError>
+    ensures count { IfOk result (λ browsers. length browsers.items ≡ size policy.now.order) }
     ensures fresh { IfOk result (λ browsers. All (λ s. s ≡ empty) browsers.items) }
 {
     let mut browsers = Vec::new(alloc);
-    for _level in 0..lattice.size() {
+    for _level in 0..policy.lattice().size() {
         browsers.push(Browser::new(alloc))?;
     }
     Ok(browsers)
 }
 
-/// Gives an input to each copy whose level sees it, and appends the lines that the copies let out, level by level.
-pub(crate) fn feed<L: Ledger>(
+/// Takes an input of a trace, and appends the text that it gives.
+#[tactic(auto, using(crate::proofs::Executing::formatted, crate::proofs::Inputs::input_is))]
+pub(crate) fn take<L: Ledger>(
     alloc: Global,
-    lattice: &Lattice,
+    work: Work,
+    policy: &Policy,
     browsers: &mut [Browser],
     input: &Input,
     text: &mut Vec<u8>,
     turns: &mut Steps<L>,
 ) -> Result<(), AllocError>
-    requires lattice { lattice.now ≡ two }
-    requires input { IsInput input.now }
-    requires count { length browsers.old ≡ 2 }
-    requires quiet { All IsQuiet browsers.old }
-    ensures runs { OnOk result (GoesOn browsers.old text.old.items input.now browsers.new text.new.items) }
-    ensures quiet { OnOk result (All IsQuiet browsers.new) }
+    requires input { IsInputOf policy.now.order input.now }
+    requires takes { Takes work input.now }
+    requires ready { IsReady work policy.now browsers.old }
+    ensures goes_on { OnOk result (GoesOn work policy.now browsers.old text.old.items input.now browsers.new text.new.items) }
+    ensures ready { OnOk result (IsReady work policy.now browsers.new) }
+    ensures unturned { work ≡ works.Format → turns.new ≡ turns.old }
 {
-    for number in 0..lattice.size() {
+    match work {
+        Work::Multi => feed(alloc, policy, browsers, input, text, turns),
+        Work::Format => print_input(input, policy.lattice(), text),
+    }
+}
+
+/// Gives an input to each copy whose level sees it, and appends the lines that the copies let out, level by level.
+fn feed<L: Ledger>(
+    alloc: Global,
+    policy: &Policy,
+    browsers: &mut [Browser],
+    input: &Input,
+    text: &mut Vec<u8>,
+    turns: &mut Steps<L>,
+) -> Result<(), AllocError>
+    requires input { IsInput policy.now.order input.now }
+    requires ready { AreReady policy.now browsers.old }
+    ensures runs { OnOk result (GoesOn works.Multi policy.now browsers.old text.old.items input.now browsers.new text.new.items) }
+    ensures ready { OnOk result (AreReady policy.now browsers.new) }
+{
+    for number in 0..policy.lattice().size() {
         let browser = &mut browsers[usize::from(number)];
-        feed_level(alloc, lattice, Level(number), browser, input, text, turns)?;
+        feed_level(alloc, policy, Level(number), browser, input, text, turns)?;
     }
     Ok(())
 }
 
 /// Gives an input to the copy at a level, if the level sees it, and appends the lines that the copy lets out.
+#[tactic(auto, using(crate::proofs::Feeding::text_unseen, crate::proofs::Inputs::seen_built))]
 fn feed_level<L: Ledger>(
     alloc: Global,
-    lattice: &Lattice,
+    policy: &Policy,
     level: Level,
     browser: &mut Browser,
     input: &Input,
     text: &mut Vec<u8>,
     turns: &mut Steps<L>,
 ) -> Result<(), AllocError>
-    requires lattice { lattice.now ≡ two }
-    requires level { level.0 < size two }
-    requires input { IsInput input.now }
+    requires level { level.0 < size policy.now.order }
+    requires input { IsInput policy.now.order input.now }
     requires quiet { IsQuiet browser.old }
-    ensures state { OnOk result (browser.new ≡ (handle_seen machine browser.old (policy.sees level.0 input.now)).after) }
-    ensures text { OnOk result (text.new.items ≡ text.old.items ++ text_of levels (at_level levels level.0 (handle_seen machine browser.old (policy.sees level.0 input.now)).outputs)) }
+    ensures state { OnOk result (browser.new ≡ (handle_seen machine browser.old (route.sees policy.now level.0 input.now)).after) }
+    ensures text { OnOk result (text.new.items ≡ text.old.items ++ text_of (levels policy.now) (at_level (levels policy.now) level.0 (handle_seen machine browser.old (route.sees policy.now level.0 input.now)).outputs)) }
     ensures quiet { OnOk result (IsQuiet browser.new) }
 {
-    if !lattice.leq(level_in(input), level) {
-        return Ok(());
-    }
-    let outs = handle(alloc, browser, input, turns)?;
-    print_level(lattice, level, outs.as_slice(), text)
-}
-
-/// The level of an input under the built-in policy: that of its tag, or level 0 without one.
-fn level_in(input: &Input) -> Level
-    requires { IsInput input.now }
-    ensures value { result.0 ≡ policy.level_in input.now }
-    ensures within { result.0 < size two }
-{
-    match input.tag {
-        Some(level) => level,
-        None => Level(0),
+    match sees(policy, level, input)? {
+        Some(seen) => {
+            let outs = handle(alloc, browser, &seen, turns)?;
+            print_level(policy, level, outs.as_slice(), text)
+        }
+        None => Ok(()),
     }
 }
 
@@ -97,7 +130,7 @@ fn handle<L: Ledger>(
     input: &Input,
     turns: &mut Steps<L>,
 ) -> Result<Vec<Out>, AllocError>
-    requires input { IsInput input.now }
+    requires input { IsBuilt input.now }
     requires quiet { IsQuiet browser.old }
     ensures outputs { IfOk result (λ outs. outs.items ≡ (machine.handle browser.old input.now).outputs) }
     ensures built { IfOk result (λ outs. All IsOutput outs.items) }

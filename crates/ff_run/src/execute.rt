@@ -1,50 +1,63 @@
-ghost use Rattle.std.specs.Prelude.{◌≡◌, ◌≤◌, ◌<◌, ◌⊎◌, IfOk, MatchOption};
-ghost use Rattle.ff_lattice.specs.Order.{two};
-ghost use Rattle.ff_value.specs.declared.input.Input.{Input};
-ghost use Rattle.ff_run.specs.Execution.{Owes};
-ghost use Rattle.ff_run.specs.Trace.{SpellsInput, IsBadAt};
+ghost use Rattle.std.specs.Prelude.{◌≡◌, IfOk, MatchOption, Err};
+ghost use Rattle.ff_run.specs.Execution.{Follows, IsReady, Owes};
+ghost use Rattle.ff_run.specs.Trace.{IsInputFor};
+ghost use Rattle.ff_run.specs.declared.words.Work.TheVariants as works;
 
-use crate::copies::{feed, new_copies};
-use crate::trace::{first_line, read_line};
-use ff_lattice::Lattice;
+use crate::copies::{new_copies, take};
+use crate::trace::{first_line, judge};
+use crate::words::Work;
+use ff_core::Browser;
+use ff_policy::Policy;
+use ff_status::TraceFault;
 use ff_steps::Steps;
 use ff_value::Input;
 use std::alloc::{AllocError, Global};
 use std::sync::ledger::Ledger;
 
-/// How many bytes of a trace are read as lines: the line that holds a byte past them is bad.
-pub(crate) const TRACE_LIMIT: usize = 16_777_216;
-
-/// What the multi-executed run of a trace gives.
-#[derive(Drop)]
-pub(crate) struct Executed {
-    /// The lines that are let out.
-    pub(crate) text: Vec<u8>,
-    /// The number of the first bad line, from 1, if there is one.
-    pub(crate) bad: Option<u64>,
+/// The first bad line of a trace.
+#[derive(Clone, Copy)]
+pub(crate) struct BadLine {
+    /// Its number, from 1.
+    pub(crate) number: u64,
+    /// What is wrong with it.
+    pub(crate) fault: TraceFault,
 }
 
-/// Multi-executes the lines of a trace up to its first bad line.
+/// What a command gives for a trace.
+#[derive(Drop)]
+pub(crate) struct Executed {
+    /// The text that it writes.
+    pub(crate) text: Vec<u8>,
+    /// The first bad line, if there is one.
+    pub(crate) bad: Option<BadLine>,
+}
+
+/// Takes the inputs of a trace up to its first bad line.
+#[tactic(auto, using(crate::proofs::Executing::executing_start, crate::proofs::Executing::executing_follow, crate::proofs::Executing::executing_bad, crate::proofs::Executing::executing_done, crate::proofs::Judging::line_within))]
 pub(crate) fn execute<L: Ledger>(
     alloc: Global,
+    work: Work,
+    policy: &Policy,
     bytes: &[u8],
     turns: &mut Steps<L>,
 ) -> Result<Executed, AllocError>
-    ensures { IfOk result (λ executed. Owes bytes.now executed.text.items executed.bad) }
+    ensures owes { IfOk result (λ executed. Owes work policy.now bytes.now executed.text.items executed.bad) }
+    ensures unturned { work ≡ works.Format → turns.new ≡ turns.old }
 {
-    let lattice = Lattice::two(alloc)?;
-    let mut browsers = new_copies(alloc, &lattice)?;
+    let mut browsers = new_copies(alloc, work, policy)?;
     let copies = browsers.as_mut_slice();
     let mut text = Vec::new(alloc);
     let mut rest = bytes;
     let mut number = 1;
     while !rest.is_empty() {
         let (line, after) = first_line(rest);
+        let start = bytes.len() - rest.len();
         let end = bytes.len() - after.len();
-        match read_within(alloc, &lattice, line, end)? {
-            Some(input) => feed(alloc, &lattice, copies, &input, &mut text, turns)?,
-            None => {
-                let bad = Some(number);
+        let answer = judge(alloc, work, policy.lattice(), line, start, end)?;
+        match follow(alloc, work, policy, &answer, copies, &mut text, turns)? {
+            None => {}
+            Some(fault) => {
+                let bad = Some(BadLine { number, fault });
                 return Ok(Executed { text, bad });
             }
         }
@@ -54,19 +67,30 @@ pub(crate) fn execute<L: Ledger>(
     Ok(Executed { text, bad: None })
 }
 
-/// The input that a line spells, which ends with that many bytes of the trace, or `None` where the line is bad: it spells no
-/// input, or ends past the limit.
-fn read_within(
+/// Takes the input that a line gives, if it gives one, and hands on the fault of a line that is bad.
+#[tactic(auto, using(crate::proofs::Executing::follows_nothing, crate::proofs::Executing::follows_taking))]
+fn follow<L: Ledger>(
     alloc: Global,
-    lattice: &Lattice,
-    line: &[u8],
-    end: usize,
-) -> Result<Option<Input>, AllocError>
-    requires { lattice.now ≡ two }
-    ensures { IfOk result (λ answer. MatchOption answer (IsBadAt end line.now) (λ i. (end ≤ 16777216) × SpellsInput line.now i)) }
+    work: Work,
+    policy: &Policy,
+    answer: &Result<Option<Input>, TraceFault>,
+    browsers: &mut [Browser],
+    text: &mut Vec<u8>,
+    turns: &mut Steps<L>,
+) -> Result<Option<TraceFault>, AllocError>
+    requires input { IsInputFor work policy.now.order answer.now }
+    requires ready { IsReady work policy.now browsers.old }
+    ensures follows { IfOk result (λ bad. MatchOption bad (Follows work policy.now browsers.old text.old.items answer.now browsers.new text.new.items)
+        (λ fault. (answer.now ≡ Err fault) × (text.new.items ≡ text.old.items))) }
+    ensures ready { IfOk result (λ bad. IsReady work policy.now browsers.new) }
+    ensures unturned { work ≡ works.Format → turns.new ≡ turns.old }
 {
-    if end > TRACE_LIMIT {
-        return Ok(None);
+    match answer {
+        Ok(None) => Ok(None),
+        Ok(Some(input)) => {
+            take(alloc, work, policy, browsers, input, text, turns)?;
+            Ok(None)
+        }
+        Err(fault) => Ok(Some(*fault)),
     }
-    read_line(alloc, lattice, line)
 }

@@ -3,16 +3,18 @@
 //! and others 2011).
 #![tactic(auto)]
 
+mod check;
 mod copies;
 mod execute;
 mod law;
+mod policies;
 mod print;
-mod status;
 mod top;
 mod trace;
+mod words;
 
+pub use ff_status::{Status, TraceFault};
 pub use law::{a_trace_is_read_in_one_way, multi_is_noninterfering};
-pub use status::{Status, TraceFault};
 pub use top::run;
 
 #[cfg(test)]

@@ -9,14 +9,16 @@ use std::marker::Brand;
 use std::sync::ledger::{Blank, Ledger};
 use std::test::Fail;
 
-/// How a run ended, and what it put.
+/// How a run ended, what it put and what it reported.
 #[derive(Drop)]
 struct Ended {
     number: u8,
+    got: usize,
     put: Vec<u8>,
+    reported: Vec<u8>,
 }
 
-/// Runs the command that the words are over a port, with no file and a sink in memory.
+/// Runs the command that the words are.
 fn start<C: Ledger, L: Ledger, S: Shelf, E: Sink>(
     alloc: Global,
     words: &[String],
@@ -46,10 +48,20 @@ fn words(alloc: Global, all: &[&str]) -> Result<Vec<String>, AllocError> {
     Ok(words)
 }
 
-/// Runs `multi -` over a port.
-fn multi(alloc: Global, mut port: MemPort) -> Result<Ended, AllocError> {
-    let words = words(alloc, &["multi", "-"])?;
-    let mut shelf = MemShelf::new(BTreeMap::new(alloc), Vec::new(alloc));
+/// A shelf with one file, named `p.json`.
+fn shelf_of(alloc: Global, file: &str) -> Result<MemShelf, AllocError> {
+    let mut files = BTreeMap::new(alloc);
+    files.insert(
+        String::from_str(alloc, "p.json")?,
+        Vec::from_slice(alloc, file.as_bytes())?,
+    )?;
+    Ok(MemShelf::new(files, Vec::new(alloc)))
+}
+
+/// Runs words over a port, with a file `p.json` on the shelf.
+fn ends(alloc: Global, all: &[&str], file: &str, mut port: MemPort) -> Result<Ended, AllocError> {
+    let words = words(alloc, all)?;
+    let mut shelf = shelf_of(alloc, file)?;
     let mut err = MemSink::new(alloc, Vec::new(alloc));
     let status = start::<Brand, Brand, MemShelf, MemSink>(
         alloc,
@@ -62,7 +74,9 @@ fn multi(alloc: Global, mut port: MemPort) -> Result<Ended, AllocError> {
     );
     Ok(Ended {
         number: status.number(),
+        got: port.got_bytes().len(),
         put: Vec::from_slice(alloc, port.put_bytes())?,
+        reported: Vec::from_slice(alloc, err.put_bytes())?,
     })
 }
 
@@ -89,33 +103,309 @@ fn failing_read(alloc: Global, trace: &[u8], number: u64) -> Result<MemPort, All
     Ok(MemPort::new(alloc, pieces, bad_reads, Vec::new(alloc), 65_536))
 }
 
-const ROWS: [(&str, &str, u8); 9] = [
-    ("", "", 0),
+/// A trace under `multi -`, what it gives, the number it ends with, and its line on the error sink.
+const OPEN_LINES: [(&str, &str, u8, &str); 12] = [
+    ("", "", 0, ""),
     (
         "open http://a.com/x\n",
         "L send a.com \"/x\" () \"\"\nH opened\n",
         0,
+        "",
     ),
-    ("@H open http://a.com/\n", "H opened\n", 0),
+    ("@H open http://a.com/\n", "H opened\n", 0, ""),
     (
         "@L open http://a.com\n",
         "L send a.com \"/\" () \"\"\nH opened\n",
         0,
+        "",
     ),
-    ("open about:blank\n", "H opened\n", 0),
-    ("open about:blank", "H opened\n", 0),
-    ("open about:blank\n\nopen about:blank\n", "H opened\n", 4),
-    ("@M open about:blank\n", "", 4),
-    ("open  about:blank\n", "", 4),
+    ("open about:blank\n", "H opened\n", 0, ""),
+    ("open about:blank", "H opened\n", 0, ""),
+    (
+        "open about:blank\n\n  # a comment\n  open   about:blank\n",
+        "H opened\nH opened\n",
+        0,
+        "",
+    ),
+    (
+        "@M open about:blank\n",
+        "",
+        4,
+        "ffox: line 1: unknown level\n",
+    ),
+    (
+        "open about:blank\nopen about:blank\nopne 0\nopen about:blank\n",
+        "H opened\nH opened\n",
+        4,
+        "ffox: line 3: unknown kind\n",
+    ),
+    (
+        "open about:blank\nclose 0\n",
+        "H opened\n",
+        4,
+        "ffox: line 2: not built yet\n",
+    ),
+    ("type 0 0 \"pi", "", 4, "ffox: line 1: text unclosed at 9\n"),
+    ("open ftp://a.com/\n", "", 4, "ffox: line 1: bad address\n"),
 ];
 
 #[test]
 fn open_lines(rt: HostRuntime) -> Result<(), Fail> {
-    for (trace, text, number) in ROWS {
-        let ended = multi(rt.alloc(), whole(rt.alloc(), trace.as_bytes())?)?;
-        assert_eq!(rt; ended.number, number);
+    for (trace, text, number, line) in OPEN_LINES {
+        let ended = ends(
+            rt.alloc(),
+            &["multi", "-"],
+            "",
+            whole(rt.alloc(), trace.as_bytes())?,
+        )?;
+        assert_eq!(rt; ended.number, number, "{trace}");
         assert_eq!(rt; ended.put.as_slice(), text.as_bytes());
+        assert_eq!(rt; ended.reported.as_slice(), line.as_bytes());
     }
+    Ok(())
+}
+
+const NO_JOIN: &str =
+    r#"{"version":1,"levels":["a","b","c","d"],"below":[["a","c"],["a","d"],["b","c"],["b","d"]],"ui":"a","domain":"a"}"#;
+
+const NO_MEET: &str =
+    r#"{"version":1,"levels":["a","b","t"],"below":[["a","t"],["b","t"]],"ui":"a","domain":"a"}"#;
+
+const CYCLE: &str =
+    r#"{"version":1,"levels":["a","b"],"below":[["a","b"],["b","a"]],"ui":"a","domain":"a"}"#;
+
+const DIAMOND: &str =
+    r#"{"version":1,"levels":["P","A","B","T"],"below":[["P","A"],["P","B"],["A","T"],["B","T"]],"ui":"T","domain":"P","domains":{"b.com":"B"}}"#;
+
+const SIXTEEN: &str =
+    r#"{"version":1,"levels":["a","b","c","d","e","f","g","h","i","j","k","l","m","n","o","p"],"below":[["a","b"],["b","c"],["c","d"],["d","e"],["e","f"],["f","g"],["g","h"],["h","i"],["i","j"],["j","k"],["k","l"],["l","m"],["m","n"],["n","o"],["o","p"]],"ui":"p","domain":"a","domains":{"h.com":"h"}}"#;
+
+/// A command, its policy, the file `p.json`, the trace, what is put, the number that it ends with, and the line on the error
+/// sink.
+const COMMANDS: [(&str, &str, &str, &str, &str, u8, &str); 14] = [
+    (
+        "check",
+        "-",
+        "",
+        "",
+        "level L sees L\nlevel H sees L H\n",
+        0,
+        "",
+    ),
+    (
+        "check",
+        "p.json",
+        DIAMOND,
+        "open",
+        "level P sees P\nlevel A sees P A\nlevel B sees P B\nlevel T sees P A B T\n",
+        0,
+        "",
+    ),
+    (
+        "check",
+        "p.json",
+        NO_JOIN,
+        "",
+        "",
+        3,
+        "ffox: policy: no join a b\n",
+    ),
+    (
+        "check",
+        "p.json",
+        NO_MEET,
+        "",
+        "",
+        3,
+        "ffox: policy: no meet a b\n",
+    ),
+    (
+        "check",
+        "p.json",
+        CYCLE,
+        "",
+        "",
+        3,
+        "ffox: policy: cycle a b\n",
+    ),
+    (
+        "multi",
+        "p.json",
+        "{",
+        "open about:blank",
+        "",
+        3,
+        "ffox: policy: not JSON\n",
+    ),
+    (
+        "fmt",
+        "p.json",
+        "{}",
+        "open about:blank",
+        "",
+        3,
+        "ffox: policy: bad version\n",
+    ),
+    (
+        "multi",
+        "none.json",
+        "",
+        "open about:blank",
+        "",
+        7,
+        "ffox: file fault\n",
+    ),
+    (
+        "multi",
+        "p.json",
+        SIXTEEN,
+        "open http://x.com/\n@g open http://h.com/\n@p open about:blank\n",
+        "a send x.com \"/\" () \"\"\np opened\nh send h.com \"/\" () \"\"\np opened\np opened\n",
+        0,
+        "",
+    ),
+    (
+        "multi",
+        "p.json",
+        DIAMOND,
+        "@A open http://b.com/\nopen http://b.com/\n",
+        "T opened\nB send b.com \"/\" () \"\"\nT opened\n",
+        0,
+        "",
+    ),
+    (
+        "fmt",
+        "-",
+        "",
+        "  @H   type 0 0 \"a\\x0ab\"\n# dropped\n\nopen http://a.com\n",
+        "@H type 0 0 \"a\\nb\"\nopen http://a.com/\n",
+        0,
+        "",
+    ),
+    (
+        "fmt",
+        "-",
+        "",
+        "go 0  about:blank\nlink 1 2\nclose 3\nclick 4 5\nreply a.com 0 (script ( (set \"k\" \"v\") ) ( + 1 2 ))",
+        "go 0 about:blank\nlink 1 2\nclose 3\nclick 4 5\nreply a.com 0 (script ((set \"k\" \"v\")) (+ 1 2))\n",
+        0,
+        "",
+    ),
+    (
+        "fmt",
+        "-",
+        "",
+        "open about:blank\nclose 0\nopne 0\nclose 1\n",
+        "open about:blank\nclose 0\n",
+        4,
+        "ffox: line 3: unknown kind\n",
+    ),
+    (
+        "fmt",
+        "-",
+        "",
+        "reply a.com 0 (doc () (text 1a \"x\"))\n",
+        "",
+        4,
+        "ffox: line 1: syntax name at 28\n",
+    ),
+];
+
+#[test]
+fn commands(rt: HostRuntime) -> Result<(), Fail> {
+    for (command, name, file, trace, text, number, line) in COMMANDS {
+        let ended = ends(
+            rt.alloc(),
+            &[command, name],
+            file,
+            whole(rt.alloc(), trace.as_bytes())?,
+        )?;
+        assert_eq!(rt; ended.number, number, "{command} {name} {file}");
+        assert_eq!(rt; ended.put.as_slice(), text.as_bytes());
+        assert_eq!(rt; ended.reported.as_slice(), line.as_bytes());
+    }
+    Ok(())
+}
+
+const USAGE: &[u8] =
+    b"ffox: usage: multi POLICY [SLICE] | plain POLICY | check POLICY | fmt POLICY | gen START N\n";
+
+#[test]
+fn other_words_are_usage(rt: HostRuntime) -> Result<(), Fail> {
+    let lists: [&[&str]; 7] = [
+        &[],
+        &["multi"],
+        &["multi", ""],
+        &["multi", "-", "0"],
+        &["plain", "-"],
+        &["Check", "-"],
+        &["gen", "0", "1"],
+    ];
+    for all in lists {
+        let ended = ends(
+            rt.alloc(),
+            all,
+            "",
+            whole(rt.alloc(), b"open about:blank\n")?,
+        )?;
+        assert_eq!(rt; (ended.number, ended.got, ended.put.len()), (2, 0, 0));
+        assert_eq!(rt; ended.reported.as_slice(), USAGE);
+    }
+    Ok(())
+}
+
+/// A comment of so many bytes, and then an open line.
+fn long_comment(alloc: Global, size: usize) -> Result<Vec<u8>, AllocError> {
+    let mut trace = vec![in alloc; b'#'; size]?;
+    trace.extend_from_slice(b"\nopen about:blank\n")?;
+    Ok(trace)
+}
+
+#[test]
+fn a_line_of_a_mebibyte_and_one_byte_is_too_long(rt: HostRuntime) -> Result<(), Fail> {
+    let cases: [(usize, u8, &[u8]); 2] = [
+        (1_048_576, 0, b""),
+        (1_048_577, 4, b"ffox: line 1: line too long\n"),
+    ];
+    for (size, number, line) in cases {
+        let trace = long_comment(rt.alloc(), size)?;
+        let ended = ends(
+            rt.alloc(),
+            &["multi", "-"],
+            "",
+            whole(rt.alloc(), trace.as_slice())?,
+        )?;
+        assert_eq!(rt; ended.number, number);
+        assert_eq!(rt; ended.reported.as_slice(), line);
+    }
+    Ok(())
+}
+
+/// Sixteen comments of a mebibyte each, with their newlines, and the byte past the limit of a trace.
+fn too_much(alloc: Global) -> Result<Vec<u8>, AllocError> {
+    let mut trace = Vec::new(alloc);
+    for _line in 0..16 {
+        trace.extend_from_slice(vec![in alloc; b'#'; 1_048_575]?.as_slice())?;
+        trace.push(b'\n')?;
+    }
+    trace.push(b'#')?;
+    Ok(trace)
+}
+
+#[test]
+fn the_byte_past_the_limit_is_too_much(rt: HostRuntime) -> Result<(), Fail> {
+    let trace = too_much(rt.alloc())?;
+    let ended = ends(
+        rt.alloc(),
+        &["fmt", "-"],
+        "",
+        whole(rt.alloc(), trace.as_slice())?,
+    )?;
+    assert_eq!(rt; ended.number, 4);
+    assert_eq!(rt;
+        ended.reported.as_slice(),
+        b"ffox: line 17: trace too long\n".as_slice()
+    );
     Ok(())
 }
 
@@ -129,21 +419,45 @@ fn sixty_five_blank_windows_give_sixty_four_lines(rt: HostRuntime) -> Result<(),
             text.extend_from_slice(b"H opened\n")?;
         }
     }
-    let ended = multi(rt.alloc(), whole(rt.alloc(), trace.as_slice())?)?;
+    let ended = ends(
+        rt.alloc(),
+        &["multi", "-"],
+        "",
+        whole(rt.alloc(), trace.as_slice())?,
+    )?;
     assert_eq!(rt; ended.put.as_slice(), text.as_slice());
     Ok(())
 }
 
+/// Each write of this trace's text fails in its turn: what stands is the bytes before it.
+fn writes_fail(alloc: Global, trace: &[u8], text: &[u8]) -> Result<bool, AllocError> {
+    for written in 0..text.len() {
+        let port = failing_write(alloc, trace, written as u64 + 1)?;
+        let ended = ends(alloc, &["multi", "-"], "", port)?;
+        if ended.number != 6 || ended.put.as_slice() != &text[..written] {
+            return Ok(false);
+        }
+    }
+    Ok(true)
+}
+
 #[test]
 fn each_write_fails_once(rt: HostRuntime) -> Result<(), Fail> {
-    let text = b"L send a.com \"/x\" () \"\"\nH opened\n";
-    for written in 0..text.len() {
-        let number = written as u64 + 1;
-        let port = failing_write(rt.alloc(), b"open http://a.com/x\n", number)?;
-        let ended = multi(rt.alloc(), port)?;
-        assert_eq!(rt; ended.number, 6);
-        assert_eq!(rt; ended.put.as_slice(), &text[..written]);
-    }
+    let sent = b"L send a.com \"/x\" () \"\"\nH opened\n";
+    assert!(rt; writes_fail(rt.alloc(), b"open about:blank\n", b"H opened\n")?);
+    assert!(rt; writes_fail(rt.alloc(), b"open http://a.com/x\n", sent.as_slice())?);
+    Ok(())
+}
+
+#[test]
+fn open_about_blank_failing_at_its_first_write_writes_nothing(rt: HostRuntime) -> Result<(), Fail> {
+    let port = failing_write(rt.alloc(), b"open about:blank\n", 1)?;
+    let ended = ends(rt.alloc(), &["multi", "-"], "", port)?;
+    assert_eq!(rt; (ended.number, ended.put.len()), (6, 0));
+    assert_eq!(rt;
+        ended.reported.as_slice(),
+        b"ffox: write fault\n".as_slice()
+    );
     Ok(())
 }
 
@@ -151,9 +465,9 @@ fn each_write_fails_once(rt: HostRuntime) -> Result<(), Fail> {
 fn each_read_fails_once(rt: HostRuntime) -> Result<(), Fail> {
     for number in 1..=18 {
         let port = failing_read(rt.alloc(), b"open about:blank\n", number)?;
-        let ended = multi(rt.alloc(), port)?;
-        assert_eq!(rt; ended.number, 5);
-        assert_eq!(rt; ended.put.len(), 0);
+        let ended = ends(rt.alloc(), &["multi", "-"], "", port)?;
+        assert_eq!(rt; (ended.number, ended.put.len()), (5, 0));
+        assert_eq!(rt; ended.reported.as_slice(), b"ffox: read fault\n".as_slice());
     }
     Ok(())
 }
@@ -190,13 +504,13 @@ impl Sink for Counted {
     }
 }
 
-/// How often the shelf and the sink are called by a run of these words over one open line.
-fn calls(alloc: Global, all: &[&str]) -> Result<u64, AllocError> {
+/// How a run of these words over one open line ends, and how often the shelf and the sink are called by it.
+fn calls(alloc: Global, all: &[&str]) -> Result<(u8, u64, u64), AllocError> {
     let words = words(alloc, all)?;
     let mut shelf = Counted { calls: 0 };
     let mut err = Counted { calls: 0 };
     let mut port = whole(alloc, b"open about:blank\n")?;
-    let _status = start::<Brand, Brand, Counted, Counted>(
+    let status = start::<Brand, Brand, Counted, Counted>(
         alloc,
         words.as_slice(),
         &mut shelf,
@@ -205,13 +519,13 @@ fn calls(alloc: Global, all: &[&str]) -> Result<u64, AllocError> {
         Blank::new(1),
         Blank::new(1),
     );
-    Ok(shelf.calls.saturating_add(err.calls))
+    Ok((status.number(), shelf.calls, err.calls))
 }
 
 #[test]
-fn no_shelf_and_no_sink_is_called(rt: HostRuntime) -> Result<(), Fail> {
-    assert_eq!(rt; calls(rt.alloc(), &["multi", "-"])?, 0);
-    assert_eq!(rt; calls(rt.alloc(), &["multi", "p.json"])?, 0);
-    assert_eq!(rt; calls(rt.alloc(), &[])?, 0);
+fn the_shelf_and_the_sink_are_called_where_they_have_a_part(rt: HostRuntime) -> Result<(), Fail> {
+    assert_eq!(rt; calls(rt.alloc(), &["multi", "-"])?, (0, 0, 0));
+    assert_eq!(rt; calls(rt.alloc(), &["multi", "p.json"])?, (7, 1, 1));
+    assert_eq!(rt; calls(rt.alloc(), &[])?, (2, 0, 1));
     Ok(())
 }

@@ -1,15 +1,16 @@
-//! The program `ffox`. `ffox multi -` reads a trace from standard input, multi-executes it with one copy of the browser per
-//! level, and writes the lines that are let out to standard output. How it ended is its exit status, as `Status` says.
+//! The program `ffox`: `multi POLICY`, `check POLICY` and `fmt POLICY`, as `ff_run::run` says. A trace is read from standard
+//! input, what is written goes to standard output, what is wrong to standard error, and policies are files of the working
+//! folder. How it ended is its exit status, as `Status` says.
 #![tactic(auto)]
 
 ghost use Rattle.std.specs.Prelude.{◌≡◌, ◌<◌};
 
-use ff_io::{MemShelf, MemSink, StdPort};
+use ff_io::{DirShelf, StdErr, StdPort};
 use ff_run::{Status, run};
 use ff_steps::Steps;
-use std::collections::BTreeMap;
 use std::env::{self, Env};
-use std::io::{self, Input, Print};
+use std::fs::Files;
+use std::io::{self, Eprint, Input, Print};
 use std::marker::Brand;
 use std::process::ExitCode;
 use std::sync::ledger::{Blank, Ledger};
@@ -33,9 +34,8 @@ fn words<R: Env + AllocGlobal>(rt: &R) -> io::Result<Vec<String>> {
     Ok(words)
 }
 
-/// Runs the command that the words are over standard input and output. There are no files at this stage, and what goes to
-/// the error sink isn't shown.
-fn start<C: Ledger, L: Ledger, R: Input + Print + AllocGlobal>(
+/// Runs the command that the words are over the standard streams and the working folder.
+fn start<C: Ledger, L: Ledger, R: Input + Print + Eprint + Files + AllocGlobal>(
     rt: &R,
     words: &[String],
     copies: Blank,
@@ -48,14 +48,13 @@ fn start<C: Ledger, L: Ledger, R: Input + Print + AllocGlobal>(
     requires turns_parts { turns.parts ≡ L.parts }
     requires some_turns { 0 < turns.parts }
 {
-    let alloc = rt.alloc();
-    let mut shelf = MemShelf::new(BTreeMap::new(alloc), Vec::new(alloc));
+    let mut shelf = DirShelf::new(rt);
     let mut port = StdPort::new(rt);
-    let mut err = MemSink::new(alloc, Vec::new(alloc));
+    let mut err = StdErr::new(rt);
     let mut copied = Steps::<C>::new(copies);
     let mut made = Steps::<L>::new(turns);
     run(
-        alloc,
+        rt.alloc(),
         words,
         &mut shelf,
         &mut port,
