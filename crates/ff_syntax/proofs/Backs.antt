@@ -1,9 +1,9 @@
 -- What is read is spelled: the parts of forms, from what was read.
-use Rattle.std.proofs.Common.{◌≡◌, ◌≢◌, ◌≤◌, ◌+◌, ◌-◌, ◌==◌, ◌&&◌, ◌||◌, ℕ, suc, not, Bool, true, false, nat_le, List, [], ◌∷◌, ◌++◌, map, length, Option, Some, None, ok_or, find, codes, Result, Ok, Err, cond, refl, sym, ap, ◌∙◌, subst, arith, append_assoc, append-nil}
+use Rattle.std.proofs.Common.{◌≡◌, ◌≢◌, ◌≤◌, ◌-◌, ◌==◌, ◌&&◌, ◌||◌, ℕ, suc, not, Bool, true, false, nat_le, List, [], ◌∷◌, ◌++◌, map, length, Option, Some, None, ok_or, find, codes, Result, Ok, Err, cond, refl, sym, ap, ◌∙◌, subst, arith, append_assoc, append-nil}
 use Rattle.std.specs.List.{list_any, AllByRecursion}
 use Rattle.std.specs.Str.{bytes_eq}
 use Rattle.std.proofs.lemmas.List.{length-map}
-use Rattle.std.proofs.lemmas.Bool.{and_parts, and_from}
+use Rattle.std.proofs.lemmas.Bool.{and_parts}
 use Rattle.std.proofs.lemmas.Bool.Decides.{nat_tests}
 use Rattle.std.proofs.lemmas.Slice.Eq.{bytes_eq-Decides}
 use Rattle.ff_name.specs.Spelling.{IsName}
@@ -15,7 +15,7 @@ use Rattle.ff_text.specs.declared.items.Sexp.{Sexp}
 use Rattle.ff_text.specs.declared.items.Sexp.TheVariants.{Word, Str, List as Parens}
 use Rattle.ff_text.proofs.Layers.{items_ind}
 use Rattle.ff_syntax.specs.Words.{is_name, is_literal, is_variable, address_of}
-use Rattle.ff_syntax.specs.Grammar.{Sort, a_name, a_variable, an_address, a_string, a_parameter, a_head, parameters, one_parameter, Value, Placed, Further, further, nothing, Form, form, Reading, reading, and_then, each_as, may_have, parts_as, form_as, head_as, list_as, headed, parameter_as, parameters_as, one_parameter_as, any, at_most_16}
+use Rattle.ff_syntax.specs.Grammar.{Sort, a_name, a_variable, an_address, a_string, a_parameter, a_head, parameters, one_parameter, Value, Placed, further, nothing, Form, form, reading, and_then, each_as, may_have, parts_as, form_as, head_as, list_as, headed, parameter_as, parameters_as, one_parameter_as, any, at_most_16}
 use Rattle.ff_syntax.specs.Spellings.{AreWords, no_words, a_word}
 use Rattle.ff_syntax.specs.declared.fault.SyntaxFault.{SyntaxFault}
 use Rattle.ff_syntax.specs.declared.fault.SyntaxFault.TheVariants as fault

@@ -7,7 +7,7 @@ use Rattle.ff_text.specs.declared.items.Sexp.{Sexp}
 use Rattle.ff_text.specs.declared.items.Sexp.TheVariants as sexp
 use Rattle.ff_text.specs.declared.items.Sexp.TheOpen.{Sexp-F}
 use Rattle.ff_text.specs.declared.items.Sexp.TheViews.{out-Sexp}
-use Rattle.ff_text.proofs.Layers.{bare-Word, bare-Str, bare-List, Each, items_ind}
+use Rattle.ff_text.proofs.Layers.{bare-Word, bare-Str, bare-List, items_ind}
 use Rattle.ff_syntax.specs.Canonical.{word, string, parens}
 
 pub record WordItem (item : Sexp) (text : List ℕ) : Type 0 where

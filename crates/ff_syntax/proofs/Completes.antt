@@ -1,5 +1,5 @@
 -- What is spelled is read, with the value that is spelled.
-use Rattle.std.proofs.Common.{◌≡◌, ◌==◌, ◌||◌, ◌&&◌, ◌≤◌, ℕ, suc, ℤ, Bool, true, false, List, [], ◌∷◌, map, length, Option, Some, None, ok_or, codes, Result, Ok, Err, cond, FitsSigned, refl, sym, ap, ◌∙◌, arith}
+use Rattle.std.proofs.Common.{◌≡◌, ◌==◌, ◌||◌, ◌&&◌, ◌≤◌, ℕ, suc, ℤ, true, false, List, [], ◌∷◌, map, length, Some, None, codes, Ok, Err, cond, FitsSigned, refl, ap, ◌∙◌, arith}
 use Rattle.std.specs.Int.{w64}
 use Rattle.std.specs.Char.{is_ascii_digit}
 use Rattle.std.specs.Str.{bytes_eq}
@@ -8,7 +8,7 @@ use Rattle.std.proofs.lemmas.Bool.Decides.{nat_tests}
 use Rattle.ff_name.specs.Spelling.{IsName, begins_name, stands_in_name}
 use Rattle.std.specs.List.{list_all}
 use Rattle.ff_number.specs.Decimal.{num_text}
-use Rattle.ff_number.proofs.Texts.{BeginsWithDigit, BeginsNumber, digit, minus, BeginsNumber-num_text}
+use Rattle.ff_number.proofs.Texts.{BeginsNumber, digit, minus, BeginsNumber-num_text}
 use Rattle.ff_tree.specs.Ops.{word_of, arity_of}
 use Rattle.ff_tree.specs.Spelled.{IsVar}
 use Rattle.ff_tree.specs.declared.op.Op.{Op}
@@ -27,7 +27,7 @@ use Rattle.ff_value.specs.declared.reply.Resp.TheVariants as resp
 use Rattle.ff_text.specs.declared.items.Span.{Span}
 use Rattle.ff_text.specs.declared.items.Sexp.{Sexp}
 use Rattle.ff_text.specs.declared.items.Sexp.TheVariants.{Word, Str, List as Parens}
-use Rattle.ff_syntax.specs.Words.{is_literal, looks_like_number, begins_with_digit, number_of}
+use Rattle.ff_syntax.specs.Words.{is_literal, looks_like_number, begins_with_digit}
 use Rattle.ff_syntax.specs.Grammar as sort
 use Rattle.ff_syntax.specs.Grammar.{Value, reading, and_then, each_as, form_as, list_as, headed, handler, doc_word, doc_heads, doc_form, expr_word, expr_heads, expr_form, own_heads, operator_heads, operators, resp_word, resp_heads, resp_form, cookie_word, cookie_heads, cookie_form, handler_word, handler_form, word_as_expression, number_as, any}
 use Rattle.ff_syntax.specs.Spellings.{SpellsDoc, a_text, a_link, a_text_box, a_button, a_script, a_source, a_division, SpellsDocs, no_docs, one_more_doc, SpellsHandler, a_handler_list, SpellsHandlers, no_handlers, one_more_handler, SpellsExpr, a_null, a_true, a_false, a_number, a_text_literal, a_name_of_variable, a_let, a_set, an_if, a_while, a_do, an_and, an_or, a_function, a_call, a_tree, an_operation, SpellsExprs, no_exprs, one_more_expr, SpellsCookie, a_put, a_drop, SpellsCookies, no_cookies, one_more_cookie, SpellsResp, a_page, a_script_sent, some_data}
@@ -39,7 +39,6 @@ use Rattle.ff_syntax.specs.declared.heads.RespHead.{RespHead}
 use Rattle.ff_syntax.specs.declared.heads.RespHead.TheVariants as resp_head
 use Rattle.ff_syntax.specs.declared.heads.CookieHead.{CookieHead}
 use Rattle.ff_syntax.specs.declared.heads.CookieHead.TheVariants as cookie_head
-use Rattle.ff_syntax.specs.declared.fault.SyntaxFault.{SyntaxFault}
 use Rattle.ff_syntax.specs.declared.fault.SyntaxFault.TheVariants as fault
 use Rattle.ff_syntax.proofs.Heading.{own_missing, find_mapped}
 use Rattle.ff_syntax.proofs.Layers.{reading-Word, reading-Str, reading-List}

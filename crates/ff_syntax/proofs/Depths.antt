@@ -1,5 +1,5 @@
 -- How deep the lists of each form nest.
-use Rattle.std.proofs.Common.{◌≡◌, ◌+◌, ℕ, max, List, map, sym, ap, ◌∙◌}
+use Rattle.std.proofs.Common.{◌≡◌, ◌+◌, ℕ, max, List, map, ap, ◌∙◌}
 use Rattle.ff_name.specs.declared.urls.Url.{Url}
 use Rattle.ff_tree.specs.declared.op.Op.{Op}
 use Rattle.ff_tree.specs.declared.tree.Lit.{Lit}
@@ -7,7 +7,7 @@ use Rattle.ff_tree.specs.declared.tree.Doc.{Doc}
 use Rattle.ff_tree.specs.declared.tree.Doc.TheVariants as doc
 use Rattle.ff_tree.specs.declared.tree.Expr.{Expr}
 use Rattle.ff_tree.specs.declared.tree.Expr.TheVariants as expr
-use Rattle.ff_tree.specs.declared.tree.Handler.{Handler, roll-Handler, out-roll-Handler}
+use Rattle.ff_tree.specs.declared.tree.Handler.{Handler, out-roll-Handler}
 use Rattle.ff_tree.specs.declared.tree.Doc.TheOpen.{Doc-F, Expr-F, Handler-F}
 use Rattle.ff_tree.specs.declared.tree.Doc.TheViews.{out-Doc, out-Expr, out-Handler}
 use Rattle.ff_tree.specs.declared.tree.Doc.TheFolds.{map-Doc, map-Expr, map-Handler, fold_out-Doc, fold_out-Expr, fold_out-Handler}

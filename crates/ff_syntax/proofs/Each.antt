@@ -1,9 +1,9 @@
 -- The parts of a list as values of one sort, up to a place.
-use Rattle.std.proofs.Common.{◌≡◌, ◌<◌, ◌≤◌, ◌⊎◌, ◌+◌, ℕ, List, [], ◌∷◌, ◌++◌, map, length, drop, get_or, Result, Ok, Err, inl, inr, refl, sym, ap, ◌∙◌, arith, append_assoc, append-nil}
+use Rattle.std.proofs.Common.{◌≡◌, ◌<◌, ◌≤◌, ◌⊎◌, ◌+◌, ℕ, List, [], ◌∷◌, ◌++◌, map, length, drop, get_or, Result, Ok, Err, inl, inr, refl, sym, ap, ◌∙◌, append_assoc, append-nil}
 use Rattle.std.proofs.Math.ListN.{drop_of_length-le}
 use Rattle.std.proofs.lemmas.List.{drop_more}
 use Rattle.ff_text.specs.declared.items.Sexp.{Sexp}
-use Rattle.ff_syntax.specs.Grammar.{Sort, Value, Reading, Gives, reading, and_then, each_as, parameters_as, parameter_as}
+use Rattle.ff_syntax.specs.Grammar.{Sort, Value, Gives, reading, and_then, each_as, parameters_as, parameter_as}
 use Rattle.ff_syntax.specs.declared.fault.SyntaxFault.{SyntaxFault}
 use Rattle.ff_syntax.specs.declared.fault.SyntaxFault.TheVariants as fault
 

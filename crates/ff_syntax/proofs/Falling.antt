@@ -1,5 +1,5 @@
 -- A part of some items holds none that is larger.
-use Rattle.std.proofs.Common.{◌≡◌, ◌≤◌, ◌-◌, ℕ, zero, suc, List, [], ◌∷◌, take, drop, sym, subst, arith}
+use Rattle.std.proofs.Common.{◌≡◌, ◌≤◌, ℕ, zero, suc, List, [], ◌∷◌, take, drop, sym, subst, arith}
 use denote.Param.Weighed.{most}
 use Rattle.ff_text.specs.declared.items.Sexp.{Sexp}
 use Rattle.ff_text.proofs.items.Sexp.TheLaws.{the_size}

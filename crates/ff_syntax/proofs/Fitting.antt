@@ -1,5 +1,5 @@
 -- The item of a value that is well spelled is well spelled.
-use Rattle.std.proofs.Common.{◌≡◌, ◌<◌, ◌≤◌, ◌+◌, ◌&&◌, ℕ, suc, max, Bool, true, false, nat_lt, List, [], ◌∷◌, map, codes, refl, sym, ap, ◌∙◌, subst, arith}
+use Rattle.std.proofs.Common.{◌≡◌, ◌<◌, ◌≤◌, ◌+◌, ℕ, suc, max, Bool, true, false, nat_lt, List, [], ◌∷◌, map, codes, refl, ap, ◌∙◌, subst, arith}
 use Rattle.std.specs.List.{list_all, AllByRecursion}
 use Rattle.std.specs.Str.{IsUtf8}
 use Rattle.std.proofs.lemmas.Bool.{and_from}
@@ -9,7 +9,7 @@ use Rattle.ff_number.specs.Decimal.{num_text}
 use Rattle.ff_name.specs.Address.{printed}
 use Rattle.ff_name.specs.declared.urls.Url.{Url}
 use Rattle.ff_tree.specs.Ops.{word_of}
-use Rattle.ff_tree.specs.Spelled.{IsVar, IsLit, AreParams, IsSpelledDoc, IsSpelledExpr, IsSpelledHandler, IsWellSpelledDoc, IsWellSpelledExpr, handler_spelled, doc_depth, expr_depth, handler_depth, most}
+use Rattle.ff_tree.specs.Spelled.{IsVar, IsLit, IsSpelledDoc, IsSpelledExpr, IsSpelledHandler, IsWellSpelledDoc, IsWellSpelledExpr, handler_spelled, doc_depth, expr_depth, handler_depth, most}
 use Rattle.ff_tree.specs.declared.op.Op.{Op}
 use Rattle.ff_tree.specs.declared.tree.Lit.{Lit}
 use Rattle.ff_tree.specs.declared.tree.Lit.TheVariants as lit
@@ -19,7 +19,7 @@ use Rattle.ff_tree.specs.declared.tree.Expr.{Expr}
 use Rattle.ff_tree.specs.declared.tree.Expr.TheVariants as expr
 use Rattle.ff_tree.specs.declared.tree.Handler.{Handler, out-roll-Handler}
 use Rattle.ff_tree.proofs.Levels.{IsSpelledHandler-out, IsSpelledExpr-Lit, IsSpelledExpr-Var, IsSpelledExpr-Let, IsSpelledExpr-Set, IsSpelledExpr-If, IsSpelledExpr-While, IsSpelledExpr-Do, IsSpelledExpr-And, IsSpelledExpr-Or, IsSpelledExpr-Make, IsSpelledExpr-Apply, IsSpelledExpr-Tree, IsSpelledExpr-Prim, IsSpelledDoc-Text, IsSpelledDoc-Link, IsSpelledDoc-TextBox, IsSpelledDoc-Button, IsSpelledDoc-Script, IsSpelledDoc-Src, IsSpelledDoc-Div}
-use Rattle.ff_value.specs.Spelled.{IsCookieOp, IsSpelledResp, IsWellSpelledResp, resp_depth, cookies_depth}
+use Rattle.ff_value.specs.Spelled.{IsCookieOp, IsWellSpelledResp, cookies_depth}
 use Rattle.ff_value.specs.declared.reply.CookieOp.{CookieOp}
 use Rattle.ff_value.specs.declared.reply.CookieOp.TheVariants as cookie
 use Rattle.ff_value.specs.declared.reply.Resp.{Resp}

@@ -1,21 +1,19 @@
 -- What is spelled is read: the parts of forms, from what they spell.
-use Rattle.std.proofs.Common.{◌≡◌, ◌≢◌, ◌≤◌, ◌+◌, ◌-◌, ◌==◌, ◌&&◌, ◌||◌, ℕ, not, Bool, true, false, nat_le, List, [], ◌∷◌, ◌++◌, map, length, Option, Some, None, ok_or, codes, Result, Ok, Err, cond, refl, sym, ap, ◌∙◌, subst, arith, append_assoc, append-nil}
+use Rattle.std.proofs.Common.{◌≡◌, ◌≢◌, ◌≤◌, ◌-◌, ◌&&◌, ◌||◌, ℕ, not, Bool, true, false, nat_le, List, [], ◌∷◌, ◌++◌, map, length, Option, Some, ok_or, codes, Result, Ok, Err, cond, refl, sym, ap, ◌∙◌, subst, arith, append_assoc, append-nil}
 use Rattle.std.specs.List.{list_any, AllByRecursion}
-use Rattle.std.specs.Char.{is_ascii_digit}
 use Rattle.std.specs.Str.{bytes_eq}
-use Rattle.std.proofs.lemmas.List.{length-map}
-use Rattle.std.proofs.lemmas.Bool.{and_parts, and_from}
+use Rattle.std.proofs.lemmas.Bool.{and_from}
 use Rattle.std.proofs.lemmas.Bool.Decides.{nat_tests}
 use Rattle.std.proofs.lemmas.Slice.Eq.{bytes_eq-Decides}
-use Rattle.ff_name.specs.Spelling.{IsName, is_named, begins_name, stands_in_name}
+use Rattle.ff_name.specs.Spelling.{IsName}
 use Rattle.ff_name.specs.Address.{Spells}
 use Rattle.ff_name.specs.declared.urls.Url.{Url}
 use Rattle.ff_tree.specs.Spelled.{IsVar, AreParams, Differ}
 use Rattle.ff_text.specs.declared.items.Span.{Span}
 use Rattle.ff_text.specs.declared.items.Sexp.{Sexp}
 use Rattle.ff_text.specs.declared.items.Sexp.TheVariants.{Word, Str, List as Parens}
-use Rattle.ff_syntax.specs.Words.{is_name, is_literal, is_variable, looks_like_number, begins_with_digit}
-use Rattle.ff_syntax.specs.Grammar.{Sort, a_name, a_variable, an_address, a_string, a_parameter, a_head, parameters, one_parameter, Value, Placed, Further, further, nothing, Form, form, reading, and_then, each_as, form_as, list_as, headed, parameter_as, parameters_as, any, at_most_16}
+use Rattle.ff_syntax.specs.Words.{is_literal, is_variable}
+use Rattle.ff_syntax.specs.Grammar.{Sort, a_name, a_variable, an_address, a_string, a_parameter, a_head, parameters, one_parameter, Value, Placed, further, nothing, Form, form, reading, and_then, each_as, form_as, list_as, headed, parameters_as, any, at_most_16}
 use Rattle.ff_syntax.specs.Spellings.{AreWords, no_words, a_word}
 use Rattle.ff_syntax.specs.declared.fault.SyntaxFault.{SyntaxFault}
 use Rattle.ff_syntax.specs.declared.fault.SyntaxFault.TheVariants as fault

@@ -1,5 +1,5 @@
 -- The heads of expressions: the language's own forms, and then the operators.
-use Rattle.std.proofs.Common.{◌≡◌, ◌↔◌, ℕ, Bool, true, false, List, [], ◌∷◌, ◌++◌, map, Option, Some, None, find, cond, refl, sym, ap, ◌∙◌, subst}
+use Rattle.std.proofs.Common.{◌≡◌, ◌↔◌, ℕ, Bool, true, false, List, [], ◌∷◌, ◌++◌, map, Option, Some, None, find, cond, refl, ap}
 use Rattle.std.specs.Str.{bytes_eq}
 use Rattle.ff_tree.specs.Ops.{word_of}
 use Rattle.ff_tree.specs.declared.op.Op.{Op}

@@ -12,7 +12,7 @@ use Rattle.ff_tree.specs.declared.tree.Expr.{Expr}
 use Rattle.ff_tree.specs.declared.tree.Handler.{Handler}
 use Rattle.ff_tree.specs.declared.tree.Doc.TheVariants as doc
 use Rattle.ff_tree.specs.declared.tree.Expr.TheVariants as expr
-use Rattle.ff_tree.specs.declared.tree.Doc.TheOpen.{Doc-F, Expr-F, Handler-F}
+use Rattle.ff_tree.specs.declared.tree.Doc.TheOpen.{Doc-F, Expr-F}
 use Rattle.ff_tree.specs.declared.tree.Doc.TheViews.{roll-Doc, roll-Expr, roll-Handler}
 use Rattle.ff_tree.specs.declared.tree.Doc.TheFolds.{fold-roll-Doc, fold-roll-Expr, fold-roll-Handler}
 use Rattle.ff_value.specs.declared.output.Seen.{Seen}

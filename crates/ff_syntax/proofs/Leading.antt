@@ -1,11 +1,11 @@
 -- What heads a list, and what a list answers from its head and its form.
-use Rattle.std.proofs.Common.{◌≡◌, ℕ, List, ◌∷◌, map, Option, Some, ok_or, cond, Result, Ok, Err, refl, sym, ap, ◌∙◌, subst}
+use Rattle.std.proofs.Common.{◌≡◌, ℕ, List, Option, ok_or, cond, Result, Ok, Err, sym, ap, ◌∙◌}
 use Rattle.std.specs.List.{list_any}
 use Rattle.std.specs.Str.{bytes_eq}
 use Rattle.ff_text.specs.declared.items.Span.{Span}
 use Rattle.ff_text.specs.declared.items.Sexp.{Sexp}
 use Rattle.ff_text.specs.declared.items.Sexp.TheVariants as sexp
-use Rattle.ff_syntax.specs.Grammar.{Placed, Form, a_head, a_parameter, reading, and_then, headed, head_as, parameter_as, word_as}
+use Rattle.ff_syntax.specs.Grammar.{Placed, a_head, a_parameter, reading, and_then, headed, head_as, parameter_as, word_as}
 use Rattle.ff_syntax.specs.declared.fault.SyntaxFault.{SyntaxFault}
 use Rattle.ff_syntax.specs.declared.fault.SyntaxFault.TheVariants as fault
 use Rattle.ff_syntax.proofs.Layers.{word_layer, string_layer, list_layer}

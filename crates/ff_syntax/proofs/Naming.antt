@@ -1,10 +1,10 @@
 -- Which words are read as names and as variables.
-use Rattle.std.proofs.Common.{◌≡◌, ◌≤◌, ℕ, ◌&&◌, not, Bool, true, false, List, length, Ok, Err, refl, sym, ap, ◌∙◌, arith, nat_le}
+use Rattle.std.proofs.Common.{◌≡◌, ◌≤◌, ℕ, Bool, true, false, List, length, Ok, Err, refl, arith, nat_le}
 use Rattle.std.proofs.lemmas.Bool.{and_parts, and_from}
 use Rattle.std.proofs.lemmas.Bool.Decides.{nat_tests}
 use Rattle.ff_name.specs.Spelling.{IsName, is_named}
-use Rattle.ff_syntax.specs.Words.{is_name, is_variable, is_literal}
-use Rattle.ff_syntax.specs.Grammar.{word_as, a_name, a_variable}
+use Rattle.ff_syntax.specs.Words.{is_name}
+use Rattle.ff_syntax.specs.Grammar.{word_as, a_name}
 use Rattle.ff_syntax.specs.declared.fault.SyntaxFault.TheVariants as fault
 
 pub is_name-from : (word : List ℕ) → IsName word → is_name word ≡ true

@@ -1,5 +1,5 @@
 -- Which words are read as numbers.
-use Rattle.std.proofs.Common.{◌≡◌, ◌<◌, ◌+◌, ◌^◌, ◌==◌, ◌&&◌, ◌↔◌, ℕ, ℤ, pos, negsuc, neg_ℤ, suc, nat_lt, Bool, true, false, List, [], ◌∷◌, Option, Some, None, IfSome, ok_or, Ok, cond, FitsSigned, refl, sym, ap, ◌∙◌, subst, arith}
+use Rattle.std.proofs.Common.{◌≡◌, ◌<◌, ◌^◌, ◌==◌, ◌&&◌, ◌↔◌, ℕ, ℤ, pos, negsuc, neg_ℤ, suc, Bool, true, false, List, ◌∷◌, Option, Some, None, IfSome, ok_or, Ok, cond, FitsSigned, refl, sym, ap, ◌∙◌, subst, arith}
 use Rattle.std.specs.Int.{w64}
 use Rattle.std.specs.Char.{is_ascii_digit}
 use Rattle.std.specs.Str.{bytes_eq}

@@ -1,7 +1,6 @@
 -- What is spelled stands in one line: no byte of it is a newline.
-use Rattle.std.proofs.Common.{◌≡◌, ◌≢◌, ◌<◌, ◌≤◌, ◌&&◌, ◌==◌, ℕ, suc, not, Bool, true, false, nat_lt, List, [], ◌∷◌, ◌++◌, length, map, codes, refl, ap, sym, ◌∙◌, subst, arith}
+use Rattle.std.proofs.Common.{◌≡◌, ◌≢◌, ◌==◌, ℕ, suc, not, Bool, true, nat_lt, List, [], ◌∷◌, ◌++◌, map, codes, refl, ap, sym, ◌∙◌, subst, arith}
 use Rattle.std.specs.List.{All, AllByRecursion, list_all, flat_map, join_with_byte}
-use Rattle.std.specs.Str.{IsUtf8, is_utf8}
 use Rattle.std.proofs.lemmas.Bool.{and_parts, and_from}
 use Rattle.std.proofs.lemmas.Bool.Decides.{nat_tests}
 use Rattle.std.proofs.lemmas.List.Folds.{list_all-append}
@@ -21,7 +20,7 @@ use Rattle.ff_text.specs.declared.items.Sexp.TheViews.{roll-Sexp}
 use Rattle.ff_text.specs.declared.items.Sexp.TheFolds.{fold-Sexp, fold-roll-Sexp}
 use Rattle.ff_text.proofs.Back.{value_spelled}
 use Rattle.ff_text.proofs.Layers.{Each as EachItem, items_ind, spelled-Word, spelled-Str, spelled-List, fits_at-Word, fits_at-List}
-use Rattle.ff_value.specs.Spelled.{IsSpelledSeen, IsSpelledPair, seen_spelled}
+use Rattle.ff_value.specs.Spelled.{IsSpelledSeen, seen_spelled}
 use Rattle.ff_value.specs.declared.output.Pair.{Pair}
 use Rattle.ff_value.specs.declared.output.Seen.{Seen}
 use Rattle.ff_value.specs.declared.output.Seen.TheVariants as seen

@@ -1,11 +1,11 @@
 -- Whatever has the content of a value's item spells the value, wherever it stands.
-use Rattle.std.proofs.Common.{◌≡◌, ◌≤◌, ℕ, ℤ, Bool, true, false, List, [], ◌∷◌, map, length, codes, Ok, refl, sym, ap, ◌∙◌, subst}
+use Rattle.std.proofs.Common.{◌≡◌, ℕ, true, false, List, [], ◌∷◌, map, codes, sym, ap, ◌∙◌, subst}
 use Rattle.std.specs.List.{AllByRecursion}
 use Rattle.ff_number.specs.Decimal.{num_text}
 use Rattle.ff_name.specs.Address.{printed, as_printed}
 use Rattle.ff_name.specs.declared.urls.Url.{Url}
 use Rattle.ff_tree.specs.Ops.{word_of}
-use Rattle.ff_tree.specs.Spelled.{IsVar, IsLit, AreParams, IsSpelledDoc, IsSpelledExpr, IsSpelledHandler, handler_spelled}
+use Rattle.ff_tree.specs.Spelled.{IsVar, IsLit, IsSpelledDoc, IsSpelledExpr, IsSpelledHandler, handler_spelled}
 use Rattle.ff_tree.specs.declared.op.Op.{Op}
 use Rattle.ff_tree.specs.declared.tree.Lit.{Lit}
 use Rattle.ff_tree.specs.declared.tree.Lit.TheVariants as lit
@@ -13,7 +13,7 @@ use Rattle.ff_tree.specs.declared.tree.Doc.{Doc}
 use Rattle.ff_tree.specs.declared.tree.Doc.TheVariants as doc
 use Rattle.ff_tree.specs.declared.tree.Expr.{Expr}
 use Rattle.ff_tree.specs.declared.tree.Expr.TheVariants as expr
-use Rattle.ff_tree.specs.declared.tree.Handler.{Handler, roll-Handler, out-roll-Handler}
+use Rattle.ff_tree.specs.declared.tree.Handler.{Handler, out-roll-Handler}
 use Rattle.ff_tree.proofs.Levels.{IsSpelledHandler-out, IsSpelledExpr-Lit, IsSpelledExpr-Var, IsSpelledExpr-Let, IsSpelledExpr-Set, IsSpelledExpr-If, IsSpelledExpr-While, IsSpelledExpr-Do, IsSpelledExpr-And, IsSpelledExpr-Or, IsSpelledExpr-Make, IsSpelledExpr-Apply, IsSpelledExpr-Tree, IsSpelledExpr-Prim, IsSpelledDoc-Text, IsSpelledDoc-Link, IsSpelledDoc-TextBox, IsSpelledDoc-Button, IsSpelledDoc-Script, IsSpelledDoc-Src, IsSpelledDoc-Div}
 use Rattle.ff_value.specs.Spelled.{IsSpelledResp}
 use Rattle.ff_value.specs.declared.reply.CookieOp.{CookieOp}
@@ -24,7 +24,7 @@ use Rattle.ff_text.specs.Printed.{bare}
 use Rattle.ff_text.specs.declared.items.Span.{Span}
 use Rattle.ff_text.specs.declared.items.Sexp.{Sexp}
 use Rattle.ff_text.specs.declared.items.Sexp.TheVariants.{Word, Str, List as Parens}
-use Rattle.ff_syntax.specs.Canonical.{word, string, parens, address, lit_item, expr_item, handler_item, doc_item, cookie_item, cookies_item, resp_item}
+use Rattle.ff_syntax.specs.Canonical.{word, string, parens, address, lit_item, expr_item, handler_item, doc_item, cookie_item, resp_item}
 use Rattle.ff_syntax.specs.Grammar.{handler}
 use Rattle.ff_syntax.specs.Spellings.{AreWords, no_words, a_word, SpellsDoc, a_text, a_link, a_text_box, a_button, a_script, a_source, a_division, SpellsDocs, no_docs, one_more_doc, SpellsHandler, a_handler_list, SpellsHandlers, no_handlers, one_more_handler, SpellsExpr, a_null, a_true, a_false, a_number, a_text_literal, a_name_of_variable, a_let, a_set, an_if, a_while, a_do, an_and, an_or, a_function, a_call, a_tree, an_operation, SpellsExprs, no_exprs, one_more_expr, SpellsCookie, a_put, a_drop, SpellsCookies, no_cookies, one_more_cookie, SpellsResp, a_page, a_script_sent, some_data}
 use Rattle.ff_syntax.proofs.Bare.{word_item, string_item, list_item, cut, none}

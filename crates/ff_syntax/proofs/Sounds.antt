@@ -1,9 +1,8 @@
 -- What is read is spelled.
-use Rattle.std.proofs.Common.{◌≡◌, ◌≤◌, ◌==◌, ◌||◌, ℕ, suc, Bool, true, false, List, [], ◌∷◌, map, length, Option, ok_or, codes, Result, Ok, Err, cond, refl, sym, ap, ◌∙◌, subst, arith}
+use Rattle.std.proofs.Common.{◌≡◌, ◌≤◌, ◌==◌, ℕ, suc, Bool, true, false, List, [], ◌∷◌, map, length, ok_or, codes, Ok, cond, refl, sym, ap, ◌∙◌, subst, arith}
 use Rattle.std.specs.Str.{bytes_eq}
 use Rattle.std.proofs.lemmas.Bool.Decides.{nat_tests}
 use Rattle.std.proofs.lemmas.Slice.Eq.{bytes_eq-Decides}
-use Rattle.ff_number.specs.Decimal.{num_text}
 use Rattle.ff_tree.specs.Ops.{arity_of}
 use Rattle.ff_tree.specs.declared.tree.Lit.TheVariants as lit
 use Rattle.ff_tree.specs.declared.tree.Doc.{Doc}
@@ -31,12 +30,10 @@ use Rattle.ff_syntax.specs.declared.heads.RespHead.{RespHead}
 use Rattle.ff_syntax.specs.declared.heads.RespHead.TheVariants as resp_head
 use Rattle.ff_syntax.specs.declared.heads.CookieHead.{CookieHead}
 use Rattle.ff_syntax.specs.declared.heads.CookieHead.TheVariants as cookie_head
-use Rattle.ff_syntax.specs.declared.fault.SyntaxFault.{SyntaxFault}
 use Rattle.ff_syntax.specs.declared.fault.SyntaxFault.TheVariants as fault
 use Rattle.ff_syntax.proofs.Layers.{reading-Word, reading-Str, reading-List}
 use Rattle.ff_syntax.proofs.Numbering.{number_spelled}
-use Rattle.ff_syntax.proofs.Given.{or_parts}
-use Rattle.ff_syntax.proofs.Backs.{came_from, passed, some_from, ok_value, err_value, err_of, IsVar-from_tests, IsOne, is_word, is_string, is_list, item_cases, IsWordThat, name_back, variable_back, address_back, IsString, string_back, IsListThat, parameters_back, one_parameter_back, ListBack, list_back, one_back, two_back, three_back, all_back, and_all_back, two_all_back}
+use Rattle.ff_syntax.proofs.Backs.{came_from, passed, some_from, ok_value, err_value, IsVar-from_tests, IsOne, is_word, is_string, is_list, item_cases, name_back, variable_back, address_back, string_back, IsListThat, parameters_back, one_parameter_back, list_back, one_back, two_back, three_back, all_back, and_all_back, two_all_back}
 
 -- what is read of an item as a document, an expression and a handler is spelled there
 record AllSpelled (item : Sexp) : Type 0 where

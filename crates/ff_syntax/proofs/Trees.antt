@@ -1,5 +1,5 @@
 -- Induction over documents, expressions and handlers together, and over what the user sees.
-use Rattle.std.proofs.Common.{◌≡◌, ℕ, Bool, List, [], ◌∷◌, map, subst}
+use Rattle.std.proofs.Common.{ℕ, List, [], ◌∷◌, map, subst}
 use denote.Hole.Carrier
 use denote.Hole.Holds.{Such}
 use Rattle.ff_name.specs.declared.urls.Url.{Url}
@@ -13,7 +13,7 @@ use Rattle.ff_tree.specs.declared.tree.Expr.TheVariants as expr
 use Rattle.ff_tree.specs.declared.tree.Doc.TheBlock.{the_family, member-Doc, member-Expr, member-Handler}
 use Rattle.ff_tree.specs.declared.tree.Doc.TheOpen.{Doc-F, Expr-F, Handler-F}
 use Rattle.ff_tree.specs.declared.tree.Doc.TheViews.{roll-Doc, roll-Expr, roll-Handler}
-use Rattle.ff_tree.specs.declared.tree.Doc.TheFolds.{ind-Doc, ind-Expr, ind-Handler, claims, map-Doc, map-Expr, map-Handler}
+use Rattle.ff_tree.specs.declared.tree.Doc.TheFolds.{ind-Doc, ind-Expr, claims, map-Doc, map-Expr, map-Handler}
 
 -- the fact holds of each
 abbrev pub Each : {X : Type 0} → (X → Type 0) → List X → Type 0

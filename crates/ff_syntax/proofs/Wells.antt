@@ -1,24 +1,20 @@
 -- What a well spelled item spells is well spelled.
-use Rattle.std.proofs.Common.{◌≡◌, ◌≤◌, ◌<◌, ◌+◌, ◌&&◌, ℕ, suc, max, Bool, true, false, nat_lt, List, [], ◌∷◌, map, length, codes, Result, Ok, Err, IfOk, refl, sym, ap, ◌∙◌, subst, arith, IsTrue}
+use Rattle.std.proofs.Common.{◌≡◌, ◌≤◌, ◌<◌, ◌+◌, ℕ, suc, Bool, true, false, nat_lt, List, [], ◌∷◌, map, codes, refl, sym, ap, ◌∙◌, subst, arith}
 use Rattle.std.specs.List.{list_all, AllByRecursion}
 use Rattle.std.specs.Str.{IsUtf8}
 use Rattle.std.proofs.lemmas.Bool.{and_parts}
 use Rattle.std.proofs.lemmas.Bool.Decides.{nat_tests}
 use Rattle.std.proofs.lemmas.Str.{IsUtf8-from_is_utf8}
-use Rattle.ff_name.specs.Spelling.{IsName}
 use Rattle.ff_name.specs.Address.{IsWellSpelled as IsWellSpelledUrl, Spells, as_printed, with_no_request}
 use Rattle.ff_name.specs.declared.urls.Url.{Url}
-use Rattle.ff_tree.specs.Spelled.{IsVar, AreParams, IsSpelledDoc, IsSpelledExpr, IsSpelledHandler, IsWellSpelledDoc, IsWellSpelledExpr, doc_depth, expr_depth, handler_depth, most, handler_spelled}
+use Rattle.ff_tree.specs.Spelled.{IsVar, IsSpelledDoc, IsSpelledExpr, IsSpelledHandler, IsWellSpelledDoc, IsWellSpelledExpr, doc_depth, expr_depth, handler_depth, most, handler_spelled}
 use Rattle.ff_tree.specs.Ops.{word_of}
 use Rattle.ff_tree.specs.declared.tree.Lit.TheVariants as lit
 use Rattle.ff_tree.specs.declared.tree.Doc.{Doc}
-use Rattle.ff_tree.specs.declared.tree.Doc.TheVariants as doc
 use Rattle.ff_tree.specs.declared.tree.Expr.{Expr}
-use Rattle.ff_tree.specs.declared.tree.Expr.TheVariants as expr
-use Rattle.ff_tree.specs.declared.tree.Handler.{Handler, roll-Handler, out-roll-Handler}
-use Rattle.ff_tree.specs.declared.tree.Doc.TheOpen.{Handler-F}
+use Rattle.ff_tree.specs.declared.tree.Handler.{Handler, out-roll-Handler}
 use Rattle.ff_tree.proofs.Levels.{IsSpelledHandler-out, IsSpelledExpr-Lit, IsSpelledExpr-Var, IsSpelledExpr-Let, IsSpelledExpr-Set, IsSpelledExpr-If, IsSpelledExpr-While, IsSpelledExpr-Do, IsSpelledExpr-And, IsSpelledExpr-Or, IsSpelledExpr-Make, IsSpelledExpr-Apply, IsSpelledExpr-Tree, IsSpelledExpr-Prim, IsSpelledDoc-Text, IsSpelledDoc-Link, IsSpelledDoc-TextBox, IsSpelledDoc-Button, IsSpelledDoc-Script, IsSpelledDoc-Src, IsSpelledDoc-Div}
-use Rattle.ff_value.specs.Spelled.{IsCookieOp, IsSpelledResp, IsWellSpelledResp, resp_depth, cookies_depth}
+use Rattle.ff_value.specs.Spelled.{IsCookieOp, IsWellSpelledResp, cookies_depth}
 use Rattle.ff_value.specs.declared.reply.CookieOp.{CookieOp}
 use Rattle.ff_value.specs.declared.reply.Resp.{Resp}
 use Rattle.ff_text.specs.declared.items.Span.{Span}
@@ -28,7 +24,6 @@ use Rattle.ff_text.specs.Printed.{fits_at, IsWellSpelled}
 use Rattle.ff_text.proofs.Layers.{fits_at-Str, fits_at-List}
 use Rattle.ff_syntax.specs.Grammar.{handler}
 use Rattle.ff_syntax.specs.Spellings.{SpellsDoc, a_text, a_link, a_text_box, a_button, a_script, a_source, a_division, SpellsDocs, no_docs, one_more_doc, SpellsHandler, a_handler_list, SpellsHandlers, no_handlers, one_more_handler, SpellsExpr, a_null, a_true, a_false, a_number, a_text_literal, a_name_of_variable, a_let, a_set, an_if, a_while, a_do, an_and, an_or, a_function, a_call, a_tree, an_operation, SpellsExprs, no_exprs, one_more_expr, SpellsCookie, a_put, a_drop, SpellsCookies, no_cookies, one_more_cookie, SpellsResp, a_page, a_script_sent, some_data}
-use Rattle.ff_syntax.specs.declared.fault.SyntaxFault.{SyntaxFault}
 use Rattle.ff_syntax.proofs.Depths as depth
 
 -- each of the items fits where it stands in so many lists

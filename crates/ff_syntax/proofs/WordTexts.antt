@@ -1,5 +1,5 @@
 -- Names, addresses, numbers and the words of operators are words.
-use Rattle.std.proofs.Common.{◌≡◌, ◌≢◌, ◌<◌, ◌&&◌, ◌==◌, ℕ, ℤ, Bool, true, false, List, [], ◌∷◌, ◌++◌, length, FitsSigned, refl, ap, sym, ◌∙◌, arith, IsTrue}
+use Rattle.std.proofs.Common.{◌≡◌, ◌<◌, ℕ, ℤ, Bool, true, List, [], ◌∷◌, length, FitsSigned, refl, ap, ◌∙◌, arith}
 use Rattle.std.specs.Int.{w64}
 use Rattle.std.specs.List.{list_all, join_with_byte}
 use Rattle.std.proofs.lemmas.Bool.{and_parts, and_from}
@@ -7,8 +7,8 @@ use Rattle.std.proofs.lemmas.Bool.Decides.{nat_tests}
 use Rattle.std.proofs.lemmas.List.Folds.{list_all-append}
 use Rattle.ff_number.specs.Decimal.{num_text}
 use Rattle.ff_number.proofs.Texts.{stands_in_number, stands-num_text, some-num_text}
-use Rattle.ff_name.specs.Spelling.{IsName, IsDomain, is_named, begins_name, stands_in_name, stands_in_label, is_label}
-use Rattle.ff_name.specs.Address.{IsWellSpelled, printed, scheme, stands_in_request}
+use Rattle.ff_name.specs.Spelling.{IsName, begins_name, stands_in_name, stands_in_label, is_label}
+use Rattle.ff_name.specs.Address.{IsWellSpelled, printed, stands_in_request}
 use Rattle.ff_name.specs.declared.urls.Url.{Url}
 use Rattle.ff_name.specs.declared.urls.Url.TheVariants.{Blank, At}
 use Rattle.ff_tree.specs.Ops.{word_of}

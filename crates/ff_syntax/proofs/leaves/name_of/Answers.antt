@@ -1,6 +1,6 @@
 use Rattle.std.proofs.Common.{sym, inl}
 use Rattle.ff_syntax.specs.Grammar.{a_name}
-use Rattle.ff_syntax.proofs.Layers.{word_layer, string_layer, list_layer, word_gives, list_gives}
+use Rattle.ff_syntax.proofs.Layers.{string_layer, list_layer, word_gives}
 use Rattle.ff_syntax.proofs.leaves.name_of.Goals as goal
 
 pub returns-in-Word : goal.returns-in-Word

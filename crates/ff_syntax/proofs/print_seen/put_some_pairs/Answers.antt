@@ -1,4 +1,4 @@
-use Rattle.std.proofs.Common.{◌∷◌, [], map}
+use Rattle.std.proofs.Common.{[], map}
 use Rattle.ff_syntax.specs.Canonical.{pair_item}
 use Rattle.ff_syntax.proofs.Printing.{then, opened, ended}
 use Rattle.ff_syntax.proofs.print_seen.put_some_pairs.Goals as goal

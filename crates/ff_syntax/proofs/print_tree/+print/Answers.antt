@@ -1,7 +1,7 @@
 use Rattle.std.proofs.Common.{◌≡◌, ◌∷◌, [], ap, sym, ◌∙◌, map}
 use Rattle.ff_text.specs.Printed.{spelled}
 use Rattle.ff_tree.specs.declared.tree.Expr.TheVariants as expr
-use Rattle.ff_syntax.specs.Canonical.{word, string, parens, address, doc_item, expr_item, handler_item}
+use Rattle.ff_syntax.specs.Canonical.{word, string, parens, doc_item, expr_item, handler_item}
 use Rattle.ff_syntax.proofs.Printing.{then, listed, listed_first, as_item, ended, one_more, blank_then, prints_item, spelled-word}
 use Rattle.ff_syntax.proofs.Items.{expr_item-Var, expr_item-If, expr_item-While, expr_item-And, expr_item-Or, expr_item-Apply}
 use Rattle.ff_syntax.proofs.print_tree.+print.Goals as goal
