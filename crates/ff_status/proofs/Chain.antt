@@ -1,7 +1,5 @@
 -- The answers of a function that puts one text after another, and stops at the first failure.
-use Rattle.std.proofs.Common.{◌≡◌, ◌<◌, ◌+◌, ℕ, List, [], ◌∷◌, ◌++◌, Option, Result, Ok, Err, OnOk, OnErr, length, take, drop, get_or, refl, sym, ap, ◌∙◌, append-nil, flat_map}
-use Rattle.std.proofs.lemmas.List.{take_more, take-append-drop}
-use Rattle.std.proofs.lemmas.List.Concat.{flat_map-append}
+use Rattle.std.proofs.Common.{◌≡◌, ℕ, List, [], ◌∷◌, ◌++◌, Option, Result, Ok, Err, OnOk, OnErr, refl, flat_map}
 use Rattle.ff_text.specs.Printed.{quoted, spelled_byte}
 use Rattle.ff_status.specs.Putting.{Puts, Stops}
 use Rattle.ff_status.proofs.Sending.{puts_both, stops_first, stops_second}
@@ -33,14 +31,3 @@ failed (Err e) p = p
 pub quoted-is : (value : List ℕ) → quoted value ≡ 34 ∷ (flat_map spelled_byte value ++ 34 ∷ [])
 unfolding quoted
 quoted-is value = refl
-
--- the bytes before a place, the byte there, and the rest
-pub value_cut : (value : List ℕ) (i d : ℕ) → i < length value
-    → flat_map spelled_byte value ≡ (flat_map spelled_byte (take i value) ++ spelled_byte (get_or value i d)) ++ flat_map spelled_byte (drop (i + 1) value)
-value_cut value i d inside =
-    ap (flat_map spelled_byte) (sym (take-append-drop (i + 1) value))
-    ∙ flat_map-append spelled_byte (take (i + 1) value) (drop (i + 1) value)
-    ∙ ap (λ l. l ++ flat_map spelled_byte (drop (i + 1) value))
-    (ap (flat_map spelled_byte) (take_more value i d inside)
-    ∙ flat_map-append spelled_byte (take i value) (get_or value i d ∷ [])
-    ∙ ap (λ l. flat_map spelled_byte (take i value) ++ l) (append-nil (spelled_byte (get_or value i d))))

@@ -1,3 +1,4 @@
 pub mod Chain
 pub mod Lines
+pub mod Runs
 pub mod Sending

@@ -1,5 +1,5 @@
 //! Pieces of a line, put one after another.
-ghost use Rattle.std.specs.Prelude.{◌≡◌, ◌<◌, ◌++◌, flat_map, length, OnOk, OnErr};
+ghost use Rattle.std.specs.Prelude.{◌≡◌, ◌≢◌, ◌<◌, ◌≤◌, ◌+◌, ◌↔◌, [], ◌∷◌, ◌++◌, flat_map, get_or, length, take, IsTrue, IfOk, OnOk, OnErr};
 ghost use Rattle.ff_number.specs.Decimal.{nat_text};
 ghost use Rattle.ff_text.specs.Notation as notation;
 ghost use Rattle.ff_text.specs.Printed.{quoted, spelled_byte};
@@ -82,15 +82,55 @@ fn put_string<E: Sink>(text: &[u8], err: &mut E) -> Result<(), Failed>
     put(b"\"", err)
 }
 
-/// Puts what stands for a string's value between its marks.
+/// Puts what stands for a string's value between its marks. Each longest run of bytes that stand for themselves is one
+/// piece, so that no character of a text is cut.
 fn put_value<E: Sink>(text: &[u8], err: &mut E) -> Result<(), Failed>
     ensures ok { OnOk result (Puts (E.put err.old) (E.put err.new) (E.faults err.old) (E.faults err.new) (flat_map spelled_byte text.now)) }
     ensures stopped { OnErr result (Stops (E.put err.old) (E.put err.new) (E.faults err.old) (E.faults err.new) (flat_map spelled_byte text.now)) }
 {
-    for b in text {
-        put_byte(*b, err)?;
+    let mut rest = text;
+    while !rest.is_empty() {
+        let n = put_run(rest, err)?;
+        rest = &rest[n..];
     }
     Ok(())
+}
+
+/// Puts the bytes at the front that stand for themselves, as one piece, and what stands for the byte after them, if there
+/// is one. Answers how many bytes of the value were put.
+fn put_run<E: Sink>(text: &[u8], err: &mut E) -> Result<usize, Failed>
+    ensures ok { IfOk result (λ n. Puts (E.put err.old) (E.put err.new) (E.faults err.old) (E.faults err.new) (flat_map spelled_byte (take n text.now))) }
+    ensures bound { IfOk result (λ n. n ≤ length text.now) }
+    ensures some { IfOk result (λ n. 0 < length text.now → 0 < n) }
+    ensures stopped { OnErr result (Stops (E.put err.old) (E.put err.new) (E.faults err.old) (E.faults err.new) (flat_map spelled_byte text.now)) }
+{
+    let n = plain_front(text);
+    put(&text[..n], err)?;
+    if n == text.len() {
+        return Ok(n);
+    }
+    put_byte(text[n], err)?;
+    Ok(n + 1)
+}
+
+/// How many bytes at the front stand for themselves.
+fn plain_front(text: &[u8]) -> usize
+    ensures bound { result ≤ length text.now }
+    ensures plain { flat_map spelled_byte (take result text.now) ≡ take result text.now }
+    ensures longest { result < length text.now → spelled_byte (get_or text.now result 0) ≢ get_or text.now result 0 ∷ [] }
+{
+    let mut n = 0;
+    while n < text.len() && is_plain(text[n]) {
+        n += 1;
+    }
+    n
+}
+
+/// Whether a byte of a string's value stands for itself: each but the mark, the backslash and the control bytes.
+fn is_plain(b: u8) -> bool
+    ensures { IsTrue result ↔ (spelled_byte b ≡ b ∷ []) }
+{
+    b != b'"' && b != b'\\' && !b.is_ascii_control()
 }
 
 /// Puts what stands for a byte of a string's value.

@@ -1,5 +1,5 @@
 use crate::{Status, TraceFault};
-use ff_io::MemSink;
+use ff_io::{Failed, MemSink, Sink};
 use ff_lattice::LatticeFault;
 use ff_name::{NoMemory, Text};
 use ff_policy::PolicyFault;
@@ -7,6 +7,7 @@ use ff_syntax::SyntaxFault;
 use ff_text::TextFault;
 use ff_trace::LineFault;
 use std::alloc::Global;
+use std::str;
 
 /// Whether the status has this number and puts this line.
 fn reports(alloc: Global, status: &Status, number: u8, line: &str) -> bool {
@@ -227,5 +228,43 @@ fn each_write_fails(rt: HostRuntime) -> Result<(), NoMemory> {
     ] {
         assert_eq!(rt; front_of(alloc, bad, &status, line)?, Some(want), "{bad}");
     }
+    Ok(())
+}
+
+/// A sink that takes text alone, as the real error stream: a piece that is no UTF-8 by itself is a fault.
+#[derive(Debug, Drop)]
+struct TextSink {
+    bytes: u64,
+    faults: u64,
+}
+
+impl Sink for TextSink {
+    ghost use Rattle.std.specs.Prelude.{None};
+
+    ghost put = { λ _. None };
+
+    ghost faults = { λ sink. sink.faults };
+
+    fn write(&mut self, piece: &[u8]) -> Result<usize, Failed> {
+        if str::from_utf8(piece).is_err() {
+            self.faults = self.faults.saturating_add(1);
+            return Err(Failed);
+        }
+        self.bytes = self.bytes.saturating_add(piece.len() as u64);
+        Ok(piece.len())
+    }
+}
+
+#[test]
+fn characters_are_not_cut(rt: HostRuntime) -> Result<(), NoMemory> {
+    let name = text(rt.alloc(), "é\n\"é")?;
+    let status = Status::Policy(PolicyFault::UnknownField(name));
+    let line = "ffox: policy: unknown field \"é\\n\\\"é\"\n";
+    let mut sink = TextSink {
+        bytes: 0,
+        faults: 0,
+    };
+    status.report(&mut sink);
+    assert_eq!(rt; (sink.faults, sink.bytes), (0, line.len() as u64));
     Ok(())
 }

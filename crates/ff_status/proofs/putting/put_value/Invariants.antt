@@ -1,7 +1,9 @@
-use Rattle.std.proofs.Common.{take, flat_map}
-use Rattle.ff_text.specs.Printed.{spelled_byte}
-use Rattle.ff_status.specs.Putting.{Puts}
+use Rattle.std.proofs.Common.{length}
+use Rattle.ff_status.proofs.Runs.{SpelledSoFar}
 use Rattle.ff_status.proofs.putting.put_value.Given as goal
 
-abbrev pub invariant-loop-b : goal.invariant-loop-b
-invariant-loop-b g l = Puts (g.E.Sink.put l.fn.err) (g.E.Sink.put l.err) (g.E.Sink.faults l.fn.err) (g.E.Sink.faults l.err) (flat_map spelled_byte (take l.b-index l.text))
+abbrev pub invariant-loop-rest : goal.invariant-loop-rest
+invariant-loop-rest g l = SpelledSoFar (g.E.Sink.put l.fn.err) (g.E.Sink.put l.err) (g.E.Sink.faults l.fn.err) (g.E.Sink.faults l.err) l.text l.rest
+
+abbrev pub decreases-loop-rest : goal.decreases-loop-rest
+decreases-loop-rest g l = length l.rest

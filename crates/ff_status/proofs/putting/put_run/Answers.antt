@@ -1,0 +1,14 @@
+use Rattle.std.proofs.Common.{arith}
+use Rattle.ff_status.proofs.Chain.{failed}
+use Rattle.ff_status.proofs.Runs.{run_stops, byte_stops}
+use Rattle.ff_status.proofs.putting.put_run.Goals as goal
+
+pub returns-in_err-put-clause-stopped : goal.returns-in_err-put-clause-stopped
+returns-in_err-put-clause-stopped g c =
+    failed c.from_residual.result (run_stops c.args.text.now c.plain_front-n.result c.plain_front-n.ensures.plain c.in_err-put.ensures.stopped)
+
+pub returns-in_err-put_byte-clause-stopped : goal.returns-in_err-put_byte-clause-stopped
+returns-in_err-put_byte-clause-stopped g c =
+    failed c.from_residual-in_err-put_byte.result
+    (byte_stops c.args.text.now c.plain_front-n.result 0 (omega (arith, c.if-n-text.false, c.plain_front-n.ensures.bound)) c.plain_front-n.ensures.plain
+    c.in_ok-put.ensures.ok c.in_err-put_byte.ensures.stopped)
