@@ -66,9 +66,10 @@ number_back text n e = go (is_number text) refl e where
   go : (t : Bool) → is_number text ≡ t → cond t (Some (digits_value 10 text)) None ≡ Some n → (n < 2 ^ 32) × (text ≡ nat_text n)
   go true is f =
       let parts = and_parts (nat_lt (digits_value 10 text) 4294967296) (bytes_eq (nat_text (digits_value 10 text)) text) is in
-      let same : digits_value 10 text ≡ n = cc in
-      (subst (λ m. m < 2 ^ 32) same (small_from (digits_value 10 text) parts.0),
-      sym ((bytes_eq-Decides (nat_text (digits_value 10 text)) text).0 parts.1) ∙ ap nat_text same)
+      let same : digits_value 10 text ≡ n = cc in (
+        subst (λ m. m < 2 ^ 32) same (small_from (digits_value 10 text) parts.0),
+        sym ((bytes_eq-Decides (nat_text (digits_value 10 text)) text).0 parts.1) ∙ ap nat_text same,
+      )
   go false is f = cc
 
 -- bytes are a number exactly where they are its canonical spelling

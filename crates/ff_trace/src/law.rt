@@ -16,16 +16,14 @@ ghost use Rattle.ff_trace.specs.Printed.{in_key_order, key_below};
 /// A line is read in one way: its bytes determine the input, that there is none, or the fault.
 pub fn a_line_is_read_in_one_way()
     ensures { (order : Order) (line : List ℕ) (one other : Result (Option Input) LineFault) → ReadsLine order line one → ReadsLine order line other → one ≡ other }
-{
-}
+{}
 
 /// A part is a number, an address or a domain exactly where it is spelled as one.
 pub fn what_is_spelled_is_a_part()
     ensures numbers { (text : List ℕ) (n : ℕ) → (number_of text ≡ Some n) ↔ ((n < 2 ^ 32) × (text ≡ nat_text n)) }
     ensures addresses { (text : List ℕ) (url : Url) → (address_of text ≡ Some url) ↔ Spells text url }
     ensures domains { (text domain : List ℕ) → (domain_of text ≡ Some domain) ↔ (IsDomain text × (domain ≡ text)) }
-{
-}
+{}
 
 /// The pairs that are printed are those that were given, each as often, in byte order of their keys.
 /// Those with the same key stay in the order that they had, and so do pairs that were in order.
@@ -34,5 +32,4 @@ pub fn pairs_are_put_in_order()
     ensures ordered { (pairs : List Pair) → IsSortedBy key_below (in_key_order pairs) }
     ensures stable { (pairs : List Pair) → IsStableBy key_below pairs (in_key_order pairs) }
     ensures kept { (pairs : List Pair) → IsSortedBy key_below pairs → in_key_order pairs ≡ pairs }
-{
-}
+{}
