@@ -192,15 +192,15 @@ fn sent(alloc: Global) -> Result<Out, NoMemory> {
     }
 }
 
-fn prints_as(alloc: Global, lattice: &Lattice, one: &Out, want: &[u8]) -> Result<bool, NoMemory> {
+fn prints_as(alloc: Global, one: &Out, want: &[u8]) -> Result<bool, NoMemory> {
+    let lattice = Lattice::two(alloc)?;
     let mut out = Vec::new(alloc);
-    print_out(Level(0), lattice, one, &mut out)?;
+    print_out(Level(0), &lattice, one, &mut out)?;
     Ok(out.as_slice() == want)
 }
 
 #[test]
 fn outputs(rt: HostRuntime) -> Result<(), NoMemory> {
-    let lattice = Lattice::two(rt.alloc())?;
     let cases: [(Out, &[u8]); 5] = [
         (Out::Opened, b"L opened\n"),
         (Out::Closed(7), b"L closed 7\n"),
@@ -212,35 +212,32 @@ fn outputs(rt: HostRuntime) -> Result<(), NoMemory> {
         (Out::Stopped, b"L stopped\n"),
     ];
     for (one, want) in cases {
-        assert!(rt; prints_as(rt.alloc(), &lattice, &one, want)?, "{want:?}");
+        assert!(rt; prints_as(rt.alloc(), &one, want)?, "{want:?}");
     }
     Ok(())
 }
 
 #[test]
 fn a_page_that_was_loaded(rt: HostRuntime) -> Result<(), NoMemory> {
-    let lattice = Lattice::two(rt.alloc())?;
     let one = Out::Loaded(1, Url::Blank, shown(rt.alloc())?);
     let want =
         b"L loaded 1 about:blank (page (link about:blank \"l\") (button \"ok\") (div (text \"a\\nb\") (box \"\")))\n";
-    assert!(rt; prints_as(rt.alloc(), &lattice, &one, want)?);
+    assert!(rt; prints_as(rt.alloc(), &one, want)?);
     Ok(())
 }
 
 #[test]
 fn a_page_that_was_changed(rt: HostRuntime) -> Result<(), NoMemory> {
-    let lattice = Lattice::two(rt.alloc())?;
     let one = Out::Updated(0, Shown::from_vec(rt.alloc(), Vec::new(rt.alloc()))?);
-    assert!(rt; prints_as(rt.alloc(), &lattice, &one, b"L updated 0 (page)\n")?);
+    assert!(rt; prints_as(rt.alloc(), &one, b"L updated 0 (page)\n")?);
     Ok(())
 }
 
 #[test]
 fn a_request_with_cookies_in_order(rt: HostRuntime) -> Result<(), NoMemory> {
-    let lattice = Lattice::two(rt.alloc())?;
     let one = sent(rt.alloc())?;
     let want =
         b"L send a.com \"/x\" ((\"\" \"v\") (\"a\" \"v\") (\"ab\" \"v\") (\"b\" \"v\")) \"\\\"\"\n";
-    assert!(rt; prints_as(rt.alloc(), &lattice, &one, want)?);
+    assert!(rt; prints_as(rt.alloc(), &one, want)?);
     Ok(())
 }
