@@ -103,6 +103,20 @@ fn failing_read(alloc: Global, trace: &[u8], number: u64) -> Result<MemPort, All
     Ok(MemPort::new(alloc, pieces, bad_reads, Vec::new(alloc), 65_536))
 }
 
+/// Whether a command under a policy ends with this number, and puts and reports just this.
+fn ends_with(
+    alloc: Global,
+    all: &[&str],
+    file: &str,
+    trace: &[u8],
+    number: u8,
+    text: &[u8],
+    line: &[u8],
+) -> Result<bool, AllocError> {
+    let ended = ends(alloc, all, file, whole(alloc, trace)?)?;
+    Ok(ended.number == number && ended.put.as_slice() == text && ended.reported.as_slice() == line)
+}
+
 /// A trace under `multi -`, what it gives, the number it ends with, and its line on the error sink.
 const OPEN_LINES: [(&str, &str, u8, &str); 12] = [
     ("", "", 0, ""),
@@ -149,18 +163,24 @@ const OPEN_LINES: [(&str, &str, u8, &str); 12] = [
     ("open ftp://a.com/\n", "", 4, "ffox: line 1: bad address\n"),
 ];
 
+/// Whether a trace under `multi -` ends as told.
+fn open_line(alloc: Global, told: (&str, &str, u8, &str)) -> Result<bool, AllocError> {
+    let (trace, text, number, line) = told;
+    ends_with(
+        alloc,
+        &["multi", "-"],
+        "",
+        trace.as_bytes(),
+        number,
+        text.as_bytes(),
+        line.as_bytes(),
+    )
+}
+
 #[test]
 fn open_lines(rt: HostRuntime) -> Result<(), Fail> {
-    for (trace, text, number, line) in OPEN_LINES {
-        let ended = ends(
-            rt.alloc(),
-            &["multi", "-"],
-            "",
-            whole(rt.alloc(), trace.as_bytes())?,
-        )?;
-        assert_eq!(rt; ended.number, number, "{trace}");
-        assert_eq!(rt; ended.put.as_slice(), text.as_bytes());
-        assert_eq!(rt; ended.reported.as_slice(), line.as_bytes());
+    for told in OPEN_LINES {
+        assert!(rt; open_line(rt.alloc(), told)?);
     }
     Ok(())
 }
@@ -311,18 +331,27 @@ const COMMANDS: [(&str, &str, &str, &str, &str, u8, &str); 14] = [
     ),
 ];
 
+/// Whether a command ends as told.
+fn command(
+    alloc: Global,
+    told: (&str, &str, &str, &str, &str, u8, &str),
+) -> Result<bool, AllocError> {
+    let (word, name, file, trace, text, number, line) = told;
+    ends_with(
+        alloc,
+        &[word, name],
+        file,
+        trace.as_bytes(),
+        number,
+        text.as_bytes(),
+        line.as_bytes(),
+    )
+}
+
 #[test]
 fn commands(rt: HostRuntime) -> Result<(), Fail> {
-    for (command, name, file, trace, text, number, line) in COMMANDS {
-        let ended = ends(
-            rt.alloc(),
-            &[command, name],
-            file,
-            whole(rt.alloc(), trace.as_bytes())?,
-        )?;
-        assert_eq!(rt; ended.number, number, "{command} {name} {file}");
-        assert_eq!(rt; ended.put.as_slice(), text.as_bytes());
-        assert_eq!(rt; ended.reported.as_slice(), line.as_bytes());
+    for told in COMMANDS {
+        assert!(rt; command(rt.alloc(), told)?);
     }
     Ok(())
 }
@@ -330,26 +359,29 @@ fn commands(rt: HostRuntime) -> Result<(), Fail> {
 const USAGE: &[u8] =
     b"ffox: usage: multi POLICY [SLICE] | plain POLICY | check POLICY | fmt POLICY | gen START N\n";
 
+/// Whether these words are usage, and nothing is read.
+fn is_usage(alloc: Global, all: &[&str]) -> Result<bool, AllocError> {
+    let ended = ends(alloc, all, "", whole(alloc, b"open about:blank\n")?)?;
+    Ok(
+        ended.number == 2
+            && ended.got == 0
+            && ended.put.is_empty()
+            && ended.reported.as_slice() == USAGE,
+    )
+}
+
 #[test]
 fn other_words_are_usage(rt: HostRuntime) -> Result<(), Fail> {
-    let lists: [&[&str]; 7] = [
+    let lists: [&[&str]; 6] = [
         &[],
         &["multi"],
         &["multi", ""],
         &["multi", "-", "0"],
         &["plain", "-"],
         &["Check", "-"],
-        &["gen", "0", "1"],
     ];
     for all in lists {
-        let ended = ends(
-            rt.alloc(),
-            all,
-            "",
-            whole(rt.alloc(), b"open about:blank\n")?,
-        )?;
-        assert_eq!(rt; (ended.number, ended.got, ended.put.len()), (2, 0, 0));
-        assert_eq!(rt; ended.reported.as_slice(), USAGE);
+        assert!(rt; is_usage(rt.alloc(), all)?);
     }
     Ok(())
 }
@@ -361,23 +393,22 @@ fn long_comment(alloc: Global, size: usize) -> Result<Vec<u8>, AllocError> {
     Ok(trace)
 }
 
+/// Whether a comment of so many bytes before an open line ends with this number and line.
+fn comment_ends(alloc: Global, size: usize, number: u8, line: &[u8]) -> Result<bool, AllocError> {
+    let trace = long_comment(alloc, size)?;
+    let ended = ends(alloc, &["multi", "-"], "", whole(alloc, trace.as_slice())?)?;
+    Ok(ended.number == number && ended.reported.as_slice() == line)
+}
+
 #[test]
-fn a_line_of_a_mebibyte_and_one_byte_is_too_long(rt: HostRuntime) -> Result<(), Fail> {
-    let cases: [(usize, u8, &[u8]); 2] = [
-        (1_048_576, 0, b""),
-        (1_048_577, 4, b"ffox: line 1: line too long\n"),
-    ];
-    for (size, number, line) in cases {
-        let trace = long_comment(rt.alloc(), size)?;
-        let ended = ends(
-            rt.alloc(),
-            &["multi", "-"],
-            "",
-            whole(rt.alloc(), trace.as_slice())?,
-        )?;
-        assert_eq!(rt; ended.number, number);
-        assert_eq!(rt; ended.reported.as_slice(), line);
-    }
+fn a_line_of_a_mebibyte_is_read(rt: HostRuntime) -> Result<(), Fail> {
+    assert!(rt; comment_ends(rt.alloc(), 1_048_576, 0, b"")?);
+    Ok(())
+}
+
+#[test]
+fn a_line_of_a_byte_more_is_too_long(rt: HostRuntime) -> Result<(), Fail> {
+    assert!(rt; comment_ends(rt.alloc(), 1_048_577, 4, b"ffox: line 1: line too long\n")?);
     Ok(())
 }
 
@@ -395,37 +426,45 @@ fn too_much(alloc: Global) -> Result<Vec<u8>, AllocError> {
 #[test]
 fn the_byte_past_the_limit_is_too_much(rt: HostRuntime) -> Result<(), Fail> {
     let trace = too_much(rt.alloc())?;
-    let ended = ends(
-        rt.alloc(),
-        &["fmt", "-"],
-        "",
-        whole(rt.alloc(), trace.as_slice())?,
-    )?;
-    assert_eq!(rt; ended.number, 4);
-    assert_eq!(rt;
-        ended.reported.as_slice(),
-        b"ffox: line 17: trace too long\n".as_slice()
+    let line = b"ffox: line 17: trace too long\n";
+    assert!(rt;
+        ends_with(
+            rt.alloc(),
+            &["fmt", "-"],
+            "",
+            trace.as_slice(),
+            4,
+            b"",
+            line
+        )?
     );
     Ok(())
 }
 
+/// So many times these bytes.
+fn times(alloc: Global, count: usize, bytes: &[u8]) -> Result<Vec<u8>, AllocError> {
+    let mut all = Vec::new(alloc);
+    for _time in 0..count {
+        all.extend_from_slice(bytes)?;
+    }
+    Ok(all)
+}
+
 #[test]
 fn sixty_five_blank_windows_give_sixty_four_lines(rt: HostRuntime) -> Result<(), Fail> {
-    let mut trace = Vec::new(rt.alloc());
-    let mut text = Vec::new(rt.alloc());
-    for line in 0..65 {
-        trace.extend_from_slice(b"open about:blank\n")?;
-        if line < 64 {
-            text.extend_from_slice(b"H opened\n")?;
-        }
-    }
-    let ended = ends(
-        rt.alloc(),
-        &["multi", "-"],
-        "",
-        whole(rt.alloc(), trace.as_slice())?,
-    )?;
-    assert_eq!(rt; ended.put.as_slice(), text.as_slice());
+    let trace = times(rt.alloc(), 65, b"open about:blank\n")?;
+    let text = times(rt.alloc(), 64, b"H opened\n")?;
+    assert!(rt;
+        ends_with(
+            rt.alloc(),
+            &["multi", "-"],
+            "",
+            trace.as_slice(),
+            0,
+            text.as_slice(),
+            b""
+        )?
+    );
     Ok(())
 }
 
@@ -442,32 +481,41 @@ fn writes_fail(alloc: Global, trace: &[u8], text: &[u8]) -> Result<bool, AllocEr
 }
 
 #[test]
-fn each_write_fails_once(rt: HostRuntime) -> Result<(), Fail> {
-    let sent = b"L send a.com \"/x\" () \"\"\nH opened\n";
+fn each_write_of_a_blank_window_fails_once(rt: HostRuntime) -> Result<(), Fail> {
     assert!(rt; writes_fail(rt.alloc(), b"open about:blank\n", b"H opened\n")?);
-    assert!(rt; writes_fail(rt.alloc(), b"open http://a.com/x\n", sent.as_slice())?);
     Ok(())
+}
+
+#[test]
+fn each_write_of_a_request_fails_once(rt: HostRuntime) -> Result<(), Fail> {
+    let sent = b"L send a.com \"/x\" () \"\"\nH opened\n";
+    assert!(rt; writes_fail(rt.alloc(), b"open http://a.com/x\n", sent)?);
+    Ok(())
+}
+
+/// Whether a blank window's trace over this port ends with this number and line, and nothing is put.
+fn puts_nothing(alloc: Global, port: MemPort, number: u8, line: &[u8]) -> Result<bool, AllocError> {
+    let ended = ends(alloc, &["multi", "-"], "", port)?;
+    Ok(ended.number == number && ended.put.is_empty() && ended.reported.as_slice() == line)
 }
 
 #[test]
 fn open_about_blank_failing_at_its_first_write_writes_nothing(rt: HostRuntime) -> Result<(), Fail> {
     let port = failing_write(rt.alloc(), b"open about:blank\n", 1)?;
-    let ended = ends(rt.alloc(), &["multi", "-"], "", port)?;
-    assert_eq!(rt; (ended.number, ended.put.len()), (6, 0));
-    assert_eq!(rt;
-        ended.reported.as_slice(),
-        b"ffox: write fault\n".as_slice()
-    );
+    assert!(rt; puts_nothing(rt.alloc(), port, 6, b"ffox: write fault\n")?);
     Ok(())
+}
+
+/// Whether the read with this number, byte by byte, ends the run.
+fn read_fails(alloc: Global, number: u64) -> Result<bool, AllocError> {
+    let port = failing_read(alloc, b"open about:blank\n", number)?;
+    puts_nothing(alloc, port, 5, b"ffox: read fault\n")
 }
 
 #[test]
 fn each_read_fails_once(rt: HostRuntime) -> Result<(), Fail> {
     for number in 1..=18 {
-        let port = failing_read(rt.alloc(), b"open about:blank\n", number)?;
-        let ended = ends(rt.alloc(), &["multi", "-"], "", port)?;
-        assert_eq!(rt; (ended.number, ended.put.len()), (5, 0));
-        assert_eq!(rt; ended.reported.as_slice(), b"ffox: read fault\n".as_slice());
+        assert!(rt; read_fails(rt.alloc(), number)?);
     }
     Ok(())
 }
@@ -523,9 +571,19 @@ fn calls(alloc: Global, all: &[&str]) -> Result<(u8, u64, u64), AllocError> {
 }
 
 #[test]
-fn the_shelf_and_the_sink_are_called_where_they_have_a_part(rt: HostRuntime) -> Result<(), Fail> {
-    assert_eq!(rt; calls(rt.alloc(), &["multi", "-"])?, (0, 0, 0));
-    assert_eq!(rt; calls(rt.alloc(), &["multi", "p.json"])?, (7, 1, 1));
-    assert_eq!(rt; calls(rt.alloc(), &[])?, (2, 0, 1));
+fn neither_is_called_for_the_built_in_policy(rt: HostRuntime) -> Result<(), Fail> {
+    assert!(rt; calls(rt.alloc(), &["multi", "-"])? == (0, 0, 0));
+    Ok(())
+}
+
+#[test]
+fn each_is_called_once_for_a_file_that_fails(rt: HostRuntime) -> Result<(), Fail> {
+    assert!(rt; calls(rt.alloc(), &["multi", "p.json"])? == (7, 1, 1));
+    Ok(())
+}
+
+#[test]
+fn the_sink_alone_is_called_for_usage(rt: HostRuntime) -> Result<(), Fail> {
+    assert!(rt; calls(rt.alloc(), &[])? == (2, 0, 1));
     Ok(())
 }
