@@ -1,3 +1,3 @@
+pub mod Holding
 pub mod Address
-pub mod Output
 pub mod Spelling

@@ -8,10 +8,10 @@ use std::alloc::Global;
 use std::marker::Model;
 
 /// The most bytes that a domain may have.
-const MOST_DOMAIN_BYTES: usize = 253;
+pub const MOST_DOMAIN_BYTES: usize = 253;
 
 /// The most bytes that a label may have.
-const MOST_LABEL_BYTES: usize = 63;
+pub const MOST_LABEL_BYTES: usize = 63;
 
 /// A domain: labels joined by dots, at most 253 bytes in all. A label has 1 to 63 lower-case
 /// letters, digits or dashes, and neither begins nor ends with a dash. It is seen as the list of

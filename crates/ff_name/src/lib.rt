@@ -4,6 +4,7 @@
 mod domains;
 mod levels;
 mod names;
+mod short;
 #[cfg(test)]
 mod tests;
 mod texts;

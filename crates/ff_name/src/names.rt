@@ -8,7 +8,7 @@ use std::alloc::Global;
 use std::marker::Model;
 
 /// The most bytes that a name may have.
-const MOST_NAME_BYTES: usize = 64;
+pub const MOST_NAME_BYTES: usize = 64;
 
 /// A name of a variable, a node or a window: a letter of ASCII or `_`, then letters, digits, `_`
 /// or `-`, at most 64 bytes in all. It is seen as the list of its bytes.

@@ -145,9 +145,7 @@ impl Reader {
             from,
             to: self.at + 1,
         };
-        let Ok(parts) = self.items.take(alloc).share(alloc) else {
-            return Err(TextFault::NoMemory);
-        };
+        let parts = self.items.take(alloc).list();
         self.items = before;
         self.at += 1;
         self.put(Sexp::List(span, parts))
@@ -219,12 +217,12 @@ impl Reader {
         requires { self.old.at < 2 ^ 32 - 1 }
         ensures { Makes result self.new (machine.end_str self.old from) }
     {
-        let value = self.value.take(alloc);
-        let text = match Text::of(alloc, value.as_slice()) {
+        let text = match Text::of(alloc, self.value.as_slice()) {
             Ok(Some(text)) => text,
             Ok(None) => return Err(TextFault::BadUtf8(from)),
             Err(_) => return Err(TextFault::NoMemory),
         };
+        self.value.clear();
         self.mode = Mode::Between;
         self.at += 1;
         let span = Span { from, to: self.at };
@@ -290,25 +288,22 @@ impl Reader {
         ensures { Answers result (machine.finish self) }
     {
         match self.mode {
-            Mode::Between => self.end_items(alloc),
+            Mode::Between => self.end_items(),
             Mode::Word(from) => {
                 self.end_word(alloc, from)?;
-                self.end_items(alloc)
+                self.end_items()
             }
             Mode::Str(from) | Mode::Slash(from, _) | Mode::Hex(from, _) | Mode::Digit(from, _, _) =>
                 { Err(TextFault::Unclosed(from)) }
         }
     }
 
-    fn end_items(self, alloc: Global) -> Result<Items, TextFault>
+    fn end_items(self) -> Result<Items, TextFault>
         ensures { Answers result (machine.end_items self) }
     {
         if let Some(opened) = self.opened.top() {
             return Err(TextFault::Unclosed(opened.from));
         }
-        match self.items.share(alloc) {
-            Ok(items) => Ok(items),
-            Err(_) => Err(TextFault::NoMemory),
-        }
+        Ok(self.items.list())
     }
 }

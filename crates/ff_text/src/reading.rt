@@ -44,22 +44,23 @@ fn read_single(alloc: Global, bytes: &[u8]) -> Result<Sexp, TextFault>
     ensures { AnswersOne result (one_in (verdict bytes.now)) }
 {
     match read_whole(alloc, bytes) {
-        Ok(items) => single(&items),
+        Ok(items) => single(items),
         Err(fault) => Err(fault),
     }
 }
 
 /// The one item of a list.
-fn single(items: &Items) -> Result<Sexp, TextFault>
-    ensures { AnswersOne result (one_of items.now) }
+fn single(items: Items) -> Result<Sexp, TextFault>
+    ensures { AnswersOne result (one_of items) }
 {
+    let mut items = items.into_vec();
     match items.as_slice() {
         [] => Err(TextFault::Empty),
-        [item] => match item.copy() {
-            Ok(item) => Ok(item),
-            Err(_) => Err(TextFault::NoMemory),
-        },
         [_, second, ..] => Err(TextFault::Extra(place_of(second))),
+        [_] => match items.pop() {
+            Some(item) => Ok(item),
+            None => unreachable!(),
+        },
     }
 }
 
