@@ -9,9 +9,11 @@ mod short;
 mod tests;
 mod texts;
 mod urls;
+mod worded;
 
 pub use domains::Domain;
 pub use levels::Level;
 pub use names::Name;
 pub use texts::{NoMemory, Text};
 pub use urls::{Url, UrlFault};
+pub use worded::{Worded, by_word};

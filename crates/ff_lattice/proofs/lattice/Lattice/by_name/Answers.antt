@@ -1,4 +1,4 @@
-use Rattle.std.proofs.Common.{rules, ◌≡◌, ◌<◌, ◌∙◌, sym}
+use Rattle.std.proofs.Common.{rules, ◌≡◌, ◌<◌, sym}
 use Rattle.ff_lattice.specs.Order.{size, name, numbered}
 use Rattle.ff_lattice.proofs.Named.{level_found}
 use Rattle.ff_lattice.proofs.lattice.Lattice.by_name.Goals as goal
