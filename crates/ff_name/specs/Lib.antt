@@ -1,3 +1,4 @@
 pub mod Holding
 pub mod Address
 pub mod Spelling
+pub mod Words
