@@ -65,6 +65,14 @@ impl Domain {
         &self.text
     }
 
+    /// The bytes of the domain.
+    pub fn as_bytes(&self) -> &[u8]
+        ensures value { result.now ≡ self.now }
+        ensures domain { IsDomain result.now }
+    {
+        self.text.as_bytes()
+    }
+
     /// An equal domain. It shares the bytes and copies none.
     pub fn copy(&self) -> Result<Domain, NoMemory>
         ensures { IfOk result (λ domain. domain ≡ self.now) }
@@ -76,7 +84,7 @@ impl Domain {
 }
 
 /// Whether these bytes spell a domain.
-pub(crate) fn is_domain(bytes: &[u8]) -> bool
+pub fn is_domain(bytes: &[u8]) -> bool
     ensures { IsTrue result ↔ IsDomain bytes.now }
 {
     bytes.len() <= MOST_DOMAIN_BYTES && has_labels(bytes)

@@ -62,6 +62,13 @@ impl Text {
         Ok(Text { held })
     }
 
+    /// The text of a `str`.
+    pub fn of_str(alloc: Global, text: &str) -> Result<Text, NoMemory>
+        ensures { IfOk result (λ copy. copy ≡ text.now) }
+    {
+        Text::of_utf8(alloc, text.as_bytes())
+    }
+
     /// The bytes of the text.
     pub fn as_bytes(&self) -> &[u8]
         ensures value { result.now ≡ self.now }
@@ -73,8 +80,10 @@ impl Text {
         }
     }
 
-    fn as_str(&self) -> &str
-        ensures { result.now ≡ self.now }
+    /// The text as a `str`.
+    pub fn as_str(&self) -> &str
+        ensures value { result.now ≡ self.now }
+        ensures utf8 { IsUtf8 result.now }
     {
         str_of(self.as_bytes())
     }

@@ -48,7 +48,7 @@ pub enum TextFault {
     /// The value of the string whose opening mark is at this place is not UTF-8.
     #[error("bad UTF-8 at {0}")]
     BadUtf8(u32),
-    /// The `(` at this place would open a 65th level.
+    /// The `(` at this place would open one list more than may stand in one another.
     #[error("too deep at {0}")]
     TooDeep(u32),
     /// There was no memory for the items.
