@@ -1,3 +1,4 @@
 pub mod Addresses
 pub mod Ascii
 pub mod Labels
+pub mod Reading

@@ -1,3 +1,4 @@
+pub mod Holding
 pub mod Address
-pub mod Output
+pub mod Reading
 pub mod Spelling

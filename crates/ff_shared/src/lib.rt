@@ -6,11 +6,13 @@
 #![tactic(auto)]
 
 mod list;
+mod owned;
 mod single;
 #[cfg(test)]
 mod tests;
 
 pub use list::SharedList;
+pub use owned::OwnedList;
 pub use single::Shared;
 use std::alloc::AllocError;
 

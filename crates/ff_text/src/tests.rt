@@ -64,12 +64,12 @@ fn items_and_faults(rt: HostRuntime) -> Result<(), NoMemory> {
 }
 
 /// The fault of so many lists in one another.
-fn fault_of_levels(alloc: Global, levels: u32) -> Result<Option<TextFault>, NoMemory> {
+fn fault_of_nested(alloc: Global, count: u32) -> Result<Option<TextFault>, NoMemory> {
     let mut text = Vec::new(alloc);
-    for _ in 0..levels {
+    for _ in 0..count {
         text.push(b'(')?;
     }
-    for _ in 0..levels {
+    for _ in 0..count {
         text.push(b')')?;
     }
     if text.len() > 1000 {
@@ -80,8 +80,8 @@ fn fault_of_levels(alloc: Global, levels: u32) -> Result<Option<TextFault>, NoMe
 
 #[test]
 fn the_deepest_list(rt: HostRuntime) -> Result<(), NoMemory> {
-    for (levels, want) in [(64, None), (65, Some(TextFault::TooDeep(64)))] {
-        assert_eq!(rt; fault_of_levels(rt.alloc(), levels)?, want, "{levels}");
+    for (count, want) in [(64, None), (65, Some(TextFault::TooDeep(64)))] {
+        assert_eq!(rt; fault_of_nested(rt.alloc(), count)?, want, "{count}");
     }
     Ok(())
 }

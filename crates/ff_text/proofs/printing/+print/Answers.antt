@@ -1,4 +1,4 @@
-use Rattle.std.proofs.Common.{◌≡◌, ◌∙◌, sym, ap, ◌+◌, ℕ, List, ◌∷◌, ◌++◌, [], take, get_or, refl, append-nil, append_assoc}
+use Rattle.std.proofs.Common.{◌∙◌, sym, ap, ◌+◌, List, ◌∷◌, ◌++◌, [], take, get_or, append-nil, append_assoc}
 use Rattle.ff_text.specs.declared.items.Sexp.{Sexp}
 use Rattle.ff_text.specs.Printed.{spelled, blank_before}
 use Rattle.ff_text.proofs.Layers.{spelled-Word, spelled-List}

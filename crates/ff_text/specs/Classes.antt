@@ -1,21 +1,21 @@
 -- How the reader sorts bytes.
 use Rattle.std.specs.Prelude.{◌-◌, ◌+◌, ℕ, ◌||◌, ◌&&◌, ◌==◌, nat_le, if◌then◌else◌, Option, Some, None}
 use Rattle.std.specs.Char.{is_ascii_graphic, is_ascii_control, is_ascii_digit}
-use Rattle.ff_text.specs.declared.bytes.Kind.{Kind}
-use Rattle.ff_text.specs.declared.bytes.Kind.TheVariants as kind
+use Rattle.ff_text.specs.declared.bytes.Class.{Class}
+use Rattle.ff_text.specs.declared.bytes.Class.TheVariants as class
 use Rattle.ff_text.specs.declared.bytes.InStr.{InStr}
 use Rattle.ff_text.specs.declared.bytes.InStr.TheVariants as str
 use Rattle.ff_text.specs.declared.bytes.Slashed.{Slashed}
 use Rattle.ff_text.specs.declared.bytes.Slashed.TheVariants as slashed
 
-unfoldable pub kind_of : ℕ → Kind
-kind_of b =
-    if b == 32 then kind.Blank
-    else if b == 40 then kind.Open
-    else if b == 41 then kind.Close
-    else if b == 34 then kind.Quote
-    else if is_ascii_graphic b then kind.InWord
-    else kind.Stray
+unfoldable pub class_of : ℕ → Class
+class_of b =
+    if b == 32 then class.Blank
+    else if b == 40 then class.Open
+    else if b == 41 then class.Close
+    else if b == 34 then class.Quote
+    else if is_ascii_graphic b then class.InWord
+    else class.Stray
 
 unfoldable pub in_str_of : ℕ → InStr
 in_str_of b =

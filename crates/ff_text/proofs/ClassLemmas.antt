@@ -1,69 +1,69 @@
--- Which bytes are of which kind.
+-- Which bytes are of which class.
 use Rattle.std.proofs.Common.{◌≡◌, ◌≢◌, ◌<◌, ℕ, true, false, Some, arith}
 use Rattle.std.specs.Char.{is_ascii_graphic, is_ascii_control}
 use Rattle.std.proofs.lemmas.Bool.Decides.{nat_tests}
-use Rattle.ff_text.specs.declared.bytes.Kind.{Kind}
-use Rattle.ff_text.specs.declared.bytes.Kind.TheVariants as kind
+use Rattle.ff_text.specs.declared.bytes.Class.{Class}
+use Rattle.ff_text.specs.declared.bytes.Class.TheVariants as class
 use Rattle.ff_text.specs.declared.bytes.InStr.{InStr}
 use Rattle.ff_text.specs.declared.bytes.InStr.TheVariants as str
 use Rattle.ff_text.specs.declared.bytes.Slashed.TheVariants as slashed
 use Rattle.ff_text.specs.Bytes.{is_word_byte}
-use Rattle.ff_text.specs.Kinds.{kind_of, in_str_of, slashed_of, high_digit, low_digit}
+use Rattle.ff_text.specs.Classes.{class_of, in_str_of, slashed_of, high_digit, low_digit}
 use Rattle.ff_text.specs.Notation.{hex_digit, IsPlain}
 use Rattle.ff_text.specs.Faults.{IsStray}
 
-pub kind_of-word : (b : ℕ) → is_word_byte b ≡ true → kind_of b ≡ kind.InWord
-unfolding kind_of
-kind_of-word b h = grind (arith, nat_tests)
+pub class_of-word : (b : ℕ) → is_word_byte b ≡ true → class_of b ≡ class.InWord
+unfolding class_of
+class_of-word b h = grind (arith, nat_tests)
 
-pub kind_of-stray : (b : ℕ) → IsStray b → kind_of b ≡ kind.Stray
-unfolding kind_of
-kind_of-stray b h = grind (arith, nat_tests)
+pub class_of-stray : (b : ℕ) → IsStray b → class_of b ≡ class.Stray
+unfolding class_of
+class_of-stray b h = grind (arith, nat_tests)
 
-abbrev pub KindFact : ℕ → Kind → Type 0
-KindFact b kind.Blank = b ≡ 32
-KindFact b kind.Open = b ≡ 40
-KindFact b kind.Close = b ≡ 41
-KindFact b kind.Quote = b ≡ 34
-KindFact b kind.InWord = is_word_byte b ≡ true
-KindFact b kind.Stray = IsStray b
+abbrev pub ClassFact : ℕ → Class → Type 0
+ClassFact b class.Blank = b ≡ 32
+ClassFact b class.Open = b ≡ 40
+ClassFact b class.Close = b ≡ 41
+ClassFact b class.Quote = b ≡ 34
+ClassFact b class.InWord = is_word_byte b ≡ true
+ClassFact b class.Stray = IsStray b
 
-kind_blank : (b : ℕ) → kind_of b ≡ kind.Blank → b ≡ 32
-unfolding kind_of
-kind_blank b h = grind (arith, nat_tests)
+class_blank : (b : ℕ) → class_of b ≡ class.Blank → b ≡ 32
+unfolding class_of
+class_blank b h = grind (arith, nat_tests)
 
-kind_open : (b : ℕ) → kind_of b ≡ kind.Open → b ≡ 40
-unfolding kind_of
-kind_open b h = grind (arith, nat_tests)
+class_open : (b : ℕ) → class_of b ≡ class.Open → b ≡ 40
+unfolding class_of
+class_open b h = grind (arith, nat_tests)
 
-kind_close : (b : ℕ) → kind_of b ≡ kind.Close → b ≡ 41
-unfolding kind_of
-kind_close b h = grind (arith, nat_tests)
+class_close : (b : ℕ) → class_of b ≡ class.Close → b ≡ 41
+unfolding class_of
+class_close b h = grind (arith, nat_tests)
 
-kind_quote : (b : ℕ) → kind_of b ≡ kind.Quote → b ≡ 34
-unfolding kind_of
-kind_quote b h = grind (arith, nat_tests)
+class_quote : (b : ℕ) → class_of b ≡ class.Quote → b ≡ 34
+unfolding class_of
+class_quote b h = grind (arith, nat_tests)
 
-kind_word : (b : ℕ) → kind_of b ≡ kind.InWord → is_word_byte b ≡ true
-unfolding kind_of
-kind_word b h = grind (arith, nat_tests)
+class_word : (b : ℕ) → class_of b ≡ class.InWord → is_word_byte b ≡ true
+unfolding class_of
+class_word b h = grind (arith, nat_tests)
 
-kind_no_blank : (b : ℕ) → kind_of b ≡ kind.Stray → b ≢ 32
-unfolding kind_of
-kind_no_blank b h = grind (arith, nat_tests)
+class_no_blank : (b : ℕ) → class_of b ≡ class.Stray → b ≢ 32
+unfolding class_of
+class_no_blank b h = grind (arith, nat_tests)
 
-kind_no_graphic : (b : ℕ) → kind_of b ≡ kind.Stray → is_ascii_graphic b ≡ false
-unfolding kind_of
-kind_no_graphic b h = grind (arith, nat_tests)
+class_no_graphic : (b : ℕ) → class_of b ≡ class.Stray → is_ascii_graphic b ≡ false
+unfolding class_of
+class_no_graphic b h = grind (arith, nat_tests)
 
--- what a byte's kind says of it
-pub kind_fact : (b : ℕ) (k : Kind) → kind_of b ≡ k → KindFact b k
-kind_fact b kind.Blank h = kind_blank b h
-kind_fact b kind.Open h = kind_open b h
-kind_fact b kind.Close h = kind_close b h
-kind_fact b kind.Quote h = kind_quote b h
-kind_fact b kind.InWord h = kind_word b h
-kind_fact b kind.Stray h = record { no_blank = kind_no_blank b h; no_graphic = kind_no_graphic b h }
+-- what a byte's class says of it
+pub class_fact : (b : ℕ) (k : Class) → class_of b ≡ k → ClassFact b k
+class_fact b class.Blank h = class_blank b h
+class_fact b class.Open h = class_open b h
+class_fact b class.Close h = class_close b h
+class_fact b class.Quote h = class_quote b h
+class_fact b class.InWord h = class_word b h
+class_fact b class.Stray h = record { no_blank = class_no_blank b h; no_graphic = class_no_graphic b h }
 
 pub in_str_of-plain : (b : ℕ) → b ≢ 34 → b ≢ 92 → is_ascii_control b ≡ false → in_str_of b ≡ str.Plain
 unfolding in_str_of
@@ -103,7 +103,7 @@ StrFact b str.Backslash = b ≡ 92
 StrFact b str.Control = is_ascii_control b ≡ true
 StrFact b str.Plain = IsPlain b
 
--- what the kind of a byte in a string says of it
+-- what the class of a byte in a string says of it
 pub str_fact : (b : ℕ) (k : InStr) → in_str_of b ≡ k → StrFact b k
 str_fact b str.Mark h = str_mark b h
 str_fact b str.Backslash h = str_backslash b h
