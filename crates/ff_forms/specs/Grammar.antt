@@ -104,16 +104,7 @@ any n = true
 abbrev pub at_most_16 : ℕ → Bool
 at_most_16 n = nat_le n 16
 
--- THE TABLES: the word of each form, and the form
-
-abbrev pub doc_word : DocHead → List ℕ
-doc_word doc_head.Text = codes "text"
-doc_word doc_head.Link = codes "link"
-doc_word doc_head.TextBox = codes "box"
-doc_word doc_head.Button = codes "button"
-doc_word doc_head.Script = codes "script"
-doc_word doc_head.Src = codes "src"
-doc_word doc_head.Div = codes "div"
+-- THE TABLES: the form that begins with each head
 
 abbrev pub doc_form : DocHead → Form Doc
 doc_form doc_head.Text = form (a_name ∷ a_string ∷ []) nothing doc.Text
@@ -123,19 +114,6 @@ doc_form doc_head.Button = form (a_name ∷ a_string ∷ []) (further at_most_16
 doc_form doc_head.Script = form (a_name ∷ an_expression ∷ []) nothing doc.Script
 doc_form doc_head.Src = form (a_name ∷ an_address ∷ []) nothing doc.Src
 doc_form doc_head.Div = form (a_name ∷ []) (further any a_document) doc.Div
-
-abbrev pub expr_word : ExprHead → List ℕ
-expr_word expr_head.Let = codes "let"
-expr_word expr_head.Set = codes "set"
-expr_word expr_head.If = codes "if"
-expr_word expr_head.While = codes "while"
-expr_word expr_head.Do = codes "do"
-expr_word expr_head.And = codes "and"
-expr_word expr_head.Or = codes "or"
-expr_word expr_head.Make = codes "fn"
-expr_word expr_head.Apply = codes "call"
-expr_word expr_head.Tree = codes "new"
-expr_word (expr_head.Prim o) = word_of o
 
 abbrev pub expr_form : ExprHead → Form Expr
 expr_form expr_head.Let = form (a_variable ∷ an_expression ∷ []) nothing expr.Let
@@ -150,19 +128,10 @@ expr_form expr_head.Apply = form (an_expression ∷ []) (further any an_expressi
 expr_form expr_head.Tree = form (a_document ∷ []) nothing expr.Tree
 expr_form (expr_head.Prim o) = form [] (further (λ n. n == arity_of o) an_expression) (expr.Prim o)
 
-abbrev pub resp_word : RespHead → List ℕ
-resp_word resp_head.Page = codes "doc"
-resp_word resp_head.Script = codes "script"
-resp_word resp_head.Data = codes "data"
-
 abbrev pub resp_form : RespHead → Form Resp
 resp_form resp_head.Page = form (cookies ∷ []) (further any a_document) resp.Page
 resp_form resp_head.Script = form (cookies ∷ an_expression ∷ []) nothing resp.Script
 resp_form resp_head.Data = form (cookies ∷ a_string ∷ []) nothing resp.Data
-
-abbrev pub cookie_word : CookieHead → List ℕ
-cookie_word cookie_head.Put = codes "set"
-cookie_word cookie_head.Drop = codes "del"
 
 abbrev pub cookie_form : CookieHead → Form CookieOp
 cookie_form cookie_head.Put = form (a_string ∷ a_string ∷ []) nothing cookie.Put
@@ -173,36 +142,6 @@ handler param body = roll-Handler (record { param = param; body = body })
 
 abbrev pub handler_form : Form Handler
 handler_form = form (one_parameter ∷ an_expression ∷ []) nothing handler
-
--- The words at each position, and the form whose word it is there.
-
-abbrev pub doc_heads : List DocHead
-doc_heads = doc_head.Text ∷ doc_head.Link ∷ doc_head.TextBox ∷ doc_head.Button ∷ doc_head.Script ∷ doc_head.Src ∷ doc_head.Div ∷ []
-
-abbrev pub operators : List Op
-operators =
-    op.Add ∷ op.Sub ∷ op.Mul ∷ op.Div ∷ op.Rem ∷ op.Less ∷ op.AtMost ∷ op.Equal ∷ op.Not ∷ op.Cat ∷ op.Len ∷ op.Byte ∷ op.Cut ∷ op.Str ∷ op.Num
-    ∷ op.Cookie ∷ op.SetCookie ∷ op.DelCookie ∷ op.SelfWindow ∷ op.Opener ∷ op.Live ∷ op.Url ∷ op.Page ∷ op.Window ∷ op.Open ∷ op.OpenNamed
-    ∷ op.Go ∷ op.Close ∷ op.Kind ∷ op.Text ∷ op.SetText ∷ op.Count ∷ op.Child ∷ op.Find ∷ op.Nth ∷ op.Insert ∷ op.Listen ∷ op.Ask ∷ []
-
-abbrev pub own_heads : List ExprHead
-own_heads =
-    expr_head.Let ∷ expr_head.Set ∷ expr_head.If ∷ expr_head.While ∷ expr_head.Do ∷ expr_head.And ∷ expr_head.Or ∷ expr_head.Make ∷ expr_head.Apply ∷ expr_head.Tree ∷ []
-
-abbrev pub operator_heads : List ExprHead
-operator_heads = map expr_head.Prim operators
-
-abbrev pub expr_heads : List ExprHead
-expr_heads = own_heads ++ operator_heads
-
-abbrev pub resp_heads : List RespHead
-resp_heads = resp_head.Page ∷ resp_head.Script ∷ resp_head.Data ∷ []
-
-abbrev pub cookie_heads : List CookieHead
-cookie_heads = cookie_head.Put ∷ cookie_head.Drop ∷ []
-
-abbrev pub headed : {H : Type 0} → (H → List ℕ) → List H → List ℕ → Option H
-headed word_at heads word = find (λ head. bytes_eq (word_at head) word) heads
 
 -- HOW THE TABLES ARE READ
 
@@ -244,13 +183,6 @@ head_as word_at heads first = and_then (first a_head) (λ placed. ok_or (headed 
 abbrev pub list_as : {H X : Type 0} → (H → List ℕ) → List H → (H → Form X) → ℕ → List Reading → Result X SyntaxFault
 list_as word_at heads form_at at [] = Err (fault.Head at)
 list_as word_at heads form_at at (first ∷ parts) = and_then (head_as word_at heads first) (λ head. form_as at (form_at head) parts)
-
--- a handler's list has one head
-abbrev pub handler_word : Unit {0} → List ℕ
-handler_word head = codes "fn"
-
-abbrev pub handler_heads : List (Unit {0})
-handler_heads = tt ∷ []
 
 abbrev pub handler_as : ℕ → List Reading → Result Handler SyntaxFault
 handler_as = list_as handler_word handler_heads (λ head. handler_form)
