@@ -2,7 +2,7 @@ ghost use Rattle.std.specs.Prelude.{◌≡◌, ◌≢◌, ℕ, ◌<◌, ◌≤�
 ghost use Rattle.ff_lattice.specs.Bounds.{IsLattice, IsJoin, IsMeet};
 ghost use Rattle.ff_lattice.specs.LevelSet.{levels_where};
 ghost use Rattle.ff_lattice.specs.Levels.{AreApart, AreLevels, Reaches, IsFault, IsLatticeOf};
-ghost use Rattle.ff_lattice.specs.Order.{Order, size, leq, name, join, meet, bottom, top, two, AtOrBelow, IsOrder};
+ghost use Rattle.ff_lattice.specs.Order.{Order, size, leq, name, level_named, join, meet, bottom, top, two, AtOrBelow, IsTag, IsOrder};
 
 use crate::bounds::{check_order, join_in};
 use crate::names::{check_names, distinct_names};
@@ -161,13 +161,18 @@ impl Lattice {
     /// The name of the level `l`.
     pub fn name(&self, l: Level) -> &Text
         requires { l.0 < size self.now }
-        ensures { result.now ≡ name self.now l.0 }
+        ensures value { result.now ≡ name self.now l.0 }
+        ensures valid { IsOrder self.now }
     {
         &self.names[l.0 as usize]
     }
 
     /// The level of this name, or `None` where no level has it.
+    #[tactic(auto, using(crate::proofs::Named::no_level_found))]
     pub fn by_name(&self, bytes: &[u8]) -> Option<Level>
+        ensures value { result ≡ level_named self.now bytes.now }
+        ensures valid { IsOrder self.now }
+        ensures within { IsTag self.now result }
         ensures found { IfSome result (λ l. (l.0 < size self.now) × (name self.now l.0 ≡ bytes.now)) }
         ensures none { IfNone result ((l : ℕ) → l < size self.now → name self.now l ≢ bytes.now) }
     {

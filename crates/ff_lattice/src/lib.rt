@@ -14,6 +14,7 @@ mod tests;
 pub use fault::LatticeFault;
 pub use lattice::Lattice;
 pub use level_set::LevelSet;
+pub use names::{MOST_LEVELS, MOST_NAME_BYTES};
 pub use pair::Pair;
 use std::alloc::AllocError;
 

@@ -11,7 +11,10 @@ use indexmap::IndexSet;
 use std::alloc::Global;
 
 /// The most levels that a lattice has.
-const MOST_LEVELS: usize = 16;
+pub const MOST_LEVELS: usize = 16;
+
+/// The most bytes that a level's name has.
+pub const MOST_NAME_BYTES: usize = 32;
 
 /// Whether a byte may stand after the first letter of a level's name.
 fn stands_in_level_name(byte: u8) -> bool
@@ -34,7 +37,9 @@ fn is_level_name(bytes: &[u8]) -> bool
     match bytes.split_first() {
         None => false,
         Some((first, rest)) => {
-            first.is_ascii_alphabetic() && all_stand_in_level_name(rest) && rest.len() <= 31
+            first.is_ascii_alphabetic()
+                && all_stand_in_level_name(rest)
+                && rest.len() < MOST_NAME_BYTES
         }
     }
 }

@@ -1,6 +1,5 @@
-use crate::op::ALL;
 use crate::{Body, Doc, Expr, Exprs, Handler, Lit, Op, weight_doc, weight_expr};
-use ff_name::{Name, NoMemory, Text};
+use ff_name::{Name, NoMemory, Text, Worded, by_word};
 use ff_shared::{Shared, SharedList};
 use std::alloc::{AllocError, Global};
 
@@ -63,12 +62,8 @@ fn nested(alloc: Global, levels: usize) -> Result<Doc, NoMemory> {
 
 #[test]
 fn each_word_is_that_of_one_operator(rt: HostRuntime) {
-    for op in ALL {
-        assert!(rt;
-            Op::by_word(op.word().as_bytes()) == Some(op),
-            "{}",
-            op.word()
-        );
+    for op in Op::all() {
+        assert!(rt; by_word(op.word().as_bytes()) == Some(*op), "{}", op.word());
     }
 }
 

@@ -1,0 +1,14 @@
+pub mod Addressing
+pub mod Backs
+pub mod Completes
+pub mod Each
+pub mod Falling
+pub mod Given
+pub mod Layers
+pub mod Leading
+pub mod Naming
+pub mod Numbering
+pub mod Results
+pub mod Shapes
+pub mod Sounds
+pub mod Wells
