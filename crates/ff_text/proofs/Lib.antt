@@ -8,6 +8,7 @@ pub mod Layers
 pub mod Meeting
 pub mod NoEscape
 pub mod Room
+pub mod Runs
 pub mod Sound
 pub mod Spelled
 pub mod Standing

@@ -1,6 +1,5 @@
 -- A byte takes the reader one place on.
-use Rattle.std.proofs.Common.{◌≡◌, ◌<◌, ◌≤◌, ◌+◌, ℕ, Bool, true, false, nat_lt, Result, Ok, Err, Option, Some, None, List, [], ◌∷◌, length, take, drop, get_or, refl, sym, ◌∙◌, ap, subst}
-use Rattle.std.proofs.lemmas.List.{take_more, take_all, take-append-drop}
+use Rattle.std.proofs.Common.{◌≡◌, ◌+◌, ℕ, Bool, true, false, nat_lt, Result, Ok, Err, Option, Some, None, List, [], ◌∷◌, length, refl}
 use Rattle.std.specs.Str.{is_utf8}
 use Rattle.ff_text.specs.declared.items.TextFault.{TextFault}
 use Rattle.ff_text.specs.declared.bytes.Class.{Class}
@@ -14,9 +13,8 @@ use Rattle.ff_text.specs.declared.reader.Opened.{Opened}
 use Rattle.ff_text.specs.declared.reader.Mode.{Mode}
 use Rattle.ff_text.specs.declared.reader.Mode.TheVariants as mode
 use Rattle.ff_text.specs.Classes.{class_of, in_str_of, slashed_of, high_digit, low_digit}
-use Rattle.ff_text.specs.Machine.{HasDigit, advance, start, finish, verdict, verdict_of, step, step_in, outside_class, open_list, list_closed, in_word_class, word_ended, in_str_class, end_str, slashed_class, high_taken, low_taken}
+use Rattle.ff_text.specs.Machine.{HasDigit, step, step_in, outside_class, open_list, list_closed, in_word_class, word_ended, in_str_class, end_str, slashed_class, high_taken, low_taken}
 use Rattle.ff_text.proofs.ClassLemmas.{high_small}
-use Rattle.ff_text.proofs.Standing.{advance-none, advance-more, advance-append, advance-err}
 use Rattle.ff_text.specs.declared.reader.TheConstants.{MOST_DEPTH}
 
 -- one place on, with a first digit below 8 where there is one
@@ -82,32 +80,3 @@ step_in_grows (mode.Digit from slash high) r b digit = low_grows (low_digit b) r
 pub step_grows : (r : Reader) (b : ℕ) → HasDigit r.mode → Grows r.at (step r b)
 unfolding step
 step_grows r b digit = step_in_grows r.mode r b digit
-
-grown : (at : ℕ) (r : Reader) (made : Result Reader TextFault) → Grows at made → made ≡ Ok r → (r.at ≡ at + 1) × HasDigit r.mode
-grown at r made grows e = subst (Grows at) e grows
-
--- the bytes before a place were read
-abbrev pub ReadsBefore : List ℕ → ℕ → Reader → Type 0
-ReadsBefore bytes i r = (advance (take i bytes) (Ok start) ≡ Ok r) × (r.at ≡ i) × HasDigit r.mode
-
-pub reads_more : (bytes : List ℕ) (i : ℕ) (r next : Reader) → ReadsBefore bytes i r → i < length bytes → step r (get_or bytes i 0) ≡ Ok next → ReadsBefore bytes (i + 1) next
-reads_more bytes i r next before inside e =
-    let one = grown r.at next (step r (get_or bytes i 0)) (step_grows r (get_or bytes i 0) before.2) e in (
-      ap (λ bs. advance bs (Ok start)) (take_more bytes i 0 inside) ∙ advance-more (take i bytes) (get_or bytes i 0) (Ok start) r before.0 ∙ e,
-      one.0 ∙ ap (λ n. n + 1) before.1,
-      one.1,
-    )
-
--- a byte that stops the reader stops it for all of the bytes
-pub stops_all : (bytes : List ℕ) (i : ℕ) (r : Reader) (which : TextFault) → ReadsBefore bytes i r → i < length bytes → step r (get_or bytes i 0) ≡ Err which → verdict bytes ≡ Err which
-stops_all bytes i r which before inside e =
-    ap (λ bs. verdict bs) (sym (take-append-drop (i + 1) bytes))
-    ∙ ap verdict_of (advance-append (take (i + 1) bytes) (drop (i + 1) bytes) (Ok start)
-    ∙ ap (advance (drop (i + 1) bytes)) (ap (λ bs. advance bs (Ok start)) (take_more bytes i 0 inside) ∙ advance-more (take i bytes) (get_or bytes i 0) (Ok start) r before.0 ∙ e)
-    ∙ advance-err (drop (i + 1) bytes) which)
-
-pub reads_none : (bytes : List ℕ) → ReadsBefore bytes 0 start
-reads_none bytes = (advance-none (Ok start), refl, tt)
-
-pub reads_all : (bytes : List ℕ) (i : ℕ) (r : Reader) → length bytes ≤ i → ReadsBefore bytes i r → verdict bytes ≡ finish r
-reads_all bytes i r past before = ap (λ bs. verdict bs) (sym (take_all i bytes past)) ∙ ap verdict_of before.0

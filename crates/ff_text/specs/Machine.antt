@@ -1,5 +1,5 @@
 -- The reader as a fold over the bytes. Only private contracts cite it.
-use Rattle.std.specs.Prelude.{◌≡◌, ◌<◌, ◌+◌, ◌*◌, ◌⊎◌, ℕ, if◌then◌else◌, nat_lt, Option, Some, None, Result, Ok, Err, List, [], ◌∷◌, ◌++◌, length}
+use Rattle.std.specs.Prelude.{◌≡◌, ◌<◌, ◌≤◌, ◌+◌, ◌*◌, ◌⊎◌, ℕ, if◌then◌else◌, nat_lt, Option, Some, None, Result, Ok, Err, List, [], ◌∷◌, ◌++◌, length, take}
 use Rattle.std.specs.Str.{is_utf8}
 use Rattle.ff_text.specs.declared.items.Span.{Span}
 use Rattle.ff_text.specs.declared.items.Sexp.{Sexp}
@@ -49,6 +49,9 @@ word_begun r b = record r { word = r.word ++ b ∷ []; mode = mode.Word r.at; at
 abbrev pub word_longer : Reader → ℕ → Reader
 word_longer r b = record r { word = r.word ++ b ∷ []; at = r.at + 1 }
 
+abbrev pub word_run : Reader → List ℕ → Reader
+word_run r run = record r { word = r.word ++ run; mode = mode.Word r.at; at = r.at + length run }
+
 abbrev pub word_ended : Reader → ℕ → Reader
 word_ended r from = record r { items = r.items ++ sexp.Word (span from r.at) r.word ∷ []; mode = mode.Between; word = [] }
 
@@ -90,6 +93,9 @@ in_word r from b = in_word_class (class_of b) r from b
 
 abbrev pub with_byte : Reader → ℕ → ℕ → Reader
 with_byte r from b = record r { value = r.value ++ b ∷ []; mode = mode.Str from; at = r.at + 1 }
+
+abbrev pub value_run : Reader → List ℕ → Reader
+value_run r run = record r { value = r.value ++ run; at = r.at + length run }
 
 abbrev pub str_ended : Reader → ℕ → Reader
 str_ended r from = record r { items = r.items ++ sexp.Str (span from (r.at + 1)) r.value ∷ []; mode = mode.Between; value = []; at = r.at + 1 }
@@ -145,6 +151,12 @@ unfoldable pub advance : List ℕ → Result Reader TextFault → Result Reader 
 advance [] r = r
 advance (b ∷ bytes) (Ok r) = advance bytes (step r b)
 advance (b ∷ bytes) (Err which) = Err which
+
+-- what a call answered and left is what some bytes at the front give, or it met the fault of the bytes, unless memory
+-- ran out
+abbrev pub MakesSome : Result ℕ TextFault → (old new : Reader) → List ℕ → Type 0
+MakesSome (Ok n) old new left = (0 < n) × (n ≤ length left) × (advance (take n left) (Ok old) ≡ Ok new)
+MakesSome (Err which) old new left = (which ≡ fault.NoMemory) ⊎ (advance left (Ok old) ≡ Err which)
 
 abbrev pub items_ended : List Opened → Reader → Result (List Sexp) TextFault
 items_ended [] r = Ok r.items

@@ -1,6 +1,9 @@
-ghost use Rattle.std.specs.Prelude.{◌≡◌, ◌<◌, IsTrue, IfSome};
-ghost use Rattle.ff_text.specs.Bytes.{is_word_byte};
+ghost use Rattle.std.specs.Prelude.{◌≡◌, ◌<◌, ◌≤◌, false, get_or, length, take, IsTrue, IfSome};
+ghost use Rattle.std.specs.List.{list_all};
+ghost use Rattle.ff_text.specs.Bytes as bytes;
 ghost use Rattle.ff_text.specs.Classes as classes;
+
+use crate::escaped::is_plain;
 
 /// What a byte outside strings is.
 #[derive(Clone, Copy)]
@@ -16,7 +19,7 @@ pub(crate) enum Class {
 #[tactic(auto, unfolding(crate::specs::Classes::class_of))]
 pub(crate) fn class_of(b: u8) -> Class
     ensures class { result ≡ classes.class_of b }
-    ensures word { classes.class_of b ≡ Class.InWord → IsTrue (is_word_byte b) }
+    ensures word { classes.class_of b ≡ Class.InWord → IsTrue (bytes.is_word_byte b) }
 {
     if b == b' ' {
         Class::Blank
@@ -31,6 +34,43 @@ pub(crate) fn class_of(b: u8) -> Class
     } else {
         Class::Stray
     }
+}
+
+/// Whether a byte may stand in a word.
+pub(crate) fn is_word_byte(b: u8) -> bool
+    ensures { result ≡ bytes.is_word_byte b }
+{
+    if b > b')' {
+        b < 127
+    } else {
+        b > b' ' && b != b'(' && b != b')' && b != b'"'
+    }
+}
+
+/// How many bytes at the front may stand in a word.
+pub(crate) fn word_front(text: &[u8]) -> usize
+    ensures bound { result ≤ length text.now }
+    ensures word { IsTrue (list_all bytes.is_word_byte (take result text.now)) }
+    ensures longest { result < length text.now → bytes.is_word_byte (get_or text.now result 0) ≡ false }
+{
+    let mut n = 0;
+    while n < text.len() && is_word_byte(text[n]) {
+        n += 1;
+    }
+    n
+}
+
+/// How many bytes at the front stand for themselves in a string.
+pub(crate) fn plain_front(text: &[u8]) -> usize
+    ensures bound { result ≤ length text.now }
+    ensures plain { IsTrue (list_all bytes.is_plain_byte (take result text.now)) }
+    ensures longest { result < length text.now → bytes.is_plain_byte (get_or text.now result 0) ≡ false }
+{
+    let mut n = 0;
+    while n < text.len() && is_plain(text[n]) {
+        n += 1;
+    }
+    n
 }
 
 /// What a byte in a string is, outside its escapes.

@@ -1,4 +1,5 @@
 ghost use Rattle.std.specs.Prelude.{◌≡◌, ◌≤◌, ◌<◌, ◌↔◌, ◌∷◌, [], IsTrue, length};
+ghost use Rattle.ff_text.specs.Bytes.{is_plain_byte};
 ghost use Rattle.ff_text.specs.Notation as notation;
 ghost use Rattle.ff_text.specs.Printed.{spelled_byte};
 
@@ -76,7 +77,8 @@ impl Escaped {
 /// Whether a byte of a string's value stands for itself: each but the mark, the backslash and the
 /// control bytes.
 pub fn is_plain(b: u8) -> bool
-    ensures { IsTrue result ↔ (spelled_byte b ≡ b ∷ []) }
+    ensures itself { IsTrue result ↔ (spelled_byte b ≡ b ∷ []) }
+    ensures test { result ≡ is_plain_byte b }
 {
     b != b'"' && b != b'\\' && !b.is_ascii_control()
 }

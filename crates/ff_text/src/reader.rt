@@ -1,10 +1,15 @@
-ghost use Rattle.std.specs.Prelude.{◌≡◌, ◌<◌, ◌+◌, ◌-◌, ◌^◌, IsTrue};
+ghost use Rattle.std.specs.Prelude.{◌≡◌, ◌<◌, ◌+◌, ◌-◌, ◌^◌, ℕ, true, get_or, length, IsTrue};
+ghost use Rattle.std.specs.List.{list_all};
 ghost use Rattle.ff_contract.specs.Answering.{Answers};
-ghost use Rattle.ff_text.specs.Bytes.{is_word_byte};
+ghost use Rattle.ff_text.specs.Bytes as bytes;
 ghost use Rattle.ff_text.specs.Machine as machine;
-ghost use Rattle.ff_text.specs.Machine.{Makes, HasDigit};
+ghost use Rattle.ff_text.specs.Machine.{Makes, MakesSome, HasDigit};
 
-use crate::bytes::{InStr, Class, Slashed, high_digit, in_str_of, class_of, low_digit, slashed_of};
+use crate::bytes::{
+    Class, InStr, Slashed, class_of, high_digit, in_str_of, is_word_byte, low_digit, plain_front,
+    slashed_of, word_front,
+};
+use crate::escaped::is_plain;
 use crate::items::{Items, Sexp, Span, TextFault};
 use crate::rows::{Row, Stack, WordBytes};
 use ff_name::Text;
@@ -63,6 +68,73 @@ impl Reader {
         }
     }
 
+    /// Reads some bytes from the front: a run of a word or of a string's plain bytes in one, or else
+    /// one byte. Answers how many.
+    pub(crate) fn take_some(&mut self, alloc: Global, left: &[u8]) -> Result<usize, TextFault>
+        requires some { 0 < length left.now }
+        requires at { self.old.at + length left.now < 2 ^ 32 }
+        requires digit { HasDigit self.old.mode }
+        ensures { MakesSome result self.old self.new left.now }
+    {
+        match self.mode {
+            Mode::Between if is_word_byte(left[0]) => self.take_word(alloc, left),
+            Mode::Str(_) if is_plain(left[0]) => self.take_plain(left),
+            _ => {
+                self.take(alloc, left[0])?;
+                Ok(1)
+            }
+        }
+    }
+
+    /// Reads a word, and the byte after it, if there is one.
+    fn take_word(&mut self, alloc: Global, left: &[u8]) -> Result<usize, TextFault>
+        requires mode { self.old.mode ≡ Mode.Between }
+        requires at { self.old.at + length left.now < 2 ^ 32 }
+        requires some { 0 < length left.now }
+        requires word { bytes.is_word_byte (get_or left.now 0 0) ≡ true }
+        ensures { MakesSome result self.old self.new left.now }
+    {
+        let from = self.at;
+        let n = word_front(left);
+        self.begin_run(&left[..n])?;
+        if n == left.len() {
+            return Ok(n);
+        }
+        self.end_word(alloc, from)?;
+        self.take_outside(alloc, left[n])?;
+        Ok(n + 1)
+    }
+
+    /// The bytes with which a word begins.
+    fn begin_run(&mut self, run: &[u8]) -> Result<(), TextFault>
+        requires at { self.old.at + length run.now < 2 ^ 32 }
+        requires word { IsTrue (list_all bytes.is_word_byte run.now) }
+        ensures { Makes result self.new (Ok (machine.word_run self.old run.now)) }
+    {
+        if self.word.extend(run).is_err() {
+            return Err(TextFault::NoMemory);
+        }
+        self.mode = Mode::Word(self.at);
+        self.at += run.len() as u32;
+        Ok(())
+    }
+
+    /// Reads the bytes at the front that stand for themselves in a string.
+    fn take_plain(&mut self, left: &[u8]) -> Result<usize, TextFault>
+        requires mode { (from : ℕ) × (self.old.mode ≡ Mode.Str from) }
+        requires at { self.old.at + length left.now < 2 ^ 32 }
+        requires some { 0 < length left.now }
+        requires plain { bytes.is_plain_byte (get_or left.now 0 0) ≡ true }
+        ensures { MakesSome result self.old self.new left.now }
+    {
+        let n = plain_front(left);
+        if self.value.extend(&left[..n]).is_err() {
+            return Err(TextFault::NoMemory);
+        }
+        self.at += n as u32;
+        Ok(n)
+    }
+
     /// Reads one byte.
     #[tactic(auto, unfolding(crate::specs::Machine::step))]
     pub(crate) fn take(&mut self, alloc: Global, b: u8) -> Result<(), TextFault>
@@ -104,7 +176,7 @@ impl Reader {
 
     fn begin_word(&mut self, b: u8) -> Result<(), TextFault>
         requires at { self.old.at < 2 ^ 32 - 1 }
-        requires word { IsTrue (is_word_byte b) }
+        requires word { IsTrue (bytes.is_word_byte b) }
         ensures { Makes result self.new (Ok (machine.word_begun self.old b)) }
     {
         if self.word.push(b).is_err() {
@@ -177,7 +249,7 @@ impl Reader {
 
     fn lengthen_word(&mut self, b: u8) -> Result<(), TextFault>
         requires at { self.old.at < 2 ^ 32 - 1 }
-        requires word { IsTrue (is_word_byte b) }
+        requires word { IsTrue (bytes.is_word_byte b) }
         ensures { Makes result self.new (Ok (machine.word_longer self.old b)) }
     {
         if self.word.push(b).is_err() {

@@ -80,9 +80,10 @@ fn read_whole(alloc: Global, bytes: &[u8]) -> Result<Items, TextFault>
     ensures { Answers result (verdict bytes.now) (Err TextFault.NoMemory) }
 {
     let mut reader = Reader::new(alloc);
-    for b in bytes {
-        match reader.take(alloc, *b) {
-            Ok(()) => {}
+    let mut left = bytes;
+    while !left.is_empty() {
+        match reader.take_some(alloc, left) {
+            Ok(n) => left = &left[n..],
             Err(fault) => return Err(fault),
         }
     }

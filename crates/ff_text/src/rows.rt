@@ -42,6 +42,15 @@ impl<T: Drop> Row<T> {
         Ok(())
     }
 
+    /// Puts all of these bytes last, or none where memory is refused.
+    pub(crate) fn extend(&mut self, run: &[T]) -> Result<(), NoMemory>
+    where
+        T: Copy,
+        ensures { OnOk result (self.new ≡ self.old ++ run.now) }
+    {
+        self.items.extend_from_slice(run)
+    }
+
     /// All the items, which leaves none.
     pub(crate) fn take(&mut self, alloc: Global) -> Row<T>
         ensures taken { result ≡ self.old }
@@ -157,6 +166,14 @@ impl WordBytes {
     {
         self.bytes.push(b)?;
         Ok(())
+    }
+
+    /// Puts all of these bytes last, or none where memory is refused.
+    pub(crate) fn extend(&mut self, run: &[u8]) -> Result<(), NoMemory>
+        requires { IsTrue (list_all is_word_byte run.now) }
+        ensures { OnOk result (self.new ≡ self.old ++ run.now) }
+    {
+        self.bytes.extend_from_slice(run)
     }
 
     /// The word as a text, which leaves no bytes.

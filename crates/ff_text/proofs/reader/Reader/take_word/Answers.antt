@@ -1,0 +1,31 @@
+use Rattle.std.proofs.Common.{◌<◌, ◌∙◌, ◌+◌, length, arith, inl, inr}
+use Rattle.ff_text.specs.Bytes.{is_word_byte}
+use Rattle.ff_text.proofs.Runs.{some_front, some_err, takes_word, begins_word, stops_some}
+use Rattle.ff_text.proofs.reader.Reader.take_word.Goals as goal
+
+pub returns-then-n-left : goal.returns-then-n-left
+returns-then-n-left c =
+    let some = some_front is_word_byte c.args.left.now c.word_front-n.result c.word_front-n.ensures.longest c.requires.some c.requires.word in
+    (some, c.word_front-n.ensures.bound, begins_word c.args.self.now c.args.left.now c.word_front-n.result c.requires.mode some c.word_front-n.ensures.bound c.word_front-n.ensures.word ∙ c.in_ok-begin_run.ensures)
+
+pub returns-in_err-take_outside : goal.returns-in_err-take_outside
+returns-in_err-take_outside c =
+    let some = some_front is_word_byte c.args.left.now c.word_front-n.result c.word_front-n.ensures.longest c.requires.some c.requires.word in
+    let inside : c.word_front-n.result < length c.args.left.now = omega (arith, c.word_front-n.ensures.bound, c.if-n-left.false) in
+    some_err c.from_residual-in_err-take_outside.result c.args.self.now c.take_outside.new.self c.args.left.now c.in_err-take_outside.field-0.0 c.from_residual-in_err-take_outside.ensures.1
+    (elim c.in_err-take_outside.ensures [
+      | inl memory ↦ inl memory
+      | inr stopped ↦ inr (stops_some c.args.left.now (c.word_front-n.result + 1) c.args.self.now c.in_err-take_outside.field-0.0
+          (takes_word c.args.self.now c.begin_run.new.self c.end_word.new.self c.args.left.now c.word_front-n.result _ c.requires.mode some inside c.word_front-n.ensures.word
+          (c.word_front-n.ensures.longest inside) c.in_ok-begin_run.ensures c.in_ok-end_word.ensures stopped))
+    ])
+
+pub returns : goal.returns
+returns c =
+    let some = some_front is_word_byte c.args.left.now c.word_front-n.result c.word_front-n.ensures.longest c.requires.some c.requires.word in
+    let inside : c.word_front-n.result < length c.args.left.now = omega (arith, c.word_front-n.ensures.bound, c.if-n-left.false) in (
+      omega arith,
+      omega (arith, inside),
+      takes_word c.args.self.now c.begin_run.new.self c.end_word.new.self c.args.left.now c.word_front-n.result _ c.requires.mode some inside c.word_front-n.ensures.word
+      (c.word_front-n.ensures.longest inside) c.in_ok-begin_run.ensures c.in_ok-end_word.ensures c.in_ok-take_outside.ensures,
+    )
