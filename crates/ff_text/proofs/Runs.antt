@@ -9,6 +9,7 @@ use Rattle.ff_text.specs.declared.bytes.Class.{Class}
 use Rattle.ff_text.specs.declared.bytes.Class.TheVariants as class
 use Rattle.ff_text.specs.declared.bytes.InStr.TheVariants as str
 use Rattle.ff_text.specs.declared.items.Sexp.{Sexp}
+use Rattle.ff_text.specs.declared.items.Sexp.TheVariants.{Word}
 use Rattle.ff_text.specs.declared.items.TextFault.{TextFault}
 use Rattle.ff_text.specs.declared.items.TextFault.TheVariants as fault
 use Rattle.ff_text.specs.declared.reader.Reader.{Reader}
@@ -17,7 +18,7 @@ use Rattle.ff_text.specs.declared.reader.Mode.{Mode}
 use Rattle.ff_text.specs.declared.reader.Mode.TheVariants as mode
 use Rattle.ff_text.specs.Bytes.{is_word_byte, is_plain_byte}
 use Rattle.ff_text.specs.Classes.{class_of, in_str_of}
-use Rattle.ff_text.specs.Machine.{HasDigit, MakesSome, advance, step, start, outside, word_run, word_ended, value_run, verdict, verdict_of, finish}
+use Rattle.ff_text.specs.Machine.{HasDigit, MakesSome, advance, step, start, outside, word_run, word_put, word_ended, span, value_run, verdict, verdict_of, finish}
 use Rattle.ff_text.proofs.ClassLemmas.{class_of-word}
 use Rattle.ff_text.proofs.Room.{Grows, step_grows}
 use Rattle.ff_text.proofs.Standing.{advance-append, advance-err, advance-none, advance-one}
@@ -145,6 +146,19 @@ takes_word old begun ended left n made between some inside h next e f g =
     ∙ ap (advance (b ∷ [])) (begins_word old left n between some (omega arith) h ∙ e) ∙ advance-one begun b
     ∙ ends_word begun old.at b (ap (λ r. r.mode) (sym begun_is)) next
     ∙ ap (λ r. outside r b) (same_reader _ _ f) ∙ g
+
+-- the same where the word is put at once
+whole_word : (old : Reader) (word : List ℕ) → old.mode ≡ mode.Between → old.word ≡ [] → word_ended (word_run old word) old.at ≡ word_put old word
+whole_word old word between none =
+    ap (λ bs. record (word_put old word) { mode = mode.Between; word = []; items = old.items ++ Word (span old.at (old.at + length word)) (bs ++ word) ∷ [] }) none
+    ∙ ap (λ (m : Mode). record (word_put old word) { mode = m; word = [] }) (sym between) ∙ ap (λ bs. record (word_put old word) { word = bs }) (sym none)
+
+pub takes_whole_word : (old put : Reader) (left : List ℕ) (n : ℕ) (made : Result Reader TextFault) → old.mode ≡ mode.Between → old.word ≡ [] → 0 < n → n < length left
+    → list_all is_word_byte (take n left) ≡ true → is_word_byte (get_or left n 0) ≡ false
+    → made_of (word_put old (take n left)) ≡ Ok put → outside put (get_or left n 0) ≡ made
+    → advance (take (n + 1) left) (Ok old) ≡ made
+takes_whole_word old put left n made between none some inside h next e g =
+    takes_word old (word_run old (take n left)) put left n made between some inside h next refl (ap made_of (whole_word old (take n left) between none) ∙ e) g
 
 -- a refusal
 pub some_err : (answer : Result ℕ TextFault) (old new : Reader) (left : List ℕ) (which : TextFault) → IsErrAnd answer (λ e. e ≡ which) → (which ≡ fault.NoMemory) ⊎ (advance left (Ok old) ≡ Err which) → MakesSome answer old new left

@@ -52,6 +52,9 @@ word_longer r b = record r { word = r.word ++ b ∷ []; at = r.at + 1 }
 abbrev pub word_run : Reader → List ℕ → Reader
 word_run r run = record r { word = r.word ++ run; mode = mode.Word r.at; at = r.at + length run }
 
+abbrev pub word_put : Reader → List ℕ → Reader
+word_put r word = record r { items = r.items ++ sexp.Word (span r.at (r.at + length word)) word ∷ []; at = r.at + length word }
+
 abbrev pub word_ended : Reader → ℕ → Reader
 word_ended r from = record r { items = r.items ++ sexp.Word (span from r.at) r.word ∷ []; mode = mode.Between; word = [] }
 

@@ -1,11 +1,12 @@
-ghost use Rattle.std.specs.Prelude.{◌∷◌, [], map, length};
-ghost use Rattle.std.specs.List.{join_with_byte};
+ghost use Rattle.std.specs.Prelude.{◌≡◌, ◌<◌, ◌≤◌, ◌++◌, ◌∷◌, [], map, length, take, IfOk, OnErr};
+ghost use Rattle.std.specs.List.{flat_map, join_with_byte};
 ghost use Rattle.ff_contract.specs.Appending.{Appends, AppendsAll};
 ghost use Rattle.ff_text.specs.declared.items.Sexp.TheVariants.{Str};
 ghost use Rattle.ff_text.specs.Notation.{SpellsItems, span};
 ghost use Rattle.ff_text.specs.Printed.{IsWellSpelled, blank_before, ReadsBack, quoted, spelled, spelled_byte};
 
 use crate::NoMemory;
+use crate::bytes::plain_front;
 use crate::escaped::Escaped;
 use crate::items::Sexp;
 use ff_name::Text;
@@ -67,10 +68,30 @@ fn print_str(value: &[u8], out: &mut Vec<u8>) -> Result<(), NoMemory>
     ensures { Appends result out.old.items out.new.items (quoted value.now) }
 {
     put_all(b"\"", out)?;
-    for b in value {
-        put_byte(*b, out)?;
+    let mut left = value;
+    while !left.is_empty() {
+        let n = put_some(left, out)?;
+        left = &left[n..];
     }
     put_all(b"\"", out)
+}
+
+/// Appends what stands for some bytes at the front of a string's value: those that stand for
+/// themselves, or else for one byte. Answers how many.
+fn put_some(left: &[u8], out: &mut Vec<u8>) -> Result<usize, NoMemory>
+    requires { 0 < length left.now }
+    ensures some { IfOk result (λ n. 0 < n) }
+    ensures within { IfOk result (λ n. n ≤ length left.now) }
+    ensures put { IfOk result (λ n. out.new.items ≡ out.old.items ++ flat_map spelled_byte (take n left.now)) }
+    ensures refused { OnErr result (out.new.items ≡ out.old.items) }
+{
+    let n = plain_front(left);
+    if n == 0 {
+        put_byte(left[0], out)?;
+        return Ok(1);
+    }
+    put_all(&left[..n], out)?;
+    Ok(n)
 }
 
 /// Appends what stands for a byte of a string's value.

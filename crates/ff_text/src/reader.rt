@@ -94,18 +94,31 @@ impl Reader {
         requires word { bytes.is_word_byte (get_or left.now 0 0) ≡ true }
         ensures { MakesSome result self.old self.new left.now }
     {
-        let from = self.at;
         let n = word_front(left);
-        self.begin_run(&left[..n])?;
-        if n == left.len() {
+        if n == left.len() || !self.word.is_empty() {
+            self.begin_run(&left[..n])?;
             return Ok(n);
         }
-        self.end_word(alloc, from)?;
+        self.put_word(alloc, &left[..n])?;
         self.take_outside(alloc, left[n])?;
         Ok(n + 1)
     }
 
-    /// The bytes with which a word begins.
+    /// Puts a word that ends.
+    fn put_word(&mut self, alloc: Global, word: &[u8]) -> Result<(), TextFault>
+        requires at { self.old.at + length word.now < 2 ^ 32 }
+        requires word { IsTrue (list_all bytes.is_word_byte word.now) }
+        ensures { Makes result self.new (Ok (machine.word_put self.old word.now)) }
+    {
+        let Ok(text) = Text::of_utf8(alloc, word) else {
+            return Err(TextFault::NoMemory);
+        };
+        let from = self.at;
+        self.at += word.len() as u32;
+        self.put(Sexp::Word(Span { from, to: self.at }, text))
+    }
+
+    /// The bytes with which a word begins that may go on.
     fn begin_run(&mut self, run: &[u8]) -> Result<(), TextFault>
         requires at { self.old.at + length run.now < 2 ^ 32 }
         requires word { IsTrue (list_all bytes.is_word_byte run.now) }

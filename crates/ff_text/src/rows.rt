@@ -1,4 +1,4 @@
-ghost use Rattle.std.specs.Prelude.{◌≡◌, ◌<◌, ◌++◌, ◌∷◌, [], List, ℕ, IfOk, OnOk, IsTrue, MatchOption, length, reverse};
+ghost use Rattle.std.specs.Prelude.{◌≡◌, ◌↔◌, ◌<◌, ◌++◌, ◌∷◌, [], List, ℕ, IfOk, OnOk, IsTrue, MatchOption, length, reverse};
 ghost use Rattle.std.specs.List.{list_all};
 ghost use Rattle.ff_text.specs.Bytes.{is_word_byte};
 
@@ -158,6 +158,12 @@ impl WordBytes {
         WordBytes {
             bytes: Vec::new(alloc),
         }
+    }
+
+    pub(crate) fn is_empty(&self) -> bool
+        ensures { IsTrue result ↔ (self.now ≡ []) }
+    {
+        self.bytes.is_empty()
     }
 
     pub(crate) fn push(&mut self, b: u8) -> Result<(), NoMemory>

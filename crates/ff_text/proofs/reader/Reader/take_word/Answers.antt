@@ -1,6 +1,6 @@
 use Rattle.std.proofs.Common.{◌<◌, ◌∙◌, ◌+◌, length, arith, inl, inr}
 use Rattle.ff_text.specs.Bytes.{is_word_byte}
-use Rattle.ff_text.proofs.Runs.{some_front, some_err, takes_word, begins_word, stops_some}
+use Rattle.ff_text.proofs.Runs.{some_front, some_err, takes_whole_word, begins_word, stops_some}
 use Rattle.ff_text.proofs.reader.Reader.take_word.Goals as goal
 
 pub returns-then-n-left : goal.returns-then-n-left
@@ -16,8 +16,8 @@ returns-in_err-take_outside c =
     (elim c.in_err-take_outside.ensures [
       | inl memory ↦ inl memory
       | inr stopped ↦ inr (stops_some c.args.left.now (c.word_front-n.result + 1) c.args.self.now c.in_err-take_outside.field-0.0
-          (takes_word c.args.self.now c.begin_run.new.self c.end_word.new.self c.args.left.now c.word_front-n.result _ c.requires.mode some inside c.word_front-n.ensures.word
-          (c.word_front-n.ensures.longest inside) c.in_ok-begin_run.ensures c.in_ok-end_word.ensures stopped))
+          (takes_whole_word c.args.self.now c.put_word.new.self c.args.left.now c.word_front-n.result _ c.requires.mode (c.is_empty.ensures.0 c.if-not-is_empty.false) some inside
+          c.word_front-n.ensures.word (c.word_front-n.ensures.longest inside) c.in_ok-put_word.ensures stopped))
     ])
 
 pub returns : goal.returns
@@ -26,6 +26,6 @@ returns c =
     let inside : c.word_front-n.result < length c.args.left.now = omega (arith, c.word_front-n.ensures.bound, c.if-n-left.false) in (
       omega arith,
       omega (arith, inside),
-      takes_word c.args.self.now c.begin_run.new.self c.end_word.new.self c.args.left.now c.word_front-n.result _ c.requires.mode some inside c.word_front-n.ensures.word
-      (c.word_front-n.ensures.longest inside) c.in_ok-begin_run.ensures c.in_ok-end_word.ensures c.in_ok-take_outside.ensures,
+      takes_whole_word c.args.self.now c.put_word.new.self c.args.left.now c.word_front-n.result _ c.requires.mode (c.is_empty.ensures.0 c.if-not-is_empty.false) some inside
+      c.word_front-n.ensures.word (c.word_front-n.ensures.longest inside) c.in_ok-put_word.ensures c.in_ok-take_outside.ensures,
     )
