@@ -5,7 +5,8 @@ use Rattle.std.specs.Str.{bytes_eq}
 use Rattle.ff_text.specs.declared.items.Span.{Span}
 use Rattle.ff_text.specs.declared.items.Sexp.{Sexp}
 use Rattle.ff_text.specs.declared.items.Sexp.TheVariants as sexp
-use Rattle.ff_forms.specs.Grammar.{Placed, a_head, a_parameter, reading, and_then, headed, head_as, parameter_as, word_as}
+use Rattle.ff_forms.specs.Grammar.{Placed, a_head, a_parameter, reading, and_then, head_as, parameter_as, word_as}
+use Rattle.ff_forms.specs.Heads.{headed}
 use Rattle.ff_forms.specs.declared.fault.SyntaxFault.{SyntaxFault}
 use Rattle.ff_forms.specs.declared.fault.SyntaxFault.TheVariants as fault
 use Rattle.ff_reading.proofs.Layers.{word_layer, string_layer, list_layer}
