@@ -1,5 +1,6 @@
 //! Values that are written as words, each with one of its own.
-ghost use Rattle.std.specs.Prelude.{◌≡◌, ◌↔◌, ℕ, List, Some, find, bytes_eq};
+ghost use Rattle.std.specs.Prelude.{◌≡◌, ◌↔◌, ℕ, List, Some};
+ghost use Rattle.ff_name.specs.Words.{with_word};
 
 /// A value that is written as a word of its own.
 pub trait Worded: Copy + 'static {
@@ -15,20 +16,21 @@ pub trait Worded: Copy + 'static {
     fn word(self) -> &'static str
         ensures { result.now ≡ word_of self };
 
-    // Each value is there, and no value before it has its word.
-    ghost own: { (value : Self) → find (λ one. bytes_eq (word_of one) (word_of value)) each ≡ Some value };
+    // Each value is there, and none before it has its word.
+    ghost own: { (value : Self) → with_word word_of each (word_of value) ≡ Some value };
 }
 
 /// The value with this word, or `None` where no value has it.
 pub fn by_word<T: Worded>(word: &[u8]) -> Option<T>
-    ensures { (value : T) → (result ≡ Some value) ↔ (T.word_of value ≡ word.now) }
+    ensures value { result ≡ with_word T.word_of T.each word.now }
+    ensures own { (value : T) → (result ≡ Some value) ↔ (T.word_of value ≡ word.now) }
 {
     find_word(T::all(), word)
 }
 
 /// The first of some values that has the word.
 fn find_word<T: Worded>(values: &[T], word: &[u8]) -> Option<T>
-    ensures { result ≡ find (λ value. bytes_eq (T.word_of value) word.now) values.now }
+    ensures { result ≡ with_word T.word_of values.now word.now }
 {
     values
         .iter()

@@ -1,13 +1,13 @@
 -- Each operator has a word of its own.
-use Rattle.std.proofs.Common.{◌≡◌, Some, find, refl}
-use Rattle.std.specs.Str.{bytes_eq}
+use Rattle.std.proofs.Common.{◌≡◌, Some, refl}
+use Rattle.ff_name.specs.Words.{with_word}
 use Rattle.ff_tree.specs.Ops.{word_of}
 use Rattle.ff_tree.specs.declared.op.Op.{Op}
 use Rattle.ff_tree.specs.declared.op.Op.TheVariants.{Add, Sub, Mul, Div, Rem, Less, AtMost, Equal, Not, Cat, Len, Byte, Cut, Str, Num, Cookie, SetCookie, DelCookie, SelfWindow, Opener, Live, Url, Page, Window, Open, OpenNamed, Go, Close, Kind, Text, SetText, Count, Child, Find, Nth, Insert, Listen, Ask}
 use Rattle.ff_tree.specs.declared.op.TheConstants.{ALL}
 
 -- what an operator's word finds is the operator
-pub own_word : (op : Op) → find (λ one. bytes_eq (word_of one) (word_of op)) ALL ≡ Some op
+pub own_word : (op : Op) → with_word word_of ALL (word_of op) ≡ Some op
 own_word Add = refl
 own_word Sub = refl
 own_word Mul = refl
