@@ -1,6 +1,6 @@
 -- What is appended in steps is appended whole.
 use Rattle.std.proofs.Common.{◌≡◌, Result, Ok, Err, List, [], ◌++◌, refl, sym, ap, ◌∙◌, subst, append_assoc, append-nil}
-use Rattle.std.specs.Prelude.{OnOk, OnErr}
+use Rattle.std.specs.Prelude.{OnOk, OnErr, IsErr}
 use Rattle.ff_contract.specs.Appending.{AppendsFront, Appends, AppendsAll}
 
 -- a front of the first of two steps
@@ -62,3 +62,17 @@ appends_both (Err refused) old new all ok err = err
 pub appends_same : {X E A : Type 0} (answer : Result X E) (old new item all : List A) → item ≡ all → Appends answer old new item → Appends answer old new all
 appends_same (Ok it) old new item all is e = e ∙ ap (λ bs. old ++ bs) is
 appends_same (Err refused) old new item all is front = subst (AppendsFront old new) is front
+
+-- after a refusal a front was appended
+pub appends_front : {X E A : Type 0} (answer : Result X E) (old new all : List A) → IsErr answer → AppendsFront old new all → Appends answer old new all
+appends_front (Ok it) old new all err front = cc
+appends_front (Err refused) old new all err front = front
+
+-- whole steps that make a front
+pub front_done : {A : Type 0} (old new all done rest : List A) → new ≡ old ++ done → all ≡ done ++ rest → AppendsFront old new all
+front_done old new all done rest e cut = record { front = done; rest = rest; cut = cut; appended = e }
+
+-- the last step, which appends all of its items or none
+pub appends_last : {X E A : Type 0} (answer : Result X E) (old mid new all done last : List A) → AppendsAll answer mid new last → mid ≡ old ++ done → all ≡ done ++ last → Appends answer old new all
+appends_last (Ok it) old mid new all done last e before cut = e ∙ ap (λ bs. bs ++ last) before ∙ append_assoc old done last ∙ ap (λ bs. old ++ bs) (sym cut)
+appends_last (Err refused) old mid new all done last e before cut = front_done old new all done last (e ∙ before) cut

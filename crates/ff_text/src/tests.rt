@@ -1,4 +1,4 @@
-use crate::{NoMemory, Sexp, Text, TextFault, print, quote, read, read_items};
+use crate::{Escaped, NoMemory, Sexp, Text, TextFault, is_plain, print, quote, read, read_items};
 use std::alloc::Global;
 
 /// Whether the bytes are read as this fault, or else printed so.
@@ -105,4 +105,21 @@ fn quoted_strings(rt: HostRuntime) -> Result<(), NoMemory> {
         assert!(rt; quotes_as(rt.alloc(), value, want)?, "{value:?}");
     }
     Ok(())
+}
+
+#[test]
+fn what_stands_for_a_byte(rt: HostRuntime) {
+    let cases: [(u8, &[u8]); 7] = [
+        (b'a', b"a"),
+        (0xff, b"\xff"),
+        (b'"', b"\\\""),
+        (b'\\', b"\\\\"),
+        (b'\n', b"\\n"),
+        (b'\t', b"\\t"),
+        (0x7f, b"\\x7f"),
+    ];
+    for (b, want) in cases {
+        let alike = Escaped::of(b).as_slice() == want && is_plain(b) == (want.len() == 1);
+        assert!(rt; alike, "{b}");
+    }
 }
