@@ -96,7 +96,7 @@ resp_item (resp.Page cookies docs) = parens (word (resp_word resp_head.Page) ∷
 resp_item (resp.Script cookies e) = parens (word (resp_word resp_head.Script) ∷ cookies_item cookies ∷ expr_item e ∷ [])
 resp_item (resp.Data cookies text) = parens (word (resp_word resp_head.Data) ∷ cookies_item cookies ∷ string text ∷ [])
 
--- one level of what the user sees, where the items of its parts stand in their places
+-- one level of what the user is shown, where the items of its parts stand in their places
 abbrev pub seen_form : Seen-F Sexp → Sexp
 seen_form (Seen-F.Text text) = parens (word (doc_word doc_head.Text) ∷ string text ∷ [])
 seen_form (Seen-F.Link url label) = parens (word (doc_word doc_head.Link) ∷ address url ∷ string label ∷ [])
@@ -107,7 +107,7 @@ seen_form (Seen-F.Div parts) = parens (word (doc_word doc_head.Div) ∷ parts)
 abbrev pub seen_item : Seen → Sexp
 seen_item = fold-Seen Sexp seen_form
 
--- a page as the user sees it
+-- a page as the user is shown it
 abbrev pub shown_item : List Seen → Sexp
 shown_item shown = parens (word (codes "page") ∷ map seen_item shown)
 

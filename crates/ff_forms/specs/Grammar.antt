@@ -1,6 +1,6 @@
 -- Which items are documents, expressions and responses, what they stand for, and which fault is met first: tables of the
 -- forms that lists may have.
-use Rattle.std.specs.Prelude.{◌≡◌, ◌⊎◌, ℕ, ◌-◌, Bool, true, false, ◌&&◌, ◌==◌, nat_le, if◌then◌else◌, Option, ok_or, Result, Ok, Err, List, [], ◌∷◌, ◌++◌, map, length, codes, find}
+use Rattle.std.specs.Prelude.{ℕ, ◌-◌, Bool, true, false, ◌&&◌, ◌==◌, nat_le, if◌then◌else◌, ok_or, Result, Ok, Err, List, [], ◌∷◌, ◌++◌, length, codes}
 use Rattle.std.specs.List.{list_any}
 use Rattle.std.specs.Str.{bytes_eq}
 use Rattle.ff_contract.specs.Answering.{Answers}
@@ -22,7 +22,8 @@ use Rattle.ff_text.specs.declared.items.Sexp.{Sexp}
 use Rattle.ff_text.specs.declared.items.Sexp.TheOpen.{Sexp-F}
 use Rattle.ff_text.specs.declared.items.Sexp.TheFolds.{fold-Sexp}
 use Rattle.ff_name.specs.Reading.{is_name, read_url}
-use Rattle.ff_forms.specs.Heads.{doc_word, expr_word, handler_word, resp_word, cookie_word, headed}
+use Rattle.ff_forms.specs.Heads.{doc_word, expr_word, handler_word, resp_word, cookie_word}
+use Rattle.ff_name.specs.Words.{with_word}
 use Rattle.ff_forms.specs.Words.{is_variable, looks_like_number, number_of}
 use Rattle.ff_forms.specs.declared.fault.SyntaxFault.{SyntaxFault}
 use Rattle.ff_forms.specs.declared.fault.SyntaxFault.TheVariants as fault
@@ -182,7 +183,7 @@ form_as at f parts = if may_have f.sorts f.more (length parts) then parts_as at 
 
 -- the form whose word the first item of a list is
 abbrev pub head_as : {H : Type 0} → (H → List ℕ) → List H → Reading → Result H SyntaxFault
-head_as word_at heads first = and_then (first a_head) (λ placed. ok_or (headed word_at heads placed.word) (fault.Head placed.from))
+head_as word_at heads first = and_then (first a_head) (λ placed. ok_or (with_word word_at heads placed.word) (fault.Head placed.from))
 
 -- a list is checked for its head, and then its form for the rest
 abbrev pub list_as : {H X : Type 0} → (H → List ℕ) → List H → (H → Form X) → ℕ → List Reading → Result X SyntaxFault

@@ -1,6 +1,6 @@
--- The words that head the lists of each form, each of which finds its head.
-use Rattle.std.specs.Prelude.{◌≡◌, ℕ, Option, Some, List, codes, find, refl}
-use Rattle.std.specs.Str.{bytes_eq}
+-- The words that head the lists of each form: each finds its head.
+use Rattle.std.specs.Prelude.{◌≡◌, ℕ, Some, List, codes, refl}
+use Rattle.ff_name.specs.Words.{with_word}
 use Rattle.ff_tree.specs.Ops.{word_of}
 use Rattle.ff_tree.specs.declared.op.Op.TheVariants as op
 use Rattle.ff_forms.specs.declared.heads.DocHead.{DocHead}
@@ -49,11 +49,7 @@ abbrev pub cookie_word : CookieHead → List ℕ
 cookie_word cookie_head.Put = codes "set"
 cookie_word cookie_head.Drop = codes "del"
 
--- the first head whose word it is
-abbrev pub headed : {H : Type 0} → (H → List ℕ) → List H → List ℕ → Option H
-headed word_at heads word = find (λ head. bytes_eq (word_at head) word) heads
-
-pub doc_own : (head : DocHead) → headed doc_word DOC_HEADS (doc_word head) ≡ Some head
+pub doc_own : (head : DocHead) → with_word doc_word DOC_HEADS (doc_word head) ≡ Some head
 doc_own doc_head.Text = refl
 doc_own doc_head.Link = refl
 doc_own doc_head.TextBox = refl
@@ -62,7 +58,7 @@ doc_own doc_head.Script = refl
 doc_own doc_head.Src = refl
 doc_own doc_head.Div = refl
 
-pub expr_own : (head : ExprHead) → headed expr_word EXPR_HEADS (expr_word head) ≡ Some head
+pub expr_own : (head : ExprHead) → with_word expr_word EXPR_HEADS (expr_word head) ≡ Some head
 expr_own expr_head.Let = refl
 expr_own expr_head.Set = refl
 expr_own expr_head.If = refl
@@ -112,14 +108,14 @@ expr_own (expr_head.Prim op.Insert) = refl
 expr_own (expr_head.Prim op.Listen) = refl
 expr_own (expr_head.Prim op.Ask) = refl
 
-pub handler_own : (head : HandlerHead) → headed handler_word HANDLER_HEADS (handler_word head) ≡ Some head
+pub handler_own : (head : HandlerHead) → with_word handler_word HANDLER_HEADS (handler_word head) ≡ Some head
 handler_own handler_head.Make = refl
 
-pub resp_own : (head : RespHead) → headed resp_word RESP_HEADS (resp_word head) ≡ Some head
+pub resp_own : (head : RespHead) → with_word resp_word RESP_HEADS (resp_word head) ≡ Some head
 resp_own resp_head.Page = refl
 resp_own resp_head.Script = refl
 resp_own resp_head.Data = refl
 
-pub cookie_own : (head : CookieHead) → headed cookie_word COOKIE_HEADS (cookie_word head) ≡ Some head
+pub cookie_own : (head : CookieHead) → with_word cookie_word COOKIE_HEADS (cookie_word head) ≡ Some head
 cookie_own cookie_head.Put = refl
 cookie_own cookie_head.Drop = refl

@@ -156,9 +156,7 @@ pub enum HandlerHead {
     Make,
 }
 
-const HANDLER_HEADS: [HandlerHead; 1] = [
-    HandlerHead::Make,
-];
+const HANDLER_HEADS: [HandlerHead; 1] = [HandlerHead::Make];
 
 impl Worded for HandlerHead {
     ghost use Rattle.ff_forms.specs.Heads.{handler_word, handler_own};
@@ -189,11 +187,7 @@ pub enum RespHead {
     Data,
 }
 
-const RESP_HEADS: [RespHead; 3] = [
-    RespHead::Page,
-    RespHead::Script,
-    RespHead::Data,
-];
+const RESP_HEADS: [RespHead; 3] = [RespHead::Page, RespHead::Script, RespHead::Data];
 
 impl Worded for RespHead {
     ghost use Rattle.ff_forms.specs.Heads.{resp_word, resp_own};
@@ -225,10 +219,7 @@ pub enum CookieHead {
     Drop,
 }
 
-const COOKIE_HEADS: [CookieHead; 2] = [
-    CookieHead::Put,
-    CookieHead::Drop,
-];
+const COOKIE_HEADS: [CookieHead; 2] = [CookieHead::Put, CookieHead::Drop];
 
 impl Worded for CookieHead {
     ghost use Rattle.ff_forms.specs.Heads.{cookie_word, cookie_own};

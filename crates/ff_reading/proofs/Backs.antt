@@ -19,7 +19,7 @@ use Rattle.ff_name.specs.Reading.{is_name, read_url}
 use Rattle.ff_name.proofs.Reading.{read_url_spelled, IsName-from}
 use Rattle.ff_forms.specs.Words.{is_literal, is_variable}
 use Rattle.ff_forms.specs.Grammar.{Sort, a_name, a_variable, an_address, a_string, a_parameter, a_head, parameters, one_parameter, Value, Placed, further, nothing, Form, form, reading, and_then, each_as, may_have, parts_as, form_as, head_as, list_as, parameter_as, parameters_as, one_parameter_as, any, few_handlers}
-use Rattle.ff_forms.specs.Heads.{headed}
+use Rattle.ff_name.specs.Words.{with_word}
 use Rattle.ff_forms.specs.Spellings.{AreWords, no_words, a_word}
 use Rattle.ff_forms.specs.declared.fault.SyntaxFault.{SyntaxFault}
 use Rattle.ff_forms.specs.declared.fault.SyntaxFault.TheVariants as fault
@@ -256,17 +256,17 @@ pub record HasHead {H : Type 0} (word_at : H → List ℕ) (item : Sexp) (head :
 
 pub head_case : {H : Type 0} (word_at : H → List ℕ) (heads : List H) (item : Sexp) → IsOne item → (head : H) → head_as word_at heads (reading item) ≡ Ok head → HasHead word_at item head
 head_case word_at heads _ (is_word at word) head e =
-    let placed = came_from (reading (Word at word) a_head) (λ p. ok_or (headed word_at heads p.word) (fault.Head p.from)) head e in
+    let placed = came_from (reading (Word at word) a_head) (λ p. ok_or (with_word word_at heads p.word) (fault.Head p.from)) head e in
     let here : Placed = record { from = at.from; word = word } in
     let same : here ≡ placed.0 = ok_value here placed.0 (sym (reading-Word at word a_head) ∙ placed.1) in
-    let found : headed word_at heads word ≡ Some head = ap (λ (p : Placed). headed word_at heads p.word) same ∙ some_from (headed word_at heads placed.0.word) (fault.Head placed.0.from) head placed.2 in
+    let found : with_word word_at heads word ≡ Some head = ap (λ (p : Placed). with_word word_at heads p.word) same ∙ some_from (with_word word_at heads placed.0.word) (fault.Head placed.0.from) head placed.2 in
     let spelled : word_at head ≡ word = (bytes_eq-Decides (word_at head) word).0 (find_passes (λ h. bytes_eq (word_at h) word) heads head found) in
     record { at = at; is = ap (Word at) (sym spelled) }
 head_case word_at heads _ (is_string at text) head e =
-    let placed = came_from (reading (Str at text) a_head) (λ p. ok_or (headed word_at heads p.word) (fault.Head p.from)) head e in
+    let placed = came_from (reading (Str at text) a_head) (λ p. ok_or (with_word word_at heads p.word) (fault.Head p.from)) head e in
     absurd (err_value (fault.Head at.from) placed.0 (sym (reading-Str at text a_head) ∙ placed.1))
 head_case word_at heads _ (is_list at parts) head e =
-    let placed = came_from (reading (Parens at parts) a_head) (λ p. ok_or (headed word_at heads p.word) (fault.Head p.from)) head e in
+    let placed = came_from (reading (Parens at parts) a_head) (λ p. ok_or (with_word word_at heads p.word) (fault.Head p.from)) head e in
     absurd (err_value (fault.Head at.from) placed.0 (sym (reading-List at parts a_head) ∙ placed.1))
 
 pub record ListBack {H X : Type 0} (word_at : H → List ℕ) (form_at : H → Form X) (at : ℕ) (items : List Sexp) (x : X) : Type 0 where

@@ -21,7 +21,8 @@ use Rattle.ff_text.specs.declared.items.Sexp.{Sexp}
 use Rattle.ff_text.specs.declared.items.Sexp.TheVariants.{Word, Str, List as Parens}
 use Rattle.ff_text.proofs.Layers.{Each, items_ind}
 use Rattle.ff_forms.specs.Words.{is_variable, looks_like_number, number_of}
-use Rattle.ff_forms.specs.Heads.{headed, doc_word, expr_word, resp_word, cookie_word, handler_word, doc_own, expr_own, handler_own, resp_own, cookie_own}
+use Rattle.ff_forms.specs.Heads.{doc_word, expr_word, resp_word, cookie_word, handler_word, doc_own, expr_own, handler_own, resp_own, cookie_own}
+use Rattle.ff_name.specs.Words.{with_word}
 use Rattle.ff_forms.specs.Grammar as sort
 use Rattle.ff_forms.specs.Grammar.{Sort, Value, Placed, Form, Further, nothing, further, any, Making, may_have, and_then, reading, each_as, parts_as, form_as, head_as, list_as, word_as, string_as, parts_in_list_as, parameter_as, parameters_as, one_parameter_as, number_as, name_as_expression, word_as_expression, doc_form, expr_form, resp_form, cookie_form, handler_form}
 use Rattle.ff_forms.specs.Spellings.{AreWords, no_words, a_word}
@@ -229,29 +230,29 @@ form_fault which at h word f parts form each found e =
 -- a table of forms, each word of which finds its form
 record IsTable (which : Sort) (H : Type 0) (word_at : H → List ℕ) (heads : List H) (sorts_at : H → List Sort) (more_at : H → Further) : Type 0 where
   listed : has_forms which ≡ true
-  found : (head : H) → headed word_at heads (word_at head) ≡ Some head
+  found : (head : H) → with_word word_at heads (word_at head) ≡ Some head
   forms : (head : H) → HasForm which (word_at head) (sorts_at head) (more_at head)
   only : (word : List ℕ) (sorts : List Sort) (more : Further) → HasForm which word sorts more → (head : H) × (word ≡ word_at head)
 
 head_fault : {H : Type 0} (which : Sort) (word_at : H → List ℕ) (heads : List H) (sorts_at : H → List Sort) (more_at : H → Further) → IsTable which H word_at heads sorts_at more_at
     → (at : Span) (item : Sexp) → IsOne item → (parts : List Sexp) → Names item → (found : SyntaxFault) → head_as word_at heads (reading item) ≡ Err found → FirstFault which (Parens at (item ∷ parts)) found
 head_fault which word_at heads sorts_at more_at table at _ (is_word h word) parts names found e =
-    let none = missing (headed word_at heads word) (fault.Head h.from) found
-        (sym (ap (λ (r : Result Placed SyntaxFault). and_then r (λ p. ok_or (headed word_at heads p.word) (fault.Head p.from))) (reading-Word h word sort.a_head)) ∙ e) in
+    let none = missing (with_word word_at heads word) (fault.Head h.from) found
+    (sym (ap (λ (r : Result Placed SyntaxFault). and_then r (λ p. ok_or (with_word word_at heads p.word) (fault.Head p.from))) (reading-Word h word sort.a_head)) ∙ e) in
     let other : (sorts : List Sort) (more : Further) → HasForm which word sorts more → ⊥ = λ sorts more form.
-        let it = table.only word sorts more form in
-        some_none it.0 (sym (table.found it.0) ∙ ap (headed word_at heads) (sym it.1) ∙ none.0) in
+    let it = table.only word sorts more form in
+    some_none it.0 (sym (table.found it.0) ∙ ap (with_word word_at heads) (sym it.1) ∙ none.0) in
     subst (FirstFault which (Parens at (Word h word ∷ parts))) none.1 (first.a_wrong_head which at h word parts table.listed other)
   where
     some_none : (head : H) → Some head ≡ None → ⊥
     some_none head f = cc
 head_fault which word_at heads sorts_at more_at table at _ (is_string h text) parts names found e =
     let own : reading (Str h text) sort.a_head ≡ Err found = reading-Str h text sort.a_head ∙ ap (λ (g : SyntaxFault). err_of g) (same_fault (fault.Head h.from) found
-        (sym (ap (λ (r : Result Placed SyntaxFault). and_then r (λ p. ok_or (headed word_at heads p.word) (fault.Head p.from))) (reading-Str h text sort.a_head)) ∙ e)) in
+    (sym (ap (λ (r : Result Placed SyntaxFault). and_then r (λ p. ok_or (with_word word_at heads p.word) (fault.Head p.from))) (reading-Str h text sort.a_head)) ∙ e)) in
     first.no_head which at (Str h text) parts found table.listed (names sort.a_head found own)
 head_fault which word_at heads sorts_at more_at table at _ (is_list h inner) parts names found e =
     let own : reading (Parens h inner) sort.a_head ≡ Err found = reading-List h inner sort.a_head ∙ ap (λ (g : SyntaxFault). err_of g) (same_fault (fault.Head h.from) found
-        (sym (ap (λ (r : Result Placed SyntaxFault). and_then r (λ p. ok_or (headed word_at heads p.word) (fault.Head p.from))) (reading-List h inner sort.a_head)) ∙ e)) in
+    (sym (ap (λ (r : Result Placed SyntaxFault). and_then r (λ p. ok_or (with_word word_at heads p.word) (fault.Head p.from))) (reading-List h inner sort.a_head)) ∙ e)) in
     first.no_head which at (Parens h inner) parts found table.listed (names sort.a_head found own)
 
 list_fault : {H X : Type 0} (which : Sort) (word_at : H → List ℕ) (heads : List H) (form_at : H → Form X) → IsTable which H word_at heads (λ head. (form_at head).sorts) (λ head. (form_at head).more)
@@ -291,9 +292,9 @@ words_after _ _ at word (a_word p x items names words) = a_word p x (items ++ Wo
 params_after : (before : List Sexp) (names : List (List ℕ)) (at : Span) (word : List ℕ) → AreWords before names → AreParams names → IsVar word → list_any (bytes_eq word) names ≡ false → AreParams (names ++ word ∷ [])
 params_after before names at word words params var other =
     let read : parameters_as [] (map reading (before ++ Word at word ∷ [])) ≡ Ok (names ++ word ∷ []) =
-        parameters_after [] before names (Word at word ∷ []) words params.vars params.differ (none_before names)
-        ∙ ap (λ (r : Result Placed SyntaxFault). and_then (and_then r (λ p. cond (list_any (bytes_eq p.word) names) (Err (fault.Name p.from)) (Ok p.word))) (λ x. Ok (names ++ x ∷ []))) (parameter_item at word var)
-        ∙ ap (λ t. and_then (cond t (err_of (fault.Name at.from)) (Ok word)) (λ x. Ok (names ++ x ∷ []))) other in
+    parameters_after [] before names (Word at word ∷ []) words params.vars params.differ (none_before names)
+    ∙ ap (λ (r : Result Placed SyntaxFault). and_then (and_then r (λ p. cond (list_any (bytes_eq p.word) names) (Err (fault.Name p.from)) (Ok p.word))) (λ x. Ok (names ++ x ∷ []))) (parameter_item at word var)
+    ∙ ap (λ t. and_then (cond t (err_of (fault.Name at.from)) (Ok word)) (λ x. Ok (names ++ x ∷ []))) other in
     let named = named_back [] (before ++ Word at word ∷ []) (names ++ word ∷ []) read in
     subst AreParams (sym named.joined) (record { vars = named.vars; differ = named.differ })
 

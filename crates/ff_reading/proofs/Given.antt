@@ -15,7 +15,7 @@ use Rattle.ff_text.specs.declared.items.Sexp.TheVariants.{Word, Str, List as Par
 use Rattle.ff_forms.specs.declared.limits.TheConstants.{MOST_HANDLERS}
 use Rattle.ff_forms.specs.Words.{is_literal, is_variable}
 use Rattle.ff_forms.specs.Grammar.{Sort, a_name, a_variable, an_address, a_string, a_parameter, a_head, parameters, one_parameter, Value, Placed, further, nothing, Form, form, reading, and_then, each_as, form_as, list_as, parameters_as, any, few_handlers}
-use Rattle.ff_forms.specs.Heads.{headed}
+use Rattle.ff_name.specs.Words.{with_word}
 use Rattle.ff_forms.specs.Spellings.{AreWords, no_words, a_word}
 use Rattle.ff_forms.specs.declared.fault.SyntaxFault.{SyntaxFault}
 use Rattle.ff_forms.specs.declared.fault.SyntaxFault.TheVariants as fault
@@ -60,10 +60,10 @@ pub one_parameter_item : (p at : Span) (x : List ℕ) → IsVar x → reading (P
 one_parameter_item p at x v = reading-List p (Word at x ∷ []) one_parameter ∙ variable_item at x v
 
 -- a list whose first item is the word of a form
-pub headed_list : {H X : Type 0} (word_at : H → List ℕ) (heads : List H) (form_at : H → Form X) (at : ℕ) (h : Span) (head : H) (parts : List Sexp) → headed word_at heads (word_at head) ≡ Some head
+pub headed_list : {H X : Type 0} (word_at : H → List ℕ) (heads : List H) (form_at : H → Form X) (at : ℕ) (h : Span) (head : H) (parts : List Sexp) → with_word word_at heads (word_at head) ≡ Some head
     → list_as word_at heads form_at at (map reading (Word h (word_at head) ∷ parts)) ≡ form_as at (form_at head) (map reading parts)
 headed_list {H} {X} word_at heads form_at at h head parts found =
-    ap (λ (r : Result Placed SyntaxFault). and_then (and_then r (λ placed. ok_or (headed word_at heads placed.word) (fault.Head placed.from))) (λ k. form_as at (form_at k) (map reading parts)))
+    ap (λ (r : Result Placed SyntaxFault). and_then (and_then r (λ placed. ok_or (with_word word_at heads placed.word) (fault.Head placed.from))) (λ k. form_as at (form_at k) (map reading parts)))
     (reading-Word h (word_at head) a_head)
     ∙ ap (λ (o : Option H). and_then (ok_or o (fault.Head h.from)) (λ k. form_as at (form_at k) (map reading parts))) found
 

@@ -19,7 +19,8 @@ use Rattle.ff_text.specs.declared.items.Span.{Span}
 use Rattle.ff_text.specs.declared.items.Sexp.{Sexp}
 use Rattle.ff_text.specs.declared.items.Sexp.TheVariants.{Word, Str, List as Parens}
 use Rattle.ff_forms.specs.Words.{is_literal, is_variable, looks_like_number, number_of}
-use Rattle.ff_forms.specs.Heads.{headed, doc_word, expr_word, handler_word, resp_word, cookie_word}
+use Rattle.ff_forms.specs.Heads.{doc_word, expr_word, handler_word, resp_word, cookie_word}
+use Rattle.ff_name.specs.Words.{with_word}
 use Rattle.ff_forms.specs.Grammar as sort
 use Rattle.ff_forms.specs.Grammar.{Sort, Value, Placed, Form, Further, nothing, further, Making, may_have, and_then, reading, each_as, parts_as, form_as, list_as, word_as, string_as, parts_in_list_as, parameters_as, one_parameter_as, number_as, name_as_expression, word_as_expression, doc_form, expr_form, resp_form, cookie_form, handler_form}
 use Rattle.ff_forms.specs.Faults as first
@@ -132,16 +133,16 @@ no_address_word at word other = ap (λ (o : Option Url). ok_or o (fault.Url at))
 first_refused : {H X : Type 0} (word_at : H → List ℕ) (heads : List H) (form_at : H → Form X) (at : ℕ) (item : Sexp) (parts : List Sexp) (found : SyntaxFault) → reading item sort.a_head ≡ Err found
     → list_as word_at heads form_at at (map reading (item ∷ parts)) ≡ Err found
 first_refused {H} {X} word_at heads form_at at item parts found e =
-    ap (λ (r : Result Placed SyntaxFault). and_then (and_then r (λ placed. ok_or (headed word_at heads placed.word) (fault.Head placed.from))) (λ head. form_as at (form_at head) (map reading parts))) e
+    ap (λ (r : Result Placed SyntaxFault). and_then (and_then r (λ placed. ok_or (with_word word_at heads placed.word) (fault.Head placed.from))) (λ head. form_as at (form_at head) (map reading parts))) e
 
 head_refused : {H X : Type 0} (which : Sort) (word_at : H → List ℕ) (heads : List H) (form_at : H → Form X) → ((head : H) → HasForm which (word_at head) (form_at head).sorts (form_at head).more)
     → (at : ℕ) (h : Span) (word : List ℕ) (parts : List Sexp) → ((sorts : List Sort) (more : Further) → HasForm which word sorts more → ⊥)
     → list_as word_at heads form_at at (map reading (Word h word ∷ parts)) ≡ Err (fault.Head h.from)
 head_refused {H} {X} which word_at heads form_at forms at h word parts other =
-    ap (λ (r : Result Placed SyntaxFault). and_then (and_then r (λ placed. ok_or (headed word_at heads placed.word) (fault.Head placed.from))) (λ head. form_as at (form_at head) (map reading parts))) (reading-Word h word sort.a_head)
-    ∙ ap (λ (o : Option H). and_then (ok_or o (fault.Head h.from)) (λ head. form_as at (form_at head) (map reading parts))) (none (headed word_at heads word) refl)
+    ap (λ (r : Result Placed SyntaxFault). and_then (and_then r (λ placed. ok_or (with_word word_at heads placed.word) (fault.Head placed.from))) (λ head. form_as at (form_at head) (map reading parts))) (reading-Word h word sort.a_head)
+    ∙ ap (λ (o : Option H). and_then (ok_or o (fault.Head h.from)) (λ head. form_as at (form_at head) (map reading parts))) (none (with_word word_at heads word) refl)
   where
-    none : (o : Option H) → headed word_at heads word ≡ o → headed word_at heads word ≡ None
+    none : (o : Option H) → with_word word_at heads word ≡ o → with_word word_at heads word ≡ None
     none (Some head) e =
         let same : word_at head ≡ word = (bytes_eq-Decides (word_at head) word).0 (find_passes (λ k. bytes_eq (word_at k) word) heads head e) in
         absurd (other (form_at head).sorts (form_at head).more (subst (λ w. HasForm which w (form_at head).sorts (form_at head).more) same (forms head)))
@@ -277,10 +278,10 @@ fault_refused _ _ _ (first.a_wrong_parameter at before names part after found wo
     in_list sort.parameters at (before ++ part ∷ after) found
     (parameters_after [] before names (part ∷ after) words params.vars params.differ (none_before names)
     ∙ ap (λ (r : Result Placed SyntaxFault). and_then (and_then r (λ p. cond (list_any (bytes_eq p.word) names) (Err (fault.Name p.from)) (Ok p.word))) (λ x. parameters_as (names ++ x ∷ []) (map reading after)))
-      (fault_refused sort.a_parameter part found it))
+    (fault_refused sort.a_parameter part found it))
 fault_refused _ _ _ (first.a_parameter_again at p before names word after words params var again) =
     in_list sort.parameters at (before ++ Word p word ∷ after) (fault.Name p.from)
     (parameters_after [] before names (Word p word ∷ after) words params.vars params.differ (none_before names)
     ∙ ap (λ (r : Result Placed SyntaxFault). and_then (and_then r (λ q. cond (list_any (bytes_eq q.word) names) (Err (fault.Name q.from)) (Ok q.word))) (λ x. parameters_as (names ++ x ∷ []) (map reading after)))
-      (parameter_item p word var)
+    (parameter_item p word var)
     ∙ ap (λ t. and_then (cond t (err_of (fault.Name p.from)) (Ok word)) (λ x. parameters_as (names ++ x ∷ []) (map reading after))) again)

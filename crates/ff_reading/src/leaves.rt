@@ -76,7 +76,12 @@ fn read_parameter(alloc: Global, part: &Sexp, before: &[Name]) -> Result<Name, S
 }
 
 /// The parameter that a word at a place is, after some that stand before it.
-fn read_parameter_word(alloc: Global, at: u32, word: &[u8], before: &[Name]) -> Result<Name, SyntaxFault>
+fn read_parameter_word(
+    alloc: Global,
+    at: u32,
+    word: &[u8],
+    before: &[Name],
+) -> Result<Name, SyntaxFault>
     ensures { Gives result (parameter_as before.now (word_as at word.now)) }
 {
     let name = read_variable_word(alloc, at, word)?;

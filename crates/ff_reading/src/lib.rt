@@ -12,4 +12,4 @@ mod words;
 
 pub use calls::{read_doc, read_expr, read_resp};
 pub use ff_forms::{NoMemory, SyntaxFault};
-pub use law::{what_is_spelled_is_read, what_is_at_fault_is_refused};
+pub use law::{what_is_at_fault_is_refused, what_is_spelled_is_read};

@@ -39,7 +39,12 @@ fn read_resp_list(alloc: Global, at: u32, items: &[Sexp]) -> Result<Resp, Syntax
     }
 }
 
-fn read_resp_form(alloc: Global, at: u32, head: RespHead, parts: &[Sexp]) -> Result<Resp, SyntaxFault>
+fn read_resp_form(
+    alloc: Global,
+    at: u32,
+    head: RespHead,
+    parts: &[Sexp],
+) -> Result<Resp, SyntaxFault>
     ensures { Gives result (form_as at (resp_form head) (map reading parts.now)) }
 {
     match head {
@@ -54,7 +59,10 @@ fn read_page(alloc: Global, at: u32, parts: &[Sexp]) -> Result<Resp, SyntaxFault
     ensures { Gives result (form_as at (resp_form resp_head.Page) (map reading parts.now)) }
 {
     match parts {
-        [cookies, docs @ ..] => Ok(Resp::Page(read_cookies(alloc, cookies)?, read_docs(alloc, docs)?)),
+        [cookies, docs @ ..] => Ok(Resp::Page(
+            read_cookies(alloc, cookies)?,
+            read_docs(alloc, docs)?,
+        )),
         _ => Err(SyntaxFault::Count(at)),
     }
 }
@@ -251,7 +259,12 @@ fn read_handler_list(alloc: Global, at: u32, items: &[Sexp]) -> Result<Handler, 
 
 /// `(fn (VAR) EXPR)`.
 #[cycle(read)]
-fn read_handler_form(alloc: Global, at: u32, head: HandlerHead, parts: &[Sexp]) -> Result<Handler, SyntaxFault>
+fn read_handler_form(
+    alloc: Global,
+    at: u32,
+    head: HandlerHead,
+    parts: &[Sexp],
+) -> Result<Handler, SyntaxFault>
     ensures { Gives result (form_as at (handler_form head) (map reading parts.now)) }
 {
     match parts {
@@ -305,7 +318,12 @@ fn read_expr_list(alloc: Global, at: u32, items: &[Sexp]) -> Result<Expr, Syntax
 }
 
 #[cycle(read)]
-fn read_expr_form(alloc: Global, at: u32, head: ExprHead, parts: &[Sexp]) -> Result<Expr, SyntaxFault>
+fn read_expr_form(
+    alloc: Global,
+    at: u32,
+    head: ExprHead,
+    parts: &[Sexp],
+) -> Result<Expr, SyntaxFault>
     ensures { Gives result (form_as at (expr_form head) (map reading parts.now)) }
 {
     match head {
@@ -418,7 +436,10 @@ fn read_apply(alloc: Global, at: u32, parts: &[Sexp]) -> Result<Expr, SyntaxFaul
     ensures { Gives result (form_as at (expr_form expr_head.Apply) (map reading parts.now)) }
 {
     match parts {
-        [function, args @ ..] => Ok(Expr::Apply(read_body(alloc, function)?, read_exprs(alloc, args)?)),
+        [function, args @ ..] => Ok(Expr::Apply(
+            read_body(alloc, function)?,
+            read_exprs(alloc, args)?,
+        )),
         _ => Err(SyntaxFault::Count(at)),
     }
 }

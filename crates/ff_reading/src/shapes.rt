@@ -1,6 +1,6 @@
 //! An item as a word or as a list, where it may be nothing else.
 ghost use Rattle.std.specs.Prelude.{◌≡◌, IfOk, IfErr, ok_or};
-ghost use Rattle.ff_forms.specs.Heads.{headed};
+ghost use Rattle.ff_name.specs.Words.{with_word};
 ghost use Rattle.ff_forms.specs.Grammar.{reading, head_as};
 ghost use Rattle.ff_reading.specs.Shapes.{IsWordAt, IsNoWord, IsListAt, IsNoList};
 
@@ -45,7 +45,7 @@ pub(crate) fn head_of<H: Worded>(first: &Sexp) -> Result<H, SyntaxFault>
 
 /// The head that a word at a place is.
 fn head_in<H: Worded>(at: u32, word: &[u8]) -> Result<H, SyntaxFault>
-    ensures { result ≡ ok_or (headed H.word_of H.each word.now) (SyntaxFault.Head at) }
+    ensures { result ≡ ok_or (with_word H.word_of H.each word.now) (SyntaxFault.Head at) }
 {
     match by_word(word) {
         Some(head) => Ok(head),
