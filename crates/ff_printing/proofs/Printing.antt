@@ -4,7 +4,8 @@ use Rattle.std.specs.Prelude.{OnOk, OnErr, is_err}
 use Rattle.std.specs.List.{join_with_byte}
 use Rattle.std.proofs.lemmas.List.{take_more}
 use Rattle.std.proofs.lemmas.List.Concat.{flat_map-append}
-use Rattle.ff_name.specs.Output.{AppendsFront}
+use Rattle.ff_contract.specs.Appending.{Appends, AppendsFront}
+use Rattle.ff_contract.proofs.Sequence.{front_first, front_second}
 use Rattle.ff_text.specs.declared.items.Sexp.{Sexp}
 use Rattle.ff_text.specs.Printed.{spelled}
 use Rattle.ff_text.specs.Notation.{span}
@@ -13,32 +14,14 @@ use Rattle.ff_forms.specs.Canonical.{word, parens}
 use Rattle.ff_printing.specs.Pieces.{Prints, whole, cut_off, stopped, after_blank, each_after_blank, ending}
 use Rattle.ff_printing.specs.declared.printer.Printer.{Printer}
 
--- a front of the first of two pieces
-front_first : (old new first more : List ℕ) → AppendsFront old new first → AppendsFront old new (first ++ more)
-front_first old new first more front = record {
-  front = front.front;
-  rest = front.rest ++ more;
-  cut = ap (λ bs. bs ++ more) front.cut ∙ append_assoc front.front front.rest more;
-  appended = front.appended;
-}
-
--- a front of the second
-front_second : (old mid new first more : List ℕ) → mid ≡ old ++ first → AppendsFront mid new more → AppendsFront old new (first ++ more)
-front_second old mid new first more done front = record {
-  front = first ++ front.front;
-  rest = front.rest;
-  cut = ap (λ bs. first ++ bs) front.cut ∙ sym (append_assoc first front.front front.rest);
-  appended = front.appended ∙ ap (λ bs. bs ++ front.front) done ∙ append_assoc old first front.front;
-}
-
 -- one piece after another
 pub then : {p q r : Printer} {first more : List ℕ} → Prints p q first → Prints q r more → Prints p r (first ++ more)
 then {p} {q} {r} {first} {more} (whole a b e) (whole c d f) = whole a d (f ∙ ap (λ bs. bs ++ more) e ∙ append_assoc p.bytes.items first more)
-then {p} {q} {r} {first} {more} (whole a b e) (cut_off c d f) = cut_off a d (front_second p.bytes.items q.bytes.items r.bytes.items first more e f)
+then {p} {q} {r} {first} {more} (whole a b e) (cut_off c d f) = cut_off a d (front_second p.bytes.items q.bytes.items r.bytes.items first more (first ++ more) refl e f)
 then {p} {q} {r} {first} {more} (whole a b e) (stopped c d f) = cc
 then {p} {q} {r} {first} {more} (cut_off a b e) (whole c d f) = cc
 then {p} {q} {r} {first} {more} (cut_off a b e) (cut_off c d f) = cc
-then {p} {q} {r} {first} {more} (cut_off a b e) (stopped c d f) = cut_off a d (subst (λ bs. AppendsFront p.bytes.items bs (first ++ more)) (sym f) (front_first p.bytes.items q.bytes.items first more e))
+then {p} {q} {r} {first} {more} (cut_off a b e) (stopped c d f) = cut_off a d (subst (λ bs. AppendsFront p.bytes.items bs (first ++ more)) (sym f) (front_first p.bytes.items q.bytes.items first more (first ++ more) refl e))
 then {p} {q} {r} {first} {more} (stopped a b e) (whole c d f) = cc
 then {p} {q} {r} {first} {more} (stopped a b e) (cut_off c d f) = cc
 then {p} {q} {r} {first} {more} (stopped a b e) (stopped c d f) = stopped a d (f ∙ e)
@@ -47,10 +30,19 @@ pub prints_as : {p q : Printer} {bytes : List ℕ} (others : List ℕ) → other
 prints_as {p} {q} others e prints = subst (λ bs. Prints p q bs) (sym e) prints
 
 -- a call that appends, and whether it failed
-pub noted : {X E : Type 0} (p q : Printer) (bytes : List ℕ) (done : Result X E) → p.failed ≡ false → q.failed ≡ is_err done
-    → OnOk done (q.bytes.items ≡ p.bytes.items ++ bytes) → OnErr done (AppendsFront p.bytes.items q.bytes.items bytes) → Prints p q bytes
-noted p q bytes (Ok it) before after ok err = whole before after ok
-noted p q bytes (Err refused) before after ok err = cut_off before after err
+pub noted : {X E : Type 0} (p q : Printer) (bytes : List ℕ) (done : Result X E) → p.failed ≡ false → q.failed ≡ is_err done → Appends done p.bytes.items q.bytes.items bytes → Prints p q bytes
+noted p q bytes (Ok it) before after appends = whole before after appends
+noted p q bytes (Err refused) before after appends = cut_off before after appends
+
+-- what a printer did that began with an output, and ended with one
+pub ended_with : {X E : Type 0} (done : Result X E) (old new : List ℕ) (p q : Printer) (bytes : List ℕ) → p.failed ≡ false → p.bytes.items ≡ old → Prints p q bytes → new ≡ q.bytes.items
+    → OnOk done (q.failed ≡ false) → OnErr done (q.failed ≡ true) → Appends done old new bytes
+ended_with (Ok it) old new p q bytes begun same (whole a b e) last ok err = last ∙ e ∙ ap (λ bs. bs ++ bytes) same
+ended_with (Ok it) old new p q bytes begun same (cut_off a b e) last ok err = cc
+ended_with (Ok it) old new p q bytes begun same (stopped a b e) last ok err = cc
+ended_with (Err refused) old new p q bytes begun same (whole a b e) last ok err = cc
+ended_with (Err refused) old new p q bytes begun same (cut_off a b e) last ok err = subst (λ os. AppendsFront os new bytes) same (subst (λ ns. AppendsFront p.bytes.items ns bytes) (sym last) e)
+ended_with (Err refused) old new p q bytes begun same (stopped a b e) last ok err = cc
 
 joined_ending : (first : List ℕ) (parts : List Sexp) → join_with_byte 32 (first ∷ map spelled parts) ++ 41 ∷ [] ≡ first ++ ending parts
 joined_ending first [] = refl

@@ -1,0 +1,13 @@
+use Rattle.std.proofs.Common.{sym, inl}
+use Rattle.ff_forms.specs.Grammar.{an_address}
+use Rattle.ff_reading.proofs.Layers.{string_layer, list_layer, word_gives}
+use Rattle.ff_reading.proofs.leaves.read_address.Goals as goal
+
+pub returns-in-Word : goal.returns-in-Word
+returns-in-Word c = word_gives c.args.item.now c.in-Word.at c.in-Word.word c.as_bytes.result.now an_address c.read_address_word.result c.in-Word.is c.as_bytes.ensures.value c.read_address_word.ensures
+
+pub returns-in-Str : goal.returns-in-Str
+returns-in-Str c = inl (sym (string_layer c.args.item.now c.in-Str.at c.in-Str.field-1 an_address c.in-Str.is))
+
+pub returns-in-List : goal.returns-in-List
+returns-in-List c = inl (sym (list_layer c.args.item.now c.in-List.at c.in-List.field-1 an_address c.in-List.is))
