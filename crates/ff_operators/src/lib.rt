@@ -6,4 +6,12 @@
 
 mod answer;
 
+mod arithmetic;
+mod comparisons;
+pub mod operands;
+mod operators;
+mod texts;
+
 pub use answer::{Applied, Fail};
+pub use operators::apply;
+pub use texts::{MOST_MADE_BYTES, MOST_MASS};
