@@ -1,0 +1,9 @@
+pub mod Forms
+pub mod Induction
+pub mod Sources
+pub mod Laws
+pub mod Keeping
+pub mod Sound
+pub mod Spelling
+pub mod Reading
+pub mod Redexes

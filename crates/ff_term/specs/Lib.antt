@@ -1,0 +1,7 @@
+pub mod Running
+pub mod Coding
+pub mod Whole
+pub mod Rows
+pub mod Meets
+pub mod Sources
+pub mod Redexes
