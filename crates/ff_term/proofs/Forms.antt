@@ -46,6 +46,7 @@ whole-level x = ap whole (sym (roll-out-Expr x))
 at_level : (x : Expr) (l : Expr-F Doc Expr Handler) → out-Expr x ≡ l → whole x ≡ level l
 at_level x l e = whole-level x ∙ ap level e
 
+-- a literal is its value, and each other form is of the same kind, its parts whole
 pub whole-Lit : (l : Lit) → whole (expr.Lit l) ≡ Done (literal l)
 whole-Lit l = at_level (expr.Lit l) (Expr-F.Lit l) (expr.outs-Lit l)
 

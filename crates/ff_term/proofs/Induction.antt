@@ -63,5 +63,6 @@ module _ (Q : Expr → Type 0) where
   layer by (Expr-F.Tree d) = by.tree_form d.0
   layer by (Expr-F.Prim op es) = by.prim_form op (map (λ e. e.0) es) (each Q (λ e. e.0) (λ e. e.1) es)
 
+  -- then it holds of each expression
   pub by_forms : ByForms Q → (e : Expr) → Q e
   by_forms by = ind-Expr P Q R (λ x y e. tt) (λ x y e. subst (λ l. Q (roll-Expr l)) e (layer by y)) (λ x y e. tt)

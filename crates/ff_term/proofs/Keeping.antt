@@ -1,4 +1,5 @@
--- What holds of each thing in an expression holds of each thing in its redex, and after a rewriting that keeps it.
+-- What holds of each thing in an expression holds of each in its redex, and after a rewriting
+-- that keeps it.
 use Rattle.std.proofs.Common.{◌≡◌, ◌+◌, ℕ, List, [], ◌∷◌, length, Bool, true, false, cond, refl, ap, arith}
 use Rattle.ff_value.specs.declared.ids.ActId.{ActId}
 use Rattle.ff_value.specs.declared.value.Val.{Val}
@@ -31,6 +32,7 @@ many f (more e es) =
 
 module _ (c : Conditions) where
   mutual
+    -- the redex meets what the expression does
     pub redex-meets : (e : Running) → Meets c e → Meets c (redex e)
     redex-meets (Let x e) h = chosen (is_value e) (Meets c) (Let x e) (redex e) h (redex-meets e h.1)
     redex-meets (Set x e) h = chosen (is_value e) (Meets c) (Set x e) (redex e) h (redex-meets e h.1)
@@ -58,6 +60,7 @@ module _ (c : Conditions) where
   chosen_act false x y p q = q
 
   mutual
+    -- so does the innermost activation, where the one around all does
     pub innermost-meets : (a : ActId) (e : Running) → c.act a → Meets c e → c.act (innermost a e)
     innermost-meets a (Let x e) l h = innermost-meets a e l h.1
     innermost-meets a (Set x e) l h = innermost-meets a e l h.1
@@ -109,6 +112,7 @@ module _ (c : Conditions) where
 
   -- the local rows need only that null and the truth values are fine
   module _ (null : c.val val.Null) (truth : (b : Bool) → c.val (val.Bool b)) where
+    -- what a redex becomes that no store decides meets what it does
     pub local-meets : (e : Running) → Meets c e → Meets c (local_row e)
     local-meets (While e f) h = (h.0, (h.1, (h, tt)), null)
     local-meets (Do none) h = null
@@ -127,6 +131,7 @@ module _ (c : Conditions) where
     local-meets (Tree d) h = h
     local-meets (Prim op es) h = h
 
+  -- so does a branch
   pub branch-meets : (b : Bool) (e : Running) → Meets c e → Meets c (branch b e)
   branch-meets true (If e f g) h = h.1
   branch-meets false (If e f g) h = h.2
@@ -149,6 +154,7 @@ pub many-values : (vs : List Val) → how_many (values vs) ≡ length vs
 many-values [] = refl
 many-values (v ∷ vs) = let p = many-values vs in omega arith
 
+-- the values among some values are all
 pub vals_of_values : (vs : List Val) → vals_of (values vs) ≡ vs
 vals_of_values [] = refl
 vals_of_values (v ∷ vs) = ap (λ (ws : List Val). v ∷ ws) (vals_of_values vs)

@@ -21,6 +21,7 @@ module _ (g : Running → Running) where
   at_list false r s k l p q = q
 
   mutual
+    -- rewriting by a function puts what it gives for the redex
     pub rewritten-redex : (e : Running) → rewritten g e ≡ rewritten (λ _. g (redex e)) e
     rewritten-redex (Let x e) = at_part (is_value e) (Let x e) (redex e) (λ h. Let x (rewritten h e)) (ap (Let x) (rewritten-redex e))
     rewritten-redex (Set x e) = at_part (is_value e) (Set x e) (redex e) (λ h. Set x (rewritten h e)) (ap (Set x) (rewritten-redex e))

@@ -5,5 +5,6 @@ pub mod Laws
 pub mod Keeping
 pub mod Sound
 pub mod Spelling
+pub mod Calls
 pub mod Reading
 pub mod Redexes

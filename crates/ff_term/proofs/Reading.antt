@@ -1,5 +1,5 @@
 -- What is read of a redex, and of a value.
-use Rattle.std.proofs.Common.{◌≡◌, Bool, true, false, Option, Some, None, List, refl, sym, ap, ◌∙◌}
+use Rattle.std.proofs.Common.{◌≡◌, false, None, List, refl, sym, ap, ◌∙◌}
 use Rattle.ff_value.specs.declared.value.Val.{Val}
 use Rattle.ff_term.specs.Running.{Running, Done, Var, Let, Set, If, While, Do, And, Or, Make, Apply, Tree, Prim, Inside, is_value, value_of}
 use Rattle.ff_term.specs.Rows.{IsLocal}

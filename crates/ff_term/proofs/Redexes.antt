@@ -1,5 +1,5 @@
 -- What is read of the redex of an expression that is no value is that redex.
-use Rattle.std.proofs.Common.{◌≡◌, Bool, true, false, cond, Option, Some, None, List, [], ◌∷◌, refl, sym, ap, subst}
+use Rattle.std.proofs.Common.{◌≡◌, Bool, true, false, cond, List, refl, sym, ap, subst}
 use Rattle.ff_value.specs.declared.value.Val.{Val}
 use Rattle.ff_term.specs.Running.{Running, Runnings, Done, Var, Let, Set, If, While, Do, And, Or, Make, Apply, Tree, Prim, Inside, none, more, is_value, are_values, begins_done, redex, redex_among, values, vals_of}
 use Rattle.ff_term.specs.Redexes.{IsRedexOf, read_redex, value_or_null}
@@ -52,6 +52,7 @@ apply-read : (v : Val) (vs : List Val) → IsRead (Apply (Done v) (values vs))
 apply-read v vs = ap (λ (ws : List Val). Apply (Done v) (values ws)) (sym (vals_of_values vs))
 
 mutual
+  -- what is read of the redex names it
   pub redex-is-read : (e : Running) → is_value e ≡ false → IsRead (redex e)
   redex-is-read (Let x e) h =
       when (is_value e) (Let x e) (redex e) (λ p. subst (λ (y : Running). IsRead (Let x y)) (sym (value-is e p)) refl) (λ p. redex-is-read e p)
@@ -63,9 +64,9 @@ mutual
   redex-is-read (Apply e es) h =
       when (is_value e) (cond (are_values es) (Apply e es) (redex_among es)) (redex e)
       (λ p. when (are_values es) (Apply e es) (redex_among es)
-        (λ q. subst (λ (y : Running). IsRead (Apply y es)) (sym (value-is e p))
-          (subst (λ (fs : Runnings). IsRead (Apply (Done (value_or_null e)) fs)) (sym (values-are es q)) (apply-read (value_or_null e) (vals_of es))))
-        (λ q. among-is-read es q))
+      (λ q. subst (λ (y : Running). IsRead (Apply y es)) (sym (value-is e p))
+      (subst (λ (fs : Runnings). IsRead (Apply (Done (value_or_null e)) fs)) (sym (values-are es q)) (apply-read (value_or_null e) (vals_of es))))
+      (λ q. among-is-read es q))
       (λ p. redex-is-read e p)
   redex-is-read (Prim op es) h =
       when (are_values es) (Prim op es) (redex_among es)

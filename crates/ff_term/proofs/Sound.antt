@@ -1,5 +1,5 @@
 -- Weaker conditions, and what a redex hands out.
-use Rattle.std.proofs.Common.{◌≡◌, ℕ, List, [], ◌∷◌, length, All, subst}
+use Rattle.std.proofs.Common.{◌≡◌, ℕ, List, [], ◌∷◌, All, subst}
 use Rattle.std.proofs.lemmas.List.Elements.{All-nil, All-cons}
 use Rattle.ff_tree.specs.declared.op.Op.{Op}
 use Rattle.ff_tree.specs.declared.tree.Doc.{Doc}
@@ -13,6 +13,7 @@ use Rattle.ff_term.specs.declared.redex.Redex.{Redex}
 use Rattle.ff_term.specs.declared.redex.Redex.TheVariants as read
 use Rattle.ff_term.proofs.Keeping.{redex-meets, many-values}
 
+-- each of the first conditions gives the second one
 pub record AreWeaker (c d : Conditions) : Type 0 where
   pub val : (v : Val) → c.val v → d.val v
   pub var : (x : List ℕ) → c.var x → d.var x
@@ -23,6 +24,7 @@ pub record AreWeaker (c d : Conditions) : Type 0 where
 
 module _ (c d : Conditions) (w : AreWeaker c d) where
   mutual
+    -- what meets the first conditions meets the second
     pub weaker : (e : Running) → Meets c e → Meets d e
     weaker (Done v) h = w.val v h
     weaker (Var x) h = w.var x h
@@ -39,6 +41,7 @@ module _ (c d : Conditions) (w : AreWeaker c d) where
     weaker (Prim op es) h = (w.prim op (how_many es) h.0, weaker-all es h.1)
     weaker (Inside a e) h = (w.act a h.0, weaker e h.1)
 
+    -- the same of lists
     pub weaker-all : (es : Runnings) → MeetAll c es → MeetAll d es
     weaker-all none h = tt
     weaker-all (more e es) h = (weaker e h.0, weaker-all es h.1)

@@ -12,6 +12,7 @@ pub record IsSource (e : Running) : Type 0 where
   pub insides : insides e ≡ 0
   pub innermost : (a : ActId) → innermost a e ≡ a
 
+-- the same of some expressions
 pub record AreSources (es : Runnings) : Type 0 where
   pub insides : insides_among es ≡ 0
   pub innermost : (a : ActId) → innermost_among a es ≡ a
@@ -55,6 +56,7 @@ source_forms = record {
   prim_form = λ op es h. at (whole-Prim op es) (let all : AreSources (wholes es) = sources es h in record { insides = all.insides; innermost = all.innermost });
 }
 
+-- each expression of which nothing was evaluated is one
 pub source : (e : Expr) → IsSource (whole e)
 source = by_forms (λ e. IsSource (whole e)) source_forms
 
@@ -62,5 +64,6 @@ all_sources : (es : List Expr) → Each (λ e. IsSource (whole e)) es
 all_sources [] = tt
 all_sources (e ∷ es) = (source e, all_sources es)
 
+-- the same of lists
 pub sources_of : (es : List Expr) → AreSources (wholes es)
 sources_of es = sources es (all_sources es)

@@ -1,8 +1,6 @@
 -- A well spelled source meets conditions that take sources, as a runtime expression.
 use Rattle.std.proofs.Common.{◌≡◌, ◌≤◌, ◌+◌, ℕ, List, [], ◌∷◌, map, length, refl, sym, ap, ◌∙◌, arith, subst}
 use Rattle.std.specs.List.{AllByRecursion}
-use Rattle.ff_tree.specs.declared.tree.Lit.{Lit}
-use Rattle.ff_tree.specs.declared.tree.Lit.TheVariants as lit
 use Rattle.ff_tree.specs.declared.tree.Doc.{Doc}
 use Rattle.ff_tree.specs.declared.tree.Expr.{Expr}
 use Rattle.ff_tree.specs.declared.tree.Expr.TheVariants as expr
@@ -10,10 +8,10 @@ use Rattle.ff_tree.specs.declared.tree.Handler.{Handler}
 use Rattle.ff_tree.specs.declared.tree.Doc.TheOpen.{Expr-F}
 use Rattle.ff_tree.specs.declared.tree.Doc.TheViews.{out-Expr}
 use Rattle.ff_tree.specs.declared.tree.Doc.TheFolds.{map-Expr, fold_out-Expr}
-use Rattle.ff_tree.specs.Spelled.{IsLit, IsSpelledExpr, IsWellSpelledExpr, most, doc_levels, expr_levels, handler_levels, doc_depth, expr_depth, handler_depth}
+use Rattle.ff_tree.specs.Spelled.{IsSpelledExpr, IsWellSpelledExpr, most, doc_levels, expr_levels, handler_levels, doc_depth, expr_depth, handler_depth}
 use Rattle.ff_tree.proofs.Levels.{IsSpelledExpr-Lit, IsSpelledExpr-Var, IsSpelledExpr-Let, IsSpelledExpr-Set, IsSpelledExpr-If, IsSpelledExpr-While, IsSpelledExpr-Do, IsSpelledExpr-And, IsSpelledExpr-Or, IsSpelledExpr-Make, IsSpelledExpr-Apply, IsSpelledExpr-Tree, IsSpelledExpr-Prim}
 use Rattle.ff_term.specs.Running.{Running}
-use Rattle.ff_term.specs.Whole.{whole, wholes, literal}
+use Rattle.ff_term.specs.Whole.{whole, wholes}
 use Rattle.ff_term.specs.Meets.{Conditions, Meets, MeetAll, how_many}
 use Rattle.ff_term.specs.Sources.{TakesSources}
 use Rattle.ff_term.proofs.Forms.{whole-Lit, whole-Var, whole-Let, whole-Set, whole-If, whole-While, whole-Do, whole-And, whole-Or, whole-Make, whole-Apply, whole-Tree, whole-Prim}

@@ -18,6 +18,7 @@ abbrev lists : Coded (List (List ℕ))
 lists = coded_list names
 
 abbrev mutual
+  -- the number of its kind, and the codes of its parts
   pub code : Running → Gv
   code (Done v) = gcons (gnum 0) (val.the_row.coded.code v)
   code (Var x) = gcons (gnum 1) (names.code x)
@@ -34,6 +35,7 @@ abbrev mutual
   code (Prim op es) = gcons (gnum 12) (gcons (operator.the_row.coded.code op) (codes es))
   code (Inside a e) = gcons (gnum 13) (gcons (act.the_row.coded.code a) (code e))
 
+  -- the codes of some expressions, in their order
   pub codes : Runnings → Gv
   codes none = gnil
   codes (more e es) = gcons (code e) (codes es)
@@ -53,6 +55,7 @@ right : {a b c d : Gv} → gcons a b ≡ gcons c d → b ≡ d
 right e = cc
 
 mutual
+  -- expressions of one code are equal
   pub code_inj : (x y : Running) → code x ≡ code y → x ≡ y
   code_inj (Done v) (Done w) e = ap Done (val.the_row.coded.inj v w (right e))
   code_inj (Var x) (Var y) e = ap Var (names.inj x y (right e))
@@ -81,6 +84,7 @@ mutual
       let p : a ≡ b = act.the_row.coded.inj a b (left (right h)) in let q : e ≡ f = code_inj e f (right (right h)) in cc
   code_inj _ _ h = absurd (omega (arith, kind h))
 
+  -- the same of lists of them
   pub codes_inj : (xs ys : Runnings) → codes xs ≡ codes ys → xs ≡ ys
   codes_inj none none h = refl
   codes_inj (more e es) (more f fs) h =
@@ -88,6 +92,7 @@ mutual
   codes_inj none (more f fs) h = cc
   codes_inj (more e es) none h = cc
 
+-- expressions by that code
 abbrev pub coded_running : Coded Running
 coded_running = record { code = code; inj = code_inj }
 

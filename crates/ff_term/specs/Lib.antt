@@ -1,5 +1,6 @@
 pub mod Running
 pub mod Coding
+pub mod Calls
 pub mod Whole
 pub mod Rows
 pub mod Meets

@@ -16,6 +16,7 @@ pub record Conditions : Type 1 where
   pub prim : Op → ℕ → Type 0
   pub act : ActId → Type 0
 
+-- how many there are
 abbrev pub how_many : Runnings → ℕ
 how_many none = 0
 how_many (more e es) = 1 + how_many es
@@ -38,6 +39,7 @@ abbrev mutual
   Meets c (Prim op es) = c.prim op (how_many es) × MeetAll c es
   Meets c (Inside a e) = c.act a × Meets c e
 
+  -- each thing in each of the expressions does
   pub MeetAll : Conditions → Runnings → Type 0
   MeetAll c none = Unit {0}
   MeetAll c (more e es) = Meets c e × MeetAll c es

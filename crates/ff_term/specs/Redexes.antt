@@ -1,8 +1,8 @@
 -- What a redex is.
-use Rattle.std.specs.Prelude.{◌≡◌, List, All, length}
+use Rattle.std.specs.Prelude.{◌≡◌, All, length}
 use Rattle.ff_value.specs.declared.value.Val.{Val}
 use Rattle.ff_value.specs.declared.value.Val.TheVariants as val
-use Rattle.ff_term.specs.Running.{Running, Done, Var, Let, Set, If, While, Do, And, Or, Make, Apply, Tree, Prim, Inside, values, vals_of}
+use Rattle.ff_term.specs.Running.{Running, Done, Var, Let, Set, If, Make, Apply, Tree, Prim, values, vals_of}
 use Rattle.ff_term.specs.Rows.{IsLocal}
 use Rattle.ff_term.specs.Meets.{Conditions}
 use Rattle.ff_term.specs.declared.redex.Redex.{Redex}

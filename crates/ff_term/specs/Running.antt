@@ -9,7 +9,8 @@ use Rattle.ff_value.specs.declared.value.Val.{Val}
 use Rattle.ff_value.specs.declared.value.Val.TheVariants as val
 
 mutual
-  -- an expression in which values stand for parts that are evaluated, and `Inside a e` for e that runs in the activation a
+  -- an expression in which values stand for parts that are evaluated, and `Inside a e` for e that
+  -- runs in the activation a, as the body of a call does
   pub data Running : Type 0 where
     Done : Val → Running
     Var : List ℕ → Running
@@ -36,10 +37,12 @@ pub record Evaluation : Type 0 where
   pub base : ActId
   pub expr : Running
 
+-- the expression is a value
 abbrev pub is_value : Running → Bool
 is_value (Done v) = true
 is_value _ = false
 
+-- each of them is
 abbrev pub are_values : Runnings → Bool
 are_values none = true
 are_values (more e es) = cond (is_value e) (are_values es) false
@@ -90,6 +93,7 @@ abbrev mutual
   rewritten f (Make xs e) = f (Make xs e)
   rewritten f (Tree d) = f (Tree d)
 
+  -- the first part that is no value is rewritten
   pub rewritten_among : (Running → Running) → Runnings → Runnings
   rewritten_among f none = none
   rewritten_among f (more e es) = cond (is_value e) (more e (rewritten_among f es)) (more (rewritten f e) es)
@@ -112,6 +116,7 @@ abbrev mutual
   innermost a (Make xs e) = a
   innermost a (Tree d) = a
 
+  -- that of the first part that is no value
   pub innermost_among : ActId → Runnings → ActId
   innermost_among a none = a
   innermost_among a (more e es) = cond (is_value e) (innermost_among a es) (innermost a e)
@@ -134,6 +139,7 @@ abbrev mutual
   insides (Make xs e) = 0
   insides (Tree d) = 0
 
+  -- how many they have together
   pub insides_among : Runnings → ℕ
   insides_among none = 0
   insides_among (more e es) = insides e + insides_among es

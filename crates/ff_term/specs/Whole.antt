@@ -1,4 +1,4 @@
--- An expression as a runtime expression: nothing of it is evaluated but its literals, which are values.
+-- An expression as a runtime expression: nothing is evaluated but literals, which are values.
 use Rattle.std.specs.Prelude.{List, [], ◌∷◌}
 use Rattle.ff_tree.specs.declared.tree.Lit.{Lit}
 use Rattle.ff_tree.specs.declared.tree.Lit.TheVariants as lit
@@ -23,6 +23,7 @@ abbrev pub runnings : List (Expr × Running) → Runnings
 runnings [] = none
 runnings (e ∷ es) = more e.1 (runnings es)
 
+-- one level, whose parts are given beside what they are
 abbrev pub whole_level : Expr-F (Doc × Unit {0}) (Expr × Running) (Handler × Unit {0}) → Running
 whole_level (Expr-F.Lit l) = Done (literal l)
 whole_level (Expr-F.Var x) = Var x
@@ -38,6 +39,7 @@ whole_level (Expr-F.Apply e es) = Apply e.1 (runnings es)
 whole_level (Expr-F.Tree d) = Tree d.0
 whole_level (Expr-F.Prim op es) = Prim op (runnings es)
 
+-- the expression as a runtime expression
 unfoldable pub whole : Expr → Running
 whole = para-Expr (Unit {0}) Running (Unit {0}) (λ _. tt) whole_level (λ _. tt)
 

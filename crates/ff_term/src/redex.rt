@@ -7,13 +7,17 @@ pub enum Redex {
     Local,
     /// An `if` with its test.
     Test(Val),
+    /// A variable to be read.
     Var(Name),
+    /// A variable to be declared, and its value.
     Let(Name, Val),
+    /// A variable to be assigned, and its new value.
     Set(Name, Val),
-    /// A function to be made.
+    /// A function to be made, of its parameters and its body.
     Make(Names, Body),
     /// A function and its arguments.
     Apply(Val, Vals),
+    /// A document to be made into nodes.
     Tree(Doc),
     /// An operator and its operands.
     Prim(Op, Vals),
