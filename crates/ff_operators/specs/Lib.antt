@@ -1,0 +1,4 @@
+pub mod Answers
+pub mod Limits
+pub mod Operands
+pub mod Pure
