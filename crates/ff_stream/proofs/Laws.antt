@@ -1,5 +1,5 @@
 -- A trace is read in one way; what follows for how going through it ends.
-use Rattle.std.proofs.Common.{◌≡◌, ◌≢◌, ℕ, ◌+◌, ◌<◌, ◌≤◌, ◌⊎◌, inl, inr, Bool, true, false, cond, Option, Some, None, Result, Ok, Err, List, [], ◌∷◌, ◌++◌, length, All, refl, sym, ap, subst, ◌∙◌, append-nil, arith, length-append}
+use Rattle.std.proofs.Common.{◌≡◌, ℕ, ◌+◌, ◌<◌, ◌≤◌, ◌⊎◌, inl, inr, Bool, true, false, cond, Option, Some, None, Result, Ok, Err, List, [], ◌++◌, length, All, refl, sym, ap, subst, ◌∙◌, arith, length-append}
 use Rattle.std.specs.Bool.{⊤}
 use Rattle.std.specs.Option.{IfSome}
 use Rattle.std.proofs.lemmas.List.Elements.{All-nil, All-cons}
@@ -9,20 +9,17 @@ use Rattle.std.proofs.lemmas.Option.{none-some, same_Some}
 use Rattle.ff_io.specs.declared.lines.TheConstants.{MOST_LINE_BYTES, MOST_TRACE_BYTES}
 use Rattle.ff_io.specs.Pieces.{Piece, got_of, put_of, has_end}
 use Rattle.ff_io.specs.Port.{Leaves}
-use Rattle.ff_io.specs.Fronts.{IsFront, IsProperFront}
 use Rattle.ff_io.specs.Cutting.{has_newline, content, after_line, line_size, HasLine, IsTooLong, IsTooMuch, Fits, IsUnfinished}
 use Rattle.ff_io.proofs.CuttingLemmas.{content-none, content-after, content-more, line_size-more}
 use Rattle.ff_io.proofs.Joins.{rest_was_got}
-
 use Rattle.ff_stream.specs.Traces.{Reads, IsTrace, onto}
-use Rattle.ff_stream.specs.Owed.{text_from, text_of, turns_of, Begins, Owes, OwesMore, Streams, IsStreamed}
-use Rattle.ff_stream.specs.Streaming.{MayFollow}
+use Rattle.ff_stream.specs.Owed.{text_from, text_of, turns_of, Owes, OwesMore, Streams, IsStreamed}
 use Rattle.ff_stream.specs.declared.end.BadLine.{BadLine}
 use Rattle.ff_stream.specs.declared.end.End as declared
 use Rattle.ff_stream.specs.declared.end.End.TheVariants.{Done, Bad, ReadFault, WriteFault, NoMemory}
 use Rattle.ff_stream.specs.declared.end.Fault.TheVariants as fault
 use Rattle.ff_stream.proofs.Owing.{text_from-append, turns_from-append}
-use Rattle.ff_stream.proofs.Standing.{fault_of, value_or, ReadsAfter, reads_after, IsSameLine, same_line}
+use Rattle.ff_stream.proofs.Standing.{fault_of, reads_after, same_line}
 
 -- ---- cases apart
 
