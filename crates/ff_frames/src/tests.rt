@@ -2,8 +2,8 @@ ghost use Rattle.std.specs.Prelude.{◌≡◌, false};
 ghost use Rattle.ff_term.specs.Running.{is_value};
 
 use crate::Control;
-use ff_term::Redex;
 use ff_shared::{Shared, SharedList};
+use ff_term::Redex;
 use ff_tree::{Body, Expr, Lit};
 use ff_value::{ActId, NoMemory, Val};
 use std::alloc::Global;

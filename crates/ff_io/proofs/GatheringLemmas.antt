@@ -62,12 +62,15 @@ reads_more given held ended [] bytes reads unfinished short =
     or_left : (s t : Bool) → (s || t) ≡ false → s ≡ false
     or_left true t e = e
     or_left false t e = refl
-reads_more given held ended (Got b ∷ pieces) bytes reads unfinished short =
-    (reads.0, reads.1, reads_more given (held ++ b) (is_nil b) pieces bytes reads.2 (record {
-      no_line = rw (append_assoc held b (got_of pieces)) unfinished.no_line;
-      open_yet = rw reads.0.open_yet at unfinished.open_yet;
-      fits = rw (append_assoc held b (got_of pieces)) unfinished.fits;
-    }) short)
+reads_more given held ended (Got b ∷ pieces) bytes reads unfinished short = (
+  reads.0,
+  reads.1,
+  reads_more given (held ++ b) (is_nil b) pieces bytes reads.2 (record {
+    no_line = rw (append_assoc held b (got_of pieces)) unfinished.no_line;
+    open_yet = rw reads.0.open_yet at unfinished.open_yet;
+    fits = rw (append_assoc held b (got_of pieces)) unfinished.fits;
+  }) short,
+)
 reads_more given held ended (Put b ∷ pieces) bytes reads unfinished short = absurd reads
 
 -- these pieces were read, and a line was cut off all the bytes, or what is held has none
@@ -160,6 +163,7 @@ module _ {log_before log_mid : Option (List Piece)} {rest_before rest_mid : Opti
           or_right : (s t : Bool) → (s || t) ≡ false → t ≡ false
           or_right true t e = absurd (false≢true (sym e))
           or_right false t e = e
+
       from : (f : LineFail) → IsReadFail f → IsUngathered given got (ended || has_end so_far.pieces) f
       from Read k = unfinished
       from NoMemory k = tt

@@ -82,7 +82,7 @@ byte mass (Some b) = free mass (val.Num (pos b))
 abbrev pub is_place : List ℕ → ℤ → Bool
 is_place text n =
     int_le (pos 0) n && nat_le (nat_abs n) (length text)
-        && (nat_abs n == length text || nat_lt (slice_index text (nat_abs n)) 128 || nat_le 192 (slice_index text (nat_abs n)))
+    && (nat_abs n == length text || nat_lt (slice_index text (nat_abs n)) 128 || nat_le 192 (slice_index text (nat_abs n)))
 
 -- the bytes from the first place to before the second, where these are places in order
 abbrev pub part_of : List ℕ → ℤ → ℤ → Option (List ℕ)

@@ -5,7 +5,6 @@
 #![tactic(auto)]
 
 mod answer;
-
 mod arithmetic;
 mod comparisons;
 pub mod operands;

@@ -4,7 +4,7 @@ ghost use Rattle.ff_text.specs.Bytes.{is_word_byte};
 ghost use Rattle.ff_text.specs.Machine as machine;
 ghost use Rattle.ff_text.specs.Machine.{Makes, HasDigit};
 
-use crate::bytes::{InStr, Class, Slashed, high_digit, in_str_of, class_of, low_digit, slashed_of};
+use crate::bytes::{Class, InStr, Slashed, class_of, high_digit, in_str_of, low_digit, slashed_of};
 use crate::items::{Items, Sexp, Span, TextFault};
 use crate::rows::{Row, Stack, WordBytes};
 use ff_name::Text;
