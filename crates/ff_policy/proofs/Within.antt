@@ -7,9 +7,9 @@ use Rattle.ff_value.specs.declared.input.Input.{Input}
 use Rattle.ff_value.specs.declared.output.Out.{Out}
 use Rattle.ff_value.specs.declared.output.Out.TheVariants as out
 use Rattle.ff_name.specs.declared.levels.Level.{Level}
-use Rattle.ff_lattice.specs.Order.{Order, size, IsOrder}
+use Rattle.ff_lattice.specs.Order.{Order, size, IsTag, IsOrder}
 use Rattle.ff_lattice.proofs.Callers.{join-bound}
-use Rattle.ff_policy.specs.Assignment.{Key, Assignment, key_at, longest, level_or, domain_level, act_level, with_tag, level_in, level_out, IsTag, IsLongest, IsAssignment}
+use Rattle.ff_policy.specs.Assignment.{Key, Assignment, key_at, longest, level_or, domain_level, act_level, with_tag, level_in, level_out, IsLongest, IsAssignment}
 use Rattle.ff_policy.proofs.Longest.{longest_is}
 
 AreBelow : ℕ → List Key → Type 0
