@@ -15,5 +15,5 @@ pub use fault::LatticeFault;
 pub use ff_name::NoMemory;
 pub use lattice::Lattice;
 pub use level_set::LevelSet;
-pub use names::{MOST_LEVELS, MOST_LEVEL_NAME_BYTES};
+pub use names::{MOST_LEVEL_NAME_BYTES, MOST_LEVELS};
 pub use pair::Pair;

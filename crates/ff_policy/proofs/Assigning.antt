@@ -1,5 +1,5 @@
 -- The levels of keys, one after another.
-use Rattle.std.proofs.Common.{◌≡◌, ℕ, ◌+◌, ◌<◌, ◌≤◌, List, [], ◌∷◌, ◌++◌, length, drop, get_or, codes, Option, Some, None, option_map, Result, Ok, Err, IfSome, IfNone, refl, sym, ap, ◌∙◌, append_assoc, append-nil, arith, bytes_eq}
+use Rattle.std.proofs.Common.{◌≡◌, ℕ, ◌+◌, ◌<◌, ◌≤◌, List, [], ◌∷◌, ◌++◌, length, drop, get_or, codes, Some, Result, Ok, Err, refl, sym, ap, ◌∙◌, append_assoc, append-nil, bytes_eq}
 use Rattle.std.specs.List.{find}
 use Rattle.std.proofs.lemmas.List.{drop_more, drop_all}
 use Rattle.ff_lattice.specs.Order.{Order}

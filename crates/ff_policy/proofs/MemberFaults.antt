@@ -1,5 +1,5 @@
 -- The first fault that the members are read with is the first one in the table's order.
-use Rattle.std.proofs.Common.{◌≡◌, ℕ, ◌+◌, ◌<◌, Bool, true, false, if◌then◌else◌, List, [], ◌∷◌, ◌++◌, length, codes, Option, Some, None, option_map, option_and_then, is_some, Result, Ok, Err, refl, sym, ap, subst, ◌∙◌, ◌⊎◌, inl, inr, arith, below_none, below_more}
+use Rattle.std.proofs.Common.{◌≡◌, ℕ, ◌+◌, ◌<◌, Bool, true, false, if◌then◌else◌, List, [], ◌++◌, length, codes, Option, Some, None, option_and_then, is_some, Result, Ok, Err, refl, sym, ap, subst, ◌∙◌, ◌⊎◌, inl, inr, arith, below_none, below_more}
 use Rattle.std.specs.Option.{ok_or}
 use Rattle.std.proofs.lemmas.Bool.{true≢false, cases_lt}
 use Rattle.serde_json.specs.Data.{Data}
@@ -9,7 +9,7 @@ use Rattle.ff_policy.specs.declared.fault.PolicyFault.TheVariants.{BadVersion, U
 use Rattle.ff_policy.specs.declared.limits.TheConstants.{USUAL_FUEL}
 use Rattle.ff_policy.specs.Members.{Plan, ◌>>=◌, texts, pairs, named, whole, member_names, first_other, other_kind, is_version_one, required, shape_or, optional, unknown_field, no_field, known, shaped, plan_in}
 use Rattle.ff_policy.proofs.Drafts.{step_ok}
-use Rattle.ff_policy.specs.Table.{table, row_at, must, may, fits_at, IsFirstMisfit, IsKnown, IsMemberFault, bad_version, no_member, no_kind, misfit}
+use Rattle.ff_policy.specs.Table.{table, row_at, must, may, fits_at, IsFirstMisfit, IsMemberFault, bad_version, no_member, no_kind, misfit}
 
 fault_or : {X : Type 0} → PolicyFault → Result X PolicyFault → PolicyFault
 fault_or fault (Ok x) = fault
@@ -22,7 +22,7 @@ err_same {X} a b e = ap (fault_or a) e
 -- a step that refused, or one before it that did
 bound : {X Y : Type 0} (r : Result X PolicyFault) (step : X → Result Y PolicyFault) (fault : PolicyFault) → (r >>= step) ≡ Err fault → (r ≡ Err fault) ⊎ ((x : X) × (r ≡ Ok x) × (step x ≡ Err fault))
 bound (Ok x) step fault e = inr (x, refl, e)
-bound {X} {Y} (Err other) step fault e = inl (ap Err (err_same {Y} other fault e))
+bound {X} {Y} (Err other) step fault e = inl (ap Err (err_same {X = Y} other fault e))
 
 -- what an answer says of the shape: it fits, or it is this member's fault
 Tells : {X : Type 0} → List ℕ → Bool → Result X PolicyFault → Type 0
@@ -30,14 +30,14 @@ Tells {X} name fits answer = ((x : X) → answer ≡ Ok x → fits ≡ true) × 
 
 by_shape : {X : Type 0} (name : List ℕ) (found : Option X) → Tells name (is_some found) (ok_or found (BadShape name))
 unfolding Tells
-by_shape {X} name None = (λ x e. absurd (let no : ◌≡◌ {A = Result X PolicyFault} (Err (BadShape name)) (Ok x) = e in cc), λ fault e. (refl, sym (err_same {X} (BadShape name) fault e)))
+by_shape {X} name None = (λ x e. absurd (let no : ◌≡◌ {A = Result X PolicyFault} (Err (BadShape name)) (Ok x) = e in cc), λ fault e. (refl, sym (err_same {X = X} (BadShape name) fault e)))
 by_shape {X} name (Some x) = (λ y e. refl, λ fault e. absurd (let no : ◌≡◌ {A = Result X PolicyFault} (Ok x) (Err fault) = e in cc))
 
 required_tells : {X : Type 0} (shape : Data → Option X) (name : List ℕ) (value : Data) → Tells name (must shape (get name value)) (required shape name value)
 required_tells {X} shape name value = go (get name value)
   where
     go : (found : Option Data) → Tells name (must shape found) (ok_or (option_and_then shape found) (BadShape name))
-    go None = by_shape {X} name None
+    go None = by_shape {X = X} name None
     go (Some one) = by_shape name (shape one)
 
 optional_tells : {X : Type 0} (absent : X) (shape : Data → Option X) (name : List ℕ) (value : Data) → Tells name (may shape (get name value)) (optional absent shape name value)
@@ -138,19 +138,19 @@ module _ (value : Data) where
           let found = shaped_misfit fault (sym (known_then (Ok tt) (after_known None None members kinds) version) ∙ e) in
           subst (IsMemberFault value) (sym found.1) (misfit found.0 (record { version = version; members = members; kinds = kinds }) found.2)
       by_kind version members (Some kind) kinds =
-          let is : UnknownField (codes "kinds." ++ kind) ≡ fault = err_same {Plan} _ fault (sym (known_then (Err (UnknownField (codes "kinds." ++ kind))) (after_known None (Some kind) members kinds) version) ∙ e) in
+          let is : UnknownField (codes "kinds." ++ kind) ≡ fault = err_same {X = Plan} _ fault (sym (known_then (Err (UnknownField (codes "kinds." ++ kind))) (after_known None (Some kind) members kinds) version) ∙ e) in
           subst (IsMemberFault value) is (no_kind kind version members kinds)
 
       by_member : is_version_one value ≡ true → (member : Option (List ℕ)) → first_other member_names value ≡ member → IsMemberFault value fault
       by_member version None members = by_kind version members (other_kind value) refl
       by_member version (Some name) members =
-          let is : UnknownField name ≡ fault = err_same {Plan} _ fault (sym (known_then (Err (UnknownField name)) (after_known (Some name) (other_kind value) members refl) version) ∙ e) in
+          let is : UnknownField name ≡ fault = err_same {X = Plan} _ fault (sym (known_then (Err (UnknownField name)) (after_known (Some name) (other_kind value) members refl) version) ∙ e) in
           subst (IsMemberFault value) is (no_member name version members)
 
       by_version : (b : Bool) → is_version_one value ≡ b → IsMemberFault value fault
       by_version true version = by_member version (first_other member_names value) refl
       by_version false version =
-          let is : BadVersion ≡ fault = err_same {Plan} BadVersion fault (sym (after_version false version) ∙ e) in
+          let is : BadVersion ≡ fault = err_same {X = Plan} BadVersion fault (sym (after_version false version) ∙ e) in
           subst (IsMemberFault value) is (bad_version version)
 
   pub fault_member : (fault : PolicyFault) → IsMemberFault value fault → plan_in value ≡ Err fault

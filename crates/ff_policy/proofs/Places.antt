@@ -1,6 +1,6 @@
 -- The first key that is no key.
-use Rattle.std.proofs.Common.{◌≡◌, ◌≢◌, ℕ, zero, suc, ◌+◌, ◌<◌, List, [], ◌∷◌, length, get_or, Option, Some, None, option_map, Bool, true, false, cond, refl, sym, ap, subst, ◌∙◌, arith, bytes_eq, ◌↔◌, IsTrue}
-use Rattle.std.proofs.lemmas.Bool.{true≢false, false_from_ne_true}
+use Rattle.std.proofs.Common.{◌≡◌, ℕ, ◌<◌, List, [], length, get_or, Bool, false, sym, ap, subst, ◌∙◌, ◌↔◌, IsTrue}
+use Rattle.std.proofs.lemmas.Bool.{true≢false}
 use Rattle.std.proofs.lemmas.List.{get_or_read}
 use Rattle.ff_policy.specs.declared.fault.PolicyFault.TheVariants.{BadDomain}
 use Rattle.ff_policy.specs.Assignment.{Key, key_at, IsKey}

@@ -1,10 +1,9 @@
 -- Bytes are one policy, or have one fault.
-use Rattle.std.proofs.Common.{◌≡◌, ◌≢◌, ◌⊎◌, inl, inr, ℕ, ◌<◌, ◌≤◌, List, length, refl, sym, ap, subst, ◌∙◌, arith, Some, Option, None, Result, Ok, Err, IfOk, IfErr, IsErrOf}
+use Rattle.std.proofs.Common.{◌≡◌, ◌≢◌, ◌⊎◌, inl, inr, ℕ, ◌<◌, ◌≤◌, List, refl, sym, ap, subst, ◌∙◌, arith, Some, Option, None, Result, Ok, Err, IfOk, IfErr, IsErrOf}
 use Rattle.std.proofs.lemmas.Bool.{cases_order}
 use Rattle.serde_json.specs.Data.{Data}
 use Rattle.ff_lattice.specs.Order.{Order}
 use Rattle.ff_lattice.specs.Levels as levels
-use Rattle.ff_lattice.specs.declared.fault.LatticeFault.{LatticeFault}
 use Rattle.ff_lattice.proofs.Faults.{IsFault-unique, no_fault}
 use Rattle.ff_lattice.proofs.Callers.{lattice_of_unique}
 use Rattle.ff_policy.specs.declared.fault.PolicyFault.{PolicyFault}

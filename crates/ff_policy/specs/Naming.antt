@@ -1,5 +1,5 @@
 -- The names of levels that a plan gives, each at its place, and the levels that they name.
-use Rattle.std.specs.Prelude.{◌≢◌, ◌<◌, ℕ, List, [], ◌∷◌, ◌++◌, length, get_or, codes, bytes_eq, Option, Some, None, option_map, Result, Ok, Err}
+use Rattle.std.specs.Prelude.{◌≢◌, ◌<◌, ℕ, List, [], ◌∷◌, ◌++◌, length, get_or, codes, bytes_eq, Option, Some, None, option_map, Result, Ok}
 use Rattle.std.specs.List.{find}
 use Rattle.std.specs.Option.{ok_or}
 use Rattle.ff_name.specs.declared.levels.Level.{Level}

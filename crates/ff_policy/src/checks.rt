@@ -3,8 +3,8 @@ ghost use Rattle.std.specs.Prelude.{◌≢◌, ◌↔◌, OnOk, IfErr, IsTrue};
 ghost use Rattle.ff_policy.specs.Assignment.{IsKey, AreSpelled};
 ghost use Rattle.ff_policy.specs.Reading.{IsKeyFault};
 
-use crate::key::Key;
 use crate::PolicyFault;
+use crate::key::Key;
 use ff_name::is_domain;
 
 /// Whether the bytes are a domain, or a dot and a domain.

@@ -1,8 +1,9 @@
 //! From the bytes of a policy to what its members say.
-ghost use Rattle.std.specs.Prelude.{◌≡◌, ◌≢◌, ◌≤◌, ℕ, ◌++◌, [], length, codes, OnOk, IfOk, IfErr, MatchOption, Ok, Err, Some, None, not, option_map, option_and_then};
-ghost use Rattle.std.specs.List.{find};
+ghost use Rattle.std.specs.Prelude.{◌≡◌, ◌≢◌, ◌≤◌, ℕ, ◌++◌, [], length, codes, OnOk, IfOk, IfErr, MatchOption, Ok, Err, Some, None, not, bytes_eq, option_map, option_and_then};
+ghost use Rattle.std.specs.List.{find, list_any};
 ghost use Rattle.serde_json.specs.Find.{get, as_str, as_object};
 ghost use Rattle.serde_json.specs.View.{view, items_view, members_view};
+ghost use Rattle.ff_value.specs.Kinds.{word_of};
 ghost use Rattle.ff_policy.specs.Members as spec;
 ghost use Rattle.ff_policy.specs.Members.{required, optional, is_among, keys_of, first_other, other_kind, member_names, kind_names, is_version_one, known, shaped};
 ghost use Rattle.ff_policy.specs.Naming.{AreApart};
@@ -14,6 +15,7 @@ use crate::plan::{Named, Plan};
 use crate::{NoMemory, PolicyFault};
 use ff_lattice::Pair;
 use ff_name::{Text, Worded};
+use ff_value::Kind;
 use serde_json::{Map, Value};
 use std::alloc::Global;
 
@@ -141,7 +143,14 @@ fn is_member(name: &str) -> bool
 fn is_kind(name: &str) -> bool
     ensures { result ≡ is_among kind_names name.now }
 {
-    KINDS.iter().any(|kind| name == kind.word())
+    has_word(&KINDS, name)
+}
+
+/// Whether one of the kinds has this word.
+fn has_word(kinds: &[Kind], word: &str) -> bool
+    ensures { result ≡ list_any (λ kind. bytes_eq word.now (word_of kind)) kinds.now }
+{
+    kinds.iter().any(|kind| word == kind.word())
 }
 
 /// A text of two parts.

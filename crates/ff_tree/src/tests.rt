@@ -1,6 +1,4 @@
-use crate::{
-    Body, Doc, Expr, Exprs, Handler, Handlers, Lit, Names, Op, weight_doc, weight_expr,
-};
+use crate::{Body, Doc, Expr, Exprs, Handler, Handlers, Lit, Names, Op, weight_doc, weight_expr};
 use ff_name::{Name, NoMemory, Text, Url, Worded, by_word};
 use ff_shared::{Shared, SharedList};
 use std::alloc::{AllocError, Global};
@@ -52,11 +50,7 @@ fn handlers(alloc: Global) -> Result<Handlers, NoMemory> {
 
 /// `(button g "go" (fn (n) (set-text n "x")))`
 fn button(alloc: Global) -> Result<Doc, NoMemory> {
-    Ok(Doc::Button(
-        name(alloc, b"g")?,
-        text(alloc, b"go")?,
-        handlers(alloc)?,
-    ))
+    Ok(Doc::Button(name(alloc, b"g")?, text(alloc, b"go")?, handlers(alloc)?))
 }
 
 /// A script under divisions, so many lists deep in all.
@@ -93,11 +87,7 @@ fn an_expression_weighs_its_items_and_strings(rt: HostRuntime) -> Result<(), NoM
 fn the_deepest_document_is_copied_and_compared(rt: HostRuntime) -> Result<(), NoMemory> {
     let copied = nested(rt.alloc(), 64)?.copy()?;
     for (lists, same) in [(64, true), (63, false)] {
-        assert_eq!(rt;
-            nested(rt.alloc(), lists)? == copied,
-            same,
-            "{lists} lists"
-        );
+        assert_eq!(rt; nested(rt.alloc(), lists)? == copied, same, "{lists} lists");
     }
     Ok(())
 }
@@ -120,11 +110,7 @@ fn lit(alloc: Global, place: u8) -> Result<Lit, NoMemory> {
 
 /// A list of a variable and a text.
 fn parts(alloc: Global) -> Result<Exprs, NoMemory> {
-    two(
-        alloc,
-        Expr::Var(name(alloc, b"x")?),
-        string(alloc, b"hi")?,
-    )
+    two(alloc, Expr::Var(name(alloc, b"x")?), string(alloc, b"hi")?)
 }
 
 fn names(alloc: Global) -> Result<Names, NoMemory> {

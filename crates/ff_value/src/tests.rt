@@ -99,11 +99,7 @@ fn a_copied_output_is_equal_and_another_is_not(rt: HostRuntime) -> Result<(), No
 fn the_deepest_view_is_copied_and_compared(rt: HostRuntime) -> Result<(), NoMemory> {
     let copied = nested(rt.alloc(), 64)?.copy()?;
     for (lists, same) in [(64, true), (63, false)] {
-        assert_eq!(rt;
-            nested(rt.alloc(), lists)? == copied,
-            same,
-            "{lists} lists"
-        );
+        assert_eq!(rt; nested(rt.alloc(), lists)? == copied, same, "{lists} lists");
     }
     Ok(())
 }
@@ -146,14 +142,8 @@ fn cookie(alloc: Global, place: u8) -> Result<CookieOp, NoMemory> {
 fn resp(alloc: Global, place: u8) -> Result<Resp, NoMemory> {
     let cookies = SharedList::from_vec(alloc, Vec::new(alloc))?;
     match place {
-        0 => Ok(Resp::Page(
-            cookies,
-            SharedList::from_vec(alloc, Vec::new(alloc))?,
-        )),
-        1 => Ok(Resp::Script(
-            cookies,
-            Shared::new(alloc, Expr::Lit(Lit::Null))?,
-        )),
+        0 => Ok(Resp::Page(cookies, SharedList::from_vec(alloc, Vec::new(alloc))?)),
+        1 => Ok(Resp::Script(cookies, Shared::new(alloc, Expr::Lit(Lit::Null))?)),
         _ => data(alloc),
     }
 }

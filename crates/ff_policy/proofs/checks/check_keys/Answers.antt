@@ -1,4 +1,4 @@
-use Rattle.std.proofs.Common.{◌≡◌, ap, ◌∙◌, arith}
+use Rattle.std.proofs.Common.{ap, ◌∙◌, arith}
 use Rattle.ff_policy.specs.Assignment.{Key}
 use Rattle.ff_policy.proofs.Places.{no_key_at}
 use Rattle.ff_policy.proofs.checks.check_keys.Goals as goal

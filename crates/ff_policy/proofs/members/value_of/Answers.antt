@@ -1,4 +1,4 @@
-use Rattle.std.proofs.Common.{◌≡◌, None, Some, sym, ◌∙◌, true≢false, arith}
+use Rattle.std.proofs.Common.{sym, ◌∙◌, true≢false, arith}
 use Rattle.std.proofs.lemmas.Option.{none-some}
 use Rattle.ff_policy.specs.Reading.{too_large, not_json}
 use Rattle.ff_policy.proofs.members.value_of.Goals as goal
