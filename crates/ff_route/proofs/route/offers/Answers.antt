@@ -1,4 +1,4 @@
-use Rattle.std.proofs.Common.{◌≡◌, ◌++◌, ◌∷◌, [], ap, sym, ◌∙◌}
+use Rattle.std.proofs.Common.{◌∙◌}
 use Rattle.ff_route.proofs.Fits.{offers_more}
 use Rattle.ff_route.proofs.route.offers.Goals as goal
 
