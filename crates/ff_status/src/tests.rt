@@ -3,7 +3,7 @@ use ff_io::{Failed, MemSink, Sink};
 use ff_lattice::LatticeFault;
 use ff_name::{NoMemory, Text};
 use ff_policy::PolicyFault;
-use ff_syntax::SyntaxFault;
+use ff_forms::SyntaxFault;
 use ff_text::TextFault;
 use ff_trace::LineFault;
 use std::alloc::Global;

@@ -8,7 +8,7 @@ use crate::status::{Status, TraceFault};
 use ff_io::{Failed, Sink};
 use ff_lattice::LatticeFault;
 use ff_policy::PolicyFault;
-use ff_syntax::SyntaxFault;
+use ff_forms::SyntaxFault;
 use ff_text::TextFault;
 use ff_trace::LineFault;
 

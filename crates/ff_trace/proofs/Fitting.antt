@@ -22,15 +22,15 @@ use Rattle.ff_value.specs.declared.input.Act.TheVariants as act
 use Rattle.ff_value.specs.declared.input.Input.{Input}
 use Rattle.ff_value.specs.declared.output.Out.{Out}
 use Rattle.ff_value.specs.declared.output.Out.TheVariants as out
-use Rattle.ff_syntax.specs.Canonical.{word, string}
-use Rattle.ff_syntax.proofs.OneLine.{spelled_one_line, shown_one_line, pairs_one_line}
-use Rattle.ff_syntax.proofs.WordTexts.{url_word}
+use Rattle.ff_forms.specs.Canonical.{word, string}
+use Rattle.ff_printing.proofs.OneLine.{spelled_one_line, shown_one_line, pairs_one_line}
+use Rattle.ff_printing.proofs.WordTexts.{url_word}
 use Rattle.ff_trace.specs.Kinds.{word_of}
 use Rattle.ff_trace.specs.Lines.{IsTag}
 use Rattle.ff_trace.specs.Printed.{number, act_items, tag_items, input_items, input_text, out_items, out_text, joined, in_key_order}
 use Rattle.ff_trace.specs.declared.kind.Kind.{Kind}
 use Rattle.ff_trace.specs.declared.kind.Kind.TheVariants as kind
-use Rattle.ff_syntax.proofs.Fitting.{resp_item_well_spelled}
+use Rattle.ff_printing.proofs.Fitting.{resp_item_well_spelled}
 use Rattle.ff_trace.proofs.Worded.{number_word, domain_word, tag_is_word, fits_word, fits_string, fits_more, fits_none}
 
 kind_is_word : (k : Kind) → is_word (word_of k) ≡ true

@@ -18,10 +18,11 @@ use Rattle.ff_value.specs.declared.input.Act.{Act}
 use Rattle.ff_value.specs.declared.input.Act.TheVariants as act
 use Rattle.ff_value.specs.declared.input.Input.{Input}
 use Rattle.ff_value.specs.declared.reply.Resp.{Resp}
-use Rattle.ff_syntax.specs.Canonical.{word, string, resp_item}
-use Rattle.ff_syntax.specs.Words.{is_domain, address_of}
-use Rattle.ff_syntax.proofs.Addressing.{address_found}
-use Rattle.ff_syntax.proofs.Rereading.{resp_again}
+use Rattle.ff_forms.specs.Canonical.{word, string, resp_item}
+use Rattle.ff_forms.specs.Words.{is_domain, address_of}
+use Rattle.ff_reading.proofs.Addressing.{address_found}
+use Rattle.ff_reading.proofs.Completes.{resp_complete}
+use Rattle.ff_printing.proofs.Respelled.{resp_respelled}
 use Rattle.ff_trace.proofs.Spelt.{is_domain-from}
 use Rattle.ff_trace.specs.declared.fault.LineFault.{LineFault}
 use Rattle.ff_trace.specs.declared.fault.LineFault.TheVariants as fault
@@ -61,7 +62,7 @@ string_again : (item : Sexp) (value : List ℕ) → bare item ≡ bare (string v
 string_again item value same = let is = string_from item value same in ap by_string is.is
 
 response_again : (item : Sexp) (resp : Resp) → IsWellSpelledResp resp → bare item ≡ bare (resp_item resp) → response_in item ≡ Ok resp
-response_again item resp well same = ap or_syntax (resp_again resp well item same)
+response_again item resp well same = ap or_syntax (resp_complete item resp (resp_respelled resp well.spelled item same))
 
 kind_known : (k : Kind) → kind_named (word_of k) ≡ Some k
 kind_known kind.Open = refl

@@ -10,8 +10,8 @@ use Rattle.ff_name.specs.declared.urls.Url.{Url}
 use Rattle.ff_name.specs.declared.urls.UrlFault.{UrlFault}
 use Rattle.ff_name.specs.declared.urls.UrlFault.TheVariants as url_fault
 use Rattle.ff_name.proofs.Labels.{IsDomain-from_parts, parts_from_IsDomain}
-use Rattle.ff_syntax.specs.Words.{is_domain, address_of}
-use Rattle.ff_syntax.proofs.Addressing.{address_found, address_spelled}
+use Rattle.ff_forms.specs.Words.{is_domain, address_of}
+use Rattle.ff_reading.proofs.Addressing.{address_found, address_spelled}
 use Rattle.ff_trace.specs.Parts.{domain_of, or_fault}
 use Rattle.ff_trace.specs.declared.fault.LineFault.{LineFault}
 

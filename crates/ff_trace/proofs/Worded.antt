@@ -22,7 +22,7 @@ use Rattle.ff_text.specs.Notation.{span}
 use Rattle.ff_text.specs.Printed.{fits_at, is_word, AreWellSpelled, IsWellSpelled}
 use Rattle.ff_text.specs.declared.items.Sexp.{Sexp}
 use Rattle.ff_text.proofs.Layers.{fits_at-Word, fits_at-Str}
-use Rattle.ff_syntax.specs.Canonical as canonical
+use Rattle.ff_forms.specs.Canonical as canonical
 use Rattle.ff_trace.specs.Lines.{IsTag}
 
 word_from : (text : List ℕ) → list_all is_word_byte text ≡ true → text ≢ [] → is_word text ≡ true

@@ -7,10 +7,10 @@ use Rattle.ff_number.specs.Decimal.{nat_text}
 use Rattle.ff_text.specs.declared.items.Sexp.{Sexp, out-Sexp}
 use Rattle.ff_text.specs.declared.items.Sexp.TheOpen.{Sexp-F}
 use Rattle.ff_value.specs.declared.reply.Resp.{Resp}
-use Rattle.ff_syntax.specs.Grammar.{resp_in}
-use Rattle.ff_syntax.specs.Words.{is_domain, address_of}
-use Rattle.ff_syntax.specs.declared.fault.SyntaxFault.{SyntaxFault}
-use Rattle.ff_syntax.specs.declared.fault.SyntaxFault.TheVariants as syntax
+use Rattle.ff_forms.specs.Grammar.{resp_in}
+use Rattle.ff_forms.specs.Words.{is_domain, address_of}
+use Rattle.ff_forms.specs.declared.fault.SyntaxFault.{SyntaxFault}
+use Rattle.ff_forms.specs.declared.fault.SyntaxFault.TheVariants as syntax
 use Rattle.ff_trace.specs.declared.fault.LineFault.{LineFault}
 use Rattle.ff_trace.specs.declared.fault.LineFault.TheVariants as fault
 

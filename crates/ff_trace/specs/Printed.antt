@@ -6,7 +6,7 @@ use Rattle.std.specs.Cmp.Lexicographic.{slice_cmp}
 use Rattle.ff_lattice.specs.Order.{Order, name}
 use Rattle.ff_name.specs.declared.levels.Level.{Level}
 use Rattle.ff_number.specs.Decimal.{nat_text}
-use Rattle.ff_syntax.specs.Canonical.{word, string, address, resp_item, shown_item, pairs_item}
+use Rattle.ff_forms.specs.Canonical.{word, string, address, resp_item, shown_item, pairs_item}
 use Rattle.ff_text.specs.Printed.{spelled}
 use Rattle.ff_text.specs.declared.items.Sexp.{Sexp}
 use Rattle.ff_value.specs.Faults as faults

@@ -5,7 +5,7 @@ ghost use Rattle.ff_name.specs.Address.{Spells};
 ghost use Rattle.ff_name.specs.Spelling.{IsDomain};
 ghost use Rattle.ff_name.specs.declared.urls.Url.{Url};
 ghost use Rattle.ff_number.specs.Decimal.{nat_text};
-ghost use Rattle.ff_syntax.specs.Words.{address_of};
+ghost use Rattle.ff_forms.specs.Words.{address_of};
 ghost use Rattle.ff_value.specs.declared.input.Input.{Input};
 ghost use Rattle.ff_value.specs.declared.output.Pair.{Pair};
 ghost use Rattle.ff_trace.specs.declared.fault.LineFault.{LineFault};

@@ -7,13 +7,14 @@ ghost use Rattle.ff_value.specs.Spelled.{IsNat, IsWellSpelledResp};
 ghost use Rattle.ff_trace.specs.declared.fault.LineFault.TheVariants.{Url as BadUrl};
 ghost use Rattle.ff_trace.specs.Lines.{Answers};
 ghost use Rattle.ff_trace.specs.Parts.{number_in, address_in, domain_in, string_in, response_in, or_fault};
-ghost use Rattle.ff_syntax.specs.Words.{address_of};
+ghost use Rattle.ff_forms.specs.Words.{address_of};
 ghost use Rattle.ff_trace.specs.Parts as parts;
 
 use crate::LineFault;
 use ff_name::{Domain, Text, Url, UrlFault};
 use ff_number::read_nat;
-use ff_syntax::{SyntaxFault, read_resp};
+use ff_forms::SyntaxFault;
+use ff_reading::read_resp;
 use ff_text::Sexp;
 use ff_value::Resp;
 use std::alloc::Global;

@@ -5,7 +5,7 @@ ghost use Rattle.ff_trace.specs.Printed.{joined};
 use crate::NoMemory;
 use ff_name::{Text, Url};
 use ff_number::print_nat;
-use ff_syntax::{print_pairs, print_resp, print_shown};
+use ff_printing::{print_pairs, print_resp, print_shown};
 use ff_text::quote;
 use ff_value::{Pairs, Resp, Shown};
 
