@@ -3,12 +3,16 @@ pub mod Backs
 pub mod Completes
 pub mod Each
 pub mod Falling
+pub mod Faulty
 pub mod Given
 pub mod Layers
 pub mod Leading
 pub mod Naming
 pub mod Numbering
+pub mod Refused
 pub mod Results
+pub mod Shaped
 pub mod Shapes
+pub mod Sorts
 pub mod Sounds
 pub mod Wells

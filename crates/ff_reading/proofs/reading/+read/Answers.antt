@@ -6,24 +6,6 @@ use Rattle.ff_reading.proofs.Falling.{part_falls, tail_falls}
 use Rattle.ff_reading.proofs.Layers.{word_layer, string_layer, word_gives, list_gives}
 use Rattle.ff_reading.proofs.reading.+read.Goals as goal
 
-pub read_doc-returns-in-Word : goal.read_doc-returns-in-Word
-read_doc-returns-in-Word t c = inl (sym (word_layer c.args.item.now c.in-Word.at c.in-Word.field-1 a_document c.in-Word.is))
-
-pub read_doc-returns-in-Str : goal.read_doc-returns-in-Str
-read_doc-returns-in-Str t c = inl (sym (string_layer c.args.item.now c.in-Str.at c.in-Str.field-1 a_document c.in-Str.is))
-
-pub read_doc-returns-in-List : goal.read_doc-returns-in-List
-read_doc-returns-in-List t c = list_gives c.args.item.now c.in-List.at c.in-List.parts c.as_slice.result.now a_document c.read_doc_list.result c.in-List.is c.as_slice.ensures c.read_doc_list.ensures
-
-pub read_handler-returns-in-Word : goal.read_handler-returns-in-Word
-read_handler-returns-in-Word t c = inl (sym (word_layer c.args.item.now c.in-Word.at c.in-Word.field-1 a_handler c.in-Word.is))
-
-pub read_handler-returns-in-Str : goal.read_handler-returns-in-Str
-read_handler-returns-in-Str t c = inl (sym (string_layer c.args.item.now c.in-Str.at c.in-Str.field-1 a_handler c.in-Str.is))
-
-pub read_handler-returns-in-List : goal.read_handler-returns-in-List
-read_handler-returns-in-List t c = list_gives c.args.item.now c.in-List.at c.in-List.parts c.as_slice.result.now a_handler c.read_handler_list.result c.in-List.is c.as_slice.ensures c.read_handler_list.ensures
-
 pub read_expr-returns-in-Word : goal.read_expr-returns-in-Word
 read_expr-returns-in-Word t c = word_gives c.args.item.now c.in-Word.at c.in-Word.word c.as_bytes.result.now an_expression c.read_word.result c.in-Word.is c.as_bytes.ensures.value c.read_word.ensures
 
