@@ -1,6 +1,6 @@
 -- The operators on numbers, truth values and texts: what each gives for its operands and the mass, or why it fails.
 use Rattle.std.specs.Prelude.{◌≡◌, ℕ, ◌+◌, ◌-◌, ◌^◌, Bool, true, false, cond, not, ◌==◌, ◌&&◌, ◌||◌, nat_lt, nat_le, ℤ, pos, neg_ℤ, ◌+ℤ◌, ◌-ℤ◌, ◌*ℤ◌, nat_abs, int_lt, int_le, int_div, int_rem, Option, Some, None, Result, Ok, Err, List, [], ◌∷◌, ◌++◌, length, take, drop, slice_index, slice_get, bytes_eq}
-use Rattle.std.specs.Ordering.{int_eq, is_lt, nat_cmp}
+use Rattle.std.specs.Ordering.{int_eq, is_lt, is_le, nat_cmp}
 use Rattle.std.specs.Cmp.Lexicographic.{slice_cmp}
 use Rattle.ff_number.specs.Decimal.{num_text}
 use Rattle.ff_tree.specs.declared.op.Op.{Op}
@@ -41,9 +41,13 @@ ordered mass nums texts (val.Num a ∷ val.Num b ∷ []) = free mass (val.Bool (
 ordered mass nums texts (val.Str a ∷ val.Str b ∷ []) = free mass (val.Bool (texts a b))
 ordered mass nums texts other = Err fault.Kind
 
--- the one text is before the other, by their bytes
+-- the first text is before the second, by their bytes
 abbrev pub text_lt : List ℕ → List ℕ → Bool
 text_lt a b = is_lt (slice_cmp nat_cmp a b)
+
+-- the first text is the second, or before it
+abbrev pub text_le : List ℕ → List ℕ → Bool
+text_le a b = is_le (slice_cmp nat_cmp a b)
 
 -- whether two truth values are equal
 abbrev pub same_bool : Bool → Bool → Bool
@@ -109,7 +113,7 @@ apply op.Mul args mass = with_operands (two_nums args) (λ o. num_or_overflow ma
 apply op.Div args mass = with_operands (two_nums args) (λ o. divided mass o.0 o.1 (int_div o.0 o.1))
 apply op.Rem args mass = with_operands (two_nums args) (λ o. divided mass o.0 o.1 (int_rem o.0 o.1))
 apply op.Less args mass = ordered mass int_lt text_lt args
-apply op.AtMost args mass = ordered mass int_le (λ a b. not (text_lt b a)) args
+apply op.AtMost args mass = ordered mass int_le text_le args
 apply op.Equal args mass = equal mass args
 apply op.Not args mass = with_operands (one_bool args) (λ b. free mass (val.Bool (not b)))
 apply op.Cat args mass = with_operands (two_strs args) (λ o. made mass (o.0 ++ o.1))

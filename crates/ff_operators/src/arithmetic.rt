@@ -1,4 +1,4 @@
-ghost use Rattle.std.specs.Prelude.{ℤ, FitsSigned};
+ghost use Rattle.std.specs.Prelude.{ℤ, FitsSigned, int_rem};
 ghost use Rattle.std.specs.Int.{w64};
 ghost use Rattle.std.specs.Option.{SomeIff};
 ghost use Rattle.ff_operators.specs.Answers.{Gives};
@@ -50,14 +50,26 @@ pub(crate) fn div(args: &Vals, mass: u64) -> Result<Applied, Fail>
     }
 }
 
-/// The remainder of the division. It is refused where its quotient is.
+/// The remainder of the division.
 pub(crate) fn rem(args: &Vals, mass: u64) -> Result<Applied, Fail>
     ensures { Gives (pure.apply op.Rem args.now mass) result }
 {
     match two_nums(args) {
-        Some((_, 0)) => Err(Fail::Fault(Fault::Range)),
-        Some((a, b)) => number(a.checked_rem(b), mass),
+        Some((a, b)) => remainder(a, b, mass),
         None => Err(Fail::Fault(Fault::Kind)),
+    }
+}
+
+/// The remainder, which is refused where the quotient is.
+fn remainder(a: i64, b: i64, mass: u64) -> Result<Applied, Fail>
+    ensures { Gives (pure.divided mass a b (int_rem a b)) result }
+{
+    if b == 0 {
+        return Err(Fail::Fault(Fault::Range));
+    }
+    match a.checked_rem(b) {
+        Some(n) => Ok(Applied::free(Val::Num(n), mass)),
+        None => Err(Fail::Fault(Fault::Overflow)),
     }
 }
 

@@ -9,6 +9,8 @@ mod arithmetic;
 mod comparisons;
 pub mod operands;
 mod operators;
+#[cfg(test)]
+mod tests;
 mod texts;
 
 pub use answer::{Applied, Fail};
