@@ -78,7 +78,7 @@ fn print_act(act: &Act, out: &mut Vec<u8>) -> Result<(), NoMemory>
 }
 
 /// Appends a word and the parts of an act.
-fn print_kind(head: &[u8], act: &Act, out: &mut Vec<u8>) -> Result<(), NoMemory>
+fn print_kind<'a>(head: &'a [u8], act: &'a Act, out: &mut Vec<u8>) -> Result<(), NoMemory>
     ensures { Appends result out.old.items out.new.items (joined (word head.now ∷ act_parts act.now)) }
 {
     match act {
