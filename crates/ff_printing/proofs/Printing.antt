@@ -1,6 +1,6 @@
 -- What is printed piece by piece is printed whole.
 use Rattle.std.proofs.Common.{◌≡◌, ◌<◌, ◌+◌, ℕ, false, Result, Ok, Err, List, [], ◌∷◌, ◌++◌, length, map, take, get_or, refl, sym, ◌∙◌, ap, subst, append_assoc, append-nil}
-use Rattle.std.specs.Prelude.{OnOk, OnErr, is_err}
+use Rattle.std.specs.Prelude.{is_err}
 use Rattle.std.specs.List.{join_with_byte}
 use Rattle.std.proofs.lemmas.List.{take_more}
 use Rattle.std.proofs.lemmas.List.Concat.{flat_map-append}
@@ -33,16 +33,6 @@ prints_as {p} {q} others e prints = subst (λ bs. Prints p q bs) (sym e) prints
 pub noted : {X E : Type 0} (p q : Printer) (bytes : List ℕ) (done : Result X E) → p.failed ≡ false → q.failed ≡ is_err done → Appends done p.bytes.items q.bytes.items bytes → Prints p q bytes
 noted p q bytes (Ok it) before after appends = whole before after appends
 noted p q bytes (Err refused) before after appends = cut_off before after appends
-
--- what a printer did that began with an output, and ended with one
-pub ended_with : {X E : Type 0} (done : Result X E) (old new : List ℕ) (p q : Printer) (bytes : List ℕ) → p.failed ≡ false → p.bytes.items ≡ old → Prints p q bytes → new ≡ q.bytes.items
-    → OnOk done (q.failed ≡ false) → OnErr done (q.failed ≡ true) → Appends done old new bytes
-ended_with (Ok it) old new p q bytes begun same (whole a b e) last ok err = last ∙ e ∙ ap (λ bs. bs ++ bytes) same
-ended_with (Ok it) old new p q bytes begun same (cut_off a b e) last ok err = cc
-ended_with (Ok it) old new p q bytes begun same (stopped a b e) last ok err = cc
-ended_with (Err refused) old new p q bytes begun same (whole a b e) last ok err = cc
-ended_with (Err refused) old new p q bytes begun same (cut_off a b e) last ok err = subst (λ os. AppendsFront os new bytes) same (subst (λ ns. AppendsFront p.bytes.items ns bytes) (sym last) e)
-ended_with (Err refused) old new p q bytes begun same (stopped a b e) last ok err = cc
 
 joined_ending : (first : List ℕ) (parts : List Sexp) → join_with_byte 32 (first ∷ map spelled parts) ++ 41 ∷ [] ≡ first ++ ending parts
 joined_ending first [] = refl

@@ -23,7 +23,7 @@ use Rattle.ff_name.proofs.Reading.{is_name-from}
 use Rattle.ff_reading.proofs.Naming.{name_given}
 use Rattle.ff_reading.proofs.Addressing.{address_given}
 use Rattle.ff_reading.proofs.Layers.{reading-Word, reading-Str, reading-List}
-use Rattle.ff_reading.proofs.Shapes.{count_passes}
+use Rattle.ff_reading.proofs.Counting.{count_passes}
 
 -- words that differ do so in the test
 pub other_word : (x y : List ℕ) → x ≢ y → bytes_eq x y ≡ false

@@ -1,6 +1,7 @@
 pub mod Addressing
 pub mod Backs
 pub mod Completes
+pub mod Counting
 pub mod Each
 pub mod Falling
 pub mod Faulty
@@ -12,7 +13,6 @@ pub mod Numbering
 pub mod Refused
 pub mod Results
 pub mod Shaped
-pub mod Shapes
 pub mod Sorts
 pub mod Sounds
 pub mod Wells

@@ -1,4 +1,4 @@
-use Rattle.std.proofs.Common.{◌∷◌, [], map}
+use Rattle.std.proofs.Common.{◌∷◌, map}
 use Rattle.ff_forms.specs.Canonical.{cookies_item, doc_item}
 use Rattle.ff_forms.specs.Heads.{resp_word}
 use Rattle.ff_forms.specs.declared.heads.RespHead.TheVariants as resp_head
