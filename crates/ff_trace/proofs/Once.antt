@@ -12,7 +12,7 @@ use Rattle.ff_text.proofs.Verdict.{verdict_from_fault}
 use Rattle.ff_value.specs.declared.input.Input.{Input}
 use Rattle.ff_trace.specs.declared.fault.LineFault.{LineFault}
 use Rattle.ff_trace.specs.declared.fault.LineFault.TheVariants as fault
-use Rattle.ff_trace.specs.Lines.{Answers, ReadsLine, silent, bad_text, as_items, input_in, is_silent}
+use Rattle.ff_trace.specs.Lines.{Gives, ReadsLine, silent, bad_text, as_items, input_in, is_silent}
 
 -- what a line gives, from what its bytes are read as
 abbrev line_answer : Order → Bool → Result (List Sexp) TextFault → Result (Option Input) LineFault
@@ -39,7 +39,7 @@ exact_from_found order line answer found other reads = elim found [
   | inr first ↦ inl (reads_line_once order line answer other first reads)
 ]
 
-pub found_items : (order : Order) (line : List ℕ) (items : List Sexp) (answer : Result (Option Input) LineFault) → is_silent line ≡ false → SpellsItems line items → Answers answer (input_in order items) → IsFound order line answer
+pub found_items : (order : Order) (line : List ℕ) (items : List Sexp) (answer : Result (Option Input) LineFault) → is_silent line ≡ false → SpellsItems line items → Gives answer (input_in order items) → IsFound order line answer
 found_items order line items (Ok input) loud spelled is = inr (as_items items (Ok input) loud spelled (sym is))
 found_items order line items (Err which) loud spelled is = elim is [
   | inl memory ↦ inl (ap Err memory)

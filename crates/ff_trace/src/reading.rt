@@ -2,12 +2,11 @@ ghost use Rattle.std.specs.Prelude.{◌≡◌, ◌≤◌, ◌⊎◌, Result, Opt
 ghost use Rattle.ff_text.specs.Printed.{AreWellSpelled};
 ghost use Rattle.ff_value.specs.declared.input.Input.{Input};
 ghost use Rattle.ff_trace.specs.declared.fault.LineFault.{LineFault};
-ghost use Rattle.ff_trace.specs.Lines.{Answers, IsInputOf, ReadsLine, input_in, tag_of};
+ghost use Rattle.ff_trace.specs.Lines.{Gives, IsInputOf, ReadsLine, input_in, tag_of};
 ghost use Rattle.ff_trace.specs.Lines as lines;
 
 use crate::LineFault;
 use crate::acts::read_act;
-use crate::levels::level_named;
 use ff_lattice::Lattice;
 use ff_text::{Sexp, TextFault, read_items};
 use ff_value::Input;
@@ -50,12 +49,12 @@ fn is_silent(line: &[u8]) -> bool
 
 /// The input of a line's items: a tag or none, and an act.
 fn read_tagged(alloc: Global, items: &[Sexp], lattice: &Lattice) -> Result<Option<Input>, LineFault>
-    ensures value { Answers result (input_in lattice.now items.now) }
+    ensures value { Gives result (input_in lattice.now items.now) }
     ensures well_spelled { AreWellSpelled items.now → IfOk result (λ answer. IfSome answer (IsInputOf lattice.now)) }
 {
     match items.split_first() {
         Some((first, rest)) => match tag_of(first) {
-            Some(name) => match level_named(lattice, name) {
+            Some(name) => match lattice.by_name(name) {
                 Some(level) => {
                     let act = read_act(alloc, rest)?;
                     Ok(Some(Input {

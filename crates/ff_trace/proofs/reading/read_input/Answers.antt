@@ -1,7 +1,7 @@
 use Rattle.std.proofs.Common.{inr, sym, ◌∙◌, List, Err, subst}
 use Rattle.ff_text.specs.declared.items.Sexp.{Sexp}
 use Rattle.ff_trace.specs.declared.fault.LineFault.TheVariants as fault
-use Rattle.ff_trace.specs.Lines.{Answers, input_in, silent}
+use Rattle.ff_trace.specs.Lines.{Gives, input_in, silent}
 use Rattle.ff_trace.proofs.Once.{exact_from_found, found_items, found_fault, first_of}
 use Rattle.ff_trace.proofs.reading.read_input.Goals as goal
 
@@ -11,7 +11,7 @@ returns-then-is_silent-clause-found c = inr (silent (sym c.is_silent.ensures ∙
 pub returns-in-Ok-clause-found : goal.returns-in-Ok-clause-found
 returns-in-Ok-clause-found c =
     found_items c.args.lattice.now c.args.line.now c.in-Ok.items c.read_tagged.result (sym c.is_silent.ensures ∙ c.if-is_silent.false) c.in-Ok.ensures.found
-    (subst (λ (items : List Sexp). Answers c.read_tagged.result (input_in c.args.lattice.now items)) c.as_slice.ensures c.read_tagged.ensures.value)
+    (subst (λ (items : List Sexp). Gives c.read_tagged.result (input_in c.args.lattice.now items)) c.as_slice.ensures c.read_tagged.ensures.value)
 
 pub returns-in-Ok-clause-exact : goal.returns-in-Ok-clause-exact
 returns-in-Ok-clause-exact c = exact_from_found c.args.lattice.now c.args.line.now c.read_tagged.result (returns-in-Ok-clause-found c)
