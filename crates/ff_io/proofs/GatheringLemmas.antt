@@ -33,6 +33,7 @@ module _ (given : ℕ) (line chunk line_now chunk_now : List ℕ) (whole : Bool)
   end_is : given + (length line_now + cond whole 1 0) ≡ given + line_size (line ++ chunk)
   end_is = ap (λ bs. given + (length bs + cond whole 1 0)) content_is ∙ ap (λ t. given + (length (content (line ++ chunk)) + cond t 1 0)) newline_is
 
+  -- a line of a fitting size was cut off
   pub cut_fits : Fits (length line_now) (given + (length line_now + cond whole 1 0)) → IsCut given (line ++ chunk) line_now chunk_now whole
   cut_fits fits = record {
     line_is = content_is;
@@ -41,6 +42,7 @@ module _ (given : ℕ) (line chunk line_now chunk_now : List ℕ) (whole : Bool)
     fits = subst (λ n. Fits (length (content (line ++ chunk))) n) end_is (subst (λ bs. Fits (length bs) (given + (length line_now + cond whole 1 0))) content_is fits);
   }
 
+  -- a line has no fitting size
   pub cut_fault : (fail : LineFail) → IsSizeFault given (length line_now) (given + (length line_now + cond whole 1 0)) fail → IsUncut given (line ++ chunk) fail
   cut_fault fail fault = from fail (subst (λ n. IsSizeFault given (length (content (line ++ chunk))) n fail) end_is (subst (λ bs. IsSizeFault given (length bs) (given + (length line_now + cond whole 1 0)) fail) content_is fault))
     where
@@ -87,6 +89,7 @@ or_false : (b : Bool) → b ≡ (b || false)
 or_false true = refl
 or_false false = refl
 
+-- the first cut, before any read
 pub gathering_start : (log : Option (List Piece)) (rest : Option (List ℕ)) (given : ℕ) (bytes : List ℕ) (ended : Bool) (line chunk : List ℕ) (whole : Bool) → IsCut given bytes line chunk whole
     → IsGathering log log rest rest given bytes ended line chunk ended whole
 gathering_start log rest given bytes ended line chunk whole cut = record {
@@ -129,6 +132,7 @@ module _ {log_before log_mid : Option (List Piece)} {rest_before rest_mid : Opti
   none : has_newline got ≡ false
   none = sym so_far.cut.whole_is ∙ no_line
 
+  -- what was put together has no newline yet
   pub line_none : has_newline line ≡ false
   line_none = ap has_newline (so_far.cut.line_is ∙ content-none got none) ∙ none
 
@@ -302,6 +306,7 @@ module _ {log_before log_now : Option (List Piece)} {rest_before rest_now : Opti
           let no_more : size ≡ length line + 0 = size_is ∙ ap (λ t. length line + cond t 1 0) e in
           inr (gathers.answer.0.stopped e, omega arith)
 
+  -- no byte is left at the end
   pub end_given : (size : ℕ) → size ≡ length line + cond whole 1 0 → size ≡ 0
       → Nexts log_before log_now rest_before rest_now (state bytes given ended false) (state (line ++ chunk) given ended_now false) (Ok End)
   end_given size size_is none = record {
@@ -342,6 +347,7 @@ module _ {log_before log_now : Option (List Piece)} {rest_before rest_now : Opti
       held_none : line ++ chunk ≡ []
       held_none = ap (λ bs. bs ++ chunk) no_line ∙ gathers.answer.0.cut.rest_is ∙ after_line-none all plain
 
+-- no line was put together
 pub none_given : {log_before log_now : Option (List Piece)} {rest_before rest_now : Option (List ℕ)} {given : ℕ} {bytes : List ℕ} {ended : Bool} {line chunk : List ℕ} {ended_now : Bool} (fail : LineFail) (now : LinesState)
     → Gathers log_before log_now rest_before rest_now given bytes ended line chunk ended_now (Err fail) → now.failed ≡ true → Nexts log_before log_now rest_before rest_now (state bytes given ended false) now (Err fail)
 none_given {log_before} {log_now} {rest_before} {rest_now} {given} {bytes} {ended} fail now gathers failed = record {

@@ -127,6 +127,7 @@ module _ {X F : Type 0} {Gives : List ℕ → Result (Option X) F → Type 0} (o
       from (Reads.too_long n2 s2 bs2 long) = absurd (much.first long)
       from (Reads.too_much n2 s2 bs2 much2) = (refl, refl)
 
+  -- a trace gives one list of items, and has one first bad line or none
   pub trace_once : (ended : Bool) (bytes : List ℕ) (items others : List X) (bad other : Option (BadLine F)) → IsTrace Gives ended bytes items bad → IsTrace Gives ended bytes others other → (items ≡ others) × (bad ≡ other)
   trace_once ended bytes items others bad other = reads_once ended 1 0 bytes items others bad other (omega arith)
 
@@ -222,6 +223,7 @@ onto_each : {X : Type 0} (P : X → Type 0) (item : Option X) (items : List X) �
 onto_each P None items is all = all
 onto_each P (Some x) items is all = All-cons P x items (is x refl) all
 
+-- what holds of each item that a line gives holds of all items of a trace
 pub reads_each : {X F : Type 0} {Gives : List ℕ → Result (Option X) F → Type 0} (P : X → Type 0) → ((line : List ℕ) (x : X) → Gives line (Ok (Some x)) → P x) → (ended : Bool) (number start : ℕ) (bytes : List ℕ) (items : List X) (bad : Option (BadLine F))
     → Reads Gives ended number start bytes items bad → All P items
 reads_each P each ended number start bytes items bad (Reads.at_end n s bs over none) = All-nil P
@@ -232,7 +234,7 @@ reads_each P each ended number start bytes items bad (Reads.bad_line n s bs f th
 reads_each P each ended number start bytes items bad (Reads.too_long n s bs long) = All-nil P
 reads_each P each ended number start bytes items bad (Reads.too_much n s bs much) = All-nil P
 
--- where the taker is may be left out
+-- the state of the taker left out
 module _ {X F : Type 0} (Gives : List ℕ → Result (Option X) F → Type 0) (entry : List X → X → List ℕ) (turns : List X → X → ℕ) (IsAt : List X → Type 0) (turns_before turns_now : ℕ) where
   forget : (got put : List ℕ) (ended : Bool) (bad : Option (BadLine F)) → Owes Gives entry turns IsAt got put ended bad turns_before turns_now → Owes Gives entry turns (λ is. ⊤) got put ended bad turns_before turns_now
   forget got put ended bad owes = record { items = owes.items; read = owes.read; text_is = owes.text_is; counted = owes.counted; at = tt }
@@ -244,6 +246,7 @@ module _ {X F : Type 0} (Gives : List ℕ → Result (Option X) F → Type 0) (e
   forget_held WriteFault got put ended held = held
   forget_held NoMemory got put ended held = held
 
+-- what is said of the state of the taker may be left out
 pub streams_anywhere : {X F : Type 0} {Gives : List ℕ → Result (Option X) F → Type 0} {entry : List X → X → List ℕ} {turns : List X → X → ℕ} {IsAt : List X → Type 0} {log_before log_now : Option (List Piece)} {rest_before rest_now : Option (List ℕ)} {turns_before turns_now : ℕ}
     → (end : declared.End F) → Streams Gives entry turns IsAt log_before log_now rest_before rest_now turns_before turns_now end → Streams Gives entry turns (λ is. ⊤) log_before log_now rest_before rest_now turns_before turns_now end
 streams_anywhere {X} {F} {Gives} {entry} {turns} {IsAt} {log_before} {log_now} {rest_before} {rest_now} {turns_before} {turns_now} end streams = record {
