@@ -239,11 +239,15 @@ struct TextSink {
 }
 
 impl Sink for TextSink {
-    ghost use Rattle.std.specs.Prelude.{None};
+    ghost use Rattle.std.specs.Prelude.{None, refl};
 
     ghost put = { λ _. None };
 
     ghost faults = { λ sink. sink.faults };
+
+    ghost told = { λ sink. record { put = None; faults = sink.faults } };
+
+    ghost tells = { λ sink. refl };
 
     fn write(&mut self, piece: &[u8]) -> Result<usize, Failed> {
         if str::from_utf8(piece).is_err() {
