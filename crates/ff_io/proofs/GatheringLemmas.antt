@@ -13,6 +13,7 @@ use Rattle.ff_io.specs.Chunks.{IsChunk, chunk_pieces, IsReadFail}
 use Rattle.ff_io.specs.Cutting.{has_newline, content, after_line, line_size, Fits, IsUnfinished, HasLine}
 use Rattle.ff_io.specs.Following.{LinesState, ReadsWhileNone, IsNext, IsGiven, IsOver, Nexts}
 use Rattle.ff_io.specs.Gathering.{IsSizeFault, IsCut, IsUncut, Cuts, IsGathered, IsUngathered, GathersFrom, Gathers}
+use Rattle.ff_io.specs.declared.chunk.TheConstants.{MOST_READ_BYTES}
 use Rattle.ff_io.specs.declared.lines.Next.TheVariants.{Line, End}
 use Rattle.ff_io.specs.declared.lines.LineFail.{LineFail}
 use Rattle.ff_io.specs.declared.lines.LineFail.TheVariants.{TooLong, TooMuch, Read, NoMemory}
@@ -53,7 +54,7 @@ module _ (given : ℕ) (line chunk line_now chunk_now : List ℕ) (whole : Bool)
 
 -- one read more, of bytes without a line that fit
 pub reads_more : (given : ℕ) (held : List ℕ) (ended : Bool) (pieces : List Piece) (bytes : List ℕ)
-    → ReadsWhileNone given held ended pieces → IsUnfinished given (held ++ got_of pieces) (ended || has_end pieces) → length bytes ≤ 65536 → ReadsWhileNone given held ended (pieces ++ Got bytes ∷ [])
+    → ReadsWhileNone given held ended pieces → IsUnfinished given (held ++ got_of pieces) (ended || has_end pieces) → length bytes ≤ MOST_READ_BYTES → ReadsWhileNone given held ended (pieces ++ Got bytes ∷ [])
 reads_more given held ended [] bytes reads unfinished short =
     let open_yet : ended ≡ false = or_left ended false unfinished.open_yet in
     (record { no_line = rw (append-nil held) at unfinished.no_line; open_yet = open_yet; fits = rw (append-nil held) at unfinished.fits }, short, tt)

@@ -21,27 +21,28 @@ after_line (b ∷ bs) = cond (b == 10) bs (after_line bs)
 abbrev pub line_size : List ℕ → ℕ
 line_size bytes = length (content bytes) + cond (has_newline bytes) 1 0
 
--- the bytes begin with a line: one that a newline ends, or bytes that the end of the trace ends
+-- the bytes begin with a line, which a newline ends, or the end of the trace after some bytes
 abbrev pub HasLine : Bool → List ℕ → Type 0
 HasLine ended bytes = (has_newline bytes ≡ true) ⊎ ((ended ≡ true) × (0 < length bytes))
 
--- A line of so many bytes, which begins after `start` bytes of the trace, is too long where its byte 1,048,577 comes before
--- byte 4,294,967,296 of the trace.
+-- A line of `size` bytes that begins after `start` bytes of the trace has more bytes than a line may
+-- have, and its first byte too many is one that the trace may have.
 pub record IsTooLong (start size : ℕ) : Type 0 where
   pub over : MOST_LINE_BYTES < size
   pub first : start + MOST_LINE_BYTES < MOST_TRACE_BYTES
 
--- It is too much where it holds byte 4,294,967,296 of the trace, as the last of its bytes is number `end` of these.
+-- The trace has more bytes than it may have, counted to the end of this line, its newline among them;
+-- and it isn't so that the line is too long by an earlier byte.
 pub record IsTooMuch (start size end : ℕ) : Type 0 where
   pub over : MOST_TRACE_BYTES < end
   pub first : ¬ IsTooLong start size
 
--- It is neither.
+-- A line has no more bytes than it may have, nor has the trace to its end.
 pub record Fits (size end : ℕ) : Type 0 where
   pub short : size ≤ MOST_LINE_BYTES
   pub within : end ≤ MOST_TRACE_BYTES
 
--- The bytes hold no whole line yet, more may come, and what they hold fits.
+-- The bytes hold no whole line, more may come, and what they hold fits.
 pub record IsUnfinished (start : ℕ) (bytes : List ℕ) (ended : Bool) : Type 0 where
   pub no_line : has_newline bytes ≡ false
   pub open_yet : ended ≡ false

@@ -21,6 +21,7 @@ mod std_port;
 mod tape;
 mod whole;
 
+pub use chunk::MOST_READ_BYTES;
 pub use dir_shelf::DirShelf;
 pub use fetch::{FetchFail, fetch_front};
 pub use lines::{LineFail, Lines, MOST_LINE_BYTES, MOST_TRACE_BYTES, Next};

@@ -25,10 +25,11 @@ pub enum Next {
 /// Why a line can't be given.
 #[derive(Clone, Copy, Debug, PartialEq, Eq, Error)]
 pub enum LineFail {
-    /// It has more than [`MOST_LINE_BYTES`] bytes.
+    /// It has more than [`MOST_LINE_BYTES`] bytes, without its newline.
     #[error("a line is too long")]
     TooLong,
-    /// It holds a byte of the trace after its first [`MOST_TRACE_BYTES`].
+    /// It has a byte that comes after the first [`MOST_TRACE_BYTES`] of all. Where one byte makes a
+    /// line too long and comes after these too, this is the fault.
     #[error("the trace is too long")]
     TooMuch,
     /// A read failed.
@@ -55,19 +56,23 @@ impl From<AllocError> for LineFail {
     }
 }
 
-/// How many bytes a line may have, without its newline.
+/// How many bytes a line may have at most, without its newline.
 pub const MOST_LINE_BYTES: u64 = 4_194_304;
 
-/// How many bytes a trace may have.
+/// How many bytes all lines together may have at most, with their newlines.
 pub const MOST_TRACE_BYTES: u64 = 4_294_967_295;
 
-/// A reader of lines. What is held are the bytes of `line`, which have no newline, and then those of `chunk`.
+/// A reader of lines. A newline ends each line; the end of the port ends a last line without one.
+/// It holds the bytes that were got and not yet given: those of one line, and of one read.
 #[derive(Drop)]
 pub struct Lines {
     alloc: Global,
+    // Bytes without a newline; those of `chunk` come after them.
     line: Vec<u8>,
     chunk: Chunk,
+    // How many bytes were given, newlines among them.
     given: u64,
+    // Whether the end of the port was seen.
     ended: bool,
     failed: bool,
 }
@@ -80,9 +85,15 @@ impl Model for Lines {
 
     ghost Value = { LinesState };
 
-    ghost view = { λ l. record { held = l.line.items ++ l.chunk; given = l.given; ended = l.ended; failed = l.failed } };
+    ghost view = { λ l. record {
+      held = l.line.items ++ l.chunk;
+      given = l.given;
+      ended = l.ended;
+      failed = l.failed;
+    } };
 
-    ghost invariant = { λ l. l.failed ≡ false → (has_newline l.line.items ≡ false) × (l.given ≤ MOST_TRACE_BYTES) };
+    ghost invariant = { λ l. l.failed ≡ false
+        → (has_newline l.line.items ≡ false) × (l.given ≤ MOST_TRACE_BYTES) };
 }
 
 impl Lines {
@@ -100,24 +111,28 @@ impl Lines {
         }
     }
 
-    /// Whether a call failed.
+    /// Whether a call of `next` failed: no line is given any more.
     pub fn failed(&self) -> bool
         ensures { result ≡ self.now.failed }
     {
         self.failed
     }
 
-    /// Gives the next line. It reads only while the bytes got hold no further whole line, each time into 65,536 bytes.
+    /// Gives the next line. It reads only while the bytes got hold no further whole line and fit, and
+    /// asks for [`MOST_READ_BYTES`](crate::MOST_READ_BYTES) bytes each time.
     ///
     /// # Errors
     ///
-    /// `TooLong` and `TooMuch` where the next line is too long or goes past the limit of the trace, `Read` where a read
-    /// failed, `NoMemory` where there is none for the line. After each of them the reader has failed for good.
+    /// `TooLong` and `TooMuch` where the next line doesn't fit, also where its newline didn't come
+    /// yet; `Read` where a read failed; `NoMemory` where there is none for the line. After each of
+    /// them the reader has failed for good.
     pub fn next<P: Port>(&mut self, port: &mut P) -> Result<Next, LineFail>
         requires { self.old.failed ≡ false }
-        ensures next { Nexts (P.log port.old) (P.log port.new) (P.rest port.old) (P.rest port.new) self.old self.new result }
+        ensures next { Nexts (P.log port.old) (P.log port.new) (P.rest port.old) (P.rest port.new)
+            self.old self.new result }
         ensures later { P.read_faults port.old ≤ P.read_faults port.new }
-        ensures cause { IsErrOf result LineFail.Read → Rose (P.read_faults port.old) (P.read_faults port.new) }
+        ensures cause { IsErrOf result LineFail.Read
+            → Rose (P.read_faults port.old) (P.read_faults port.new) }
         ensures others { P.write_faults port.new ≡ P.write_faults port.old }
     {
         match gather(self.given, &mut self.line, &mut self.chunk, &mut self.ended, port) {
@@ -147,9 +162,11 @@ fn gather<P: Port>(
 ) -> Result<bool, LineFail>
     requires none { has_newline line.old.items ≡ false }
     requires given { given ≤ MOST_TRACE_BYTES }
-    ensures gathers { Gathers (P.log port.old) (P.log port.new) (P.rest port.old) (P.rest port.new) given (line.old.items ++ chunk.old) ended.old line.new.items chunk.new ended.new result }
+    ensures gathers { Gathers (P.log port.old) (P.log port.new) (P.rest port.old) (P.rest port.new) given
+        (line.old.items ++ chunk.old) ended.old line.new.items chunk.new ended.new result }
     ensures later { P.read_faults port.old ≤ P.read_faults port.new }
-    ensures cause { IsErrOf result LineFail.Read → Rose (P.read_faults port.old) (P.read_faults port.new) }
+    ensures cause { IsErrOf result LineFail.Read
+        → Rose (P.read_faults port.old) (P.read_faults port.new) }
     ensures others { P.write_faults port.new ≡ P.write_faults port.old }
 {
     let mut whole = cut(given, line, chunk)?;
@@ -160,7 +177,8 @@ fn gather<P: Port>(
     Ok(whole)
 }
 
-// Moves bytes from the chunk to the line up to its newline, says whether there was one, and checks the size of the line.
+// Moves bytes from the chunk to the line up to its newline, says whether there was one, and checks
+// the size of the line.
 fn cut(given: u64, line: &mut Vec<u8>, chunk: &mut Chunk) -> Result<bool, LineFail>
     requires none { has_newline line.old.items ≡ false }
     requires given { given ≤ MOST_TRACE_BYTES }
@@ -177,7 +195,8 @@ fn cut(given: u64, line: &mut Vec<u8>, chunk: &mut Chunk) -> Result<bool, LineFa
 fn size_fault(given: u64, size: usize, whole: bool) -> Option<LineFail>
     requires given { given ≤ MOST_TRACE_BYTES }
     requires size { size < 2 ^ 63 }
-    ensures { MatchOption result (Fits size (given + (size + cond whole 1 0))) (IsSizeFault given size (given + (size + cond whole 1 0))) }
+    ensures { MatchOption result (Fits size (given + (size + cond whole 1 0)))
+        (IsSizeFault given size (given + (size + cond whole 1 0))) }
 {
     let size = size as u64;
     if size > MOST_LINE_BYTES && given + MOST_LINE_BYTES < MOST_TRACE_BYTES {

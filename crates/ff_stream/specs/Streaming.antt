@@ -1,12 +1,12 @@
 -- Where the loop over the lines of a trace stands, and what a step of it makes of that.
-use Rattle.std.specs.Prelude.{◌≡◌, ℕ, ◌+◌, ◌≤◌, Bool, true, false, Option, Some, None, Result, List, [], ◌∷◌, ◌++◌, ⊤}
+use Rattle.std.specs.Prelude.{◌≡◌, ℕ, ◌+◌, ◌≤◌, Bool, true, false, ◌||◌, Option, Some, None, Result, Ok, Err, List, [], ◌∷◌, ◌++◌, ⊤}
 use Rattle.ff_io.specs.declared.lines.TheConstants.{MOST_TRACE_BYTES}
 use Rattle.ff_io.specs.Pieces.{Piece, got_of, put_of, has_end, AllPut}
 use Rattle.ff_io.specs.Pieces.Piece.{Got, Put}
 use Rattle.ff_io.specs.Port.{Adds, Leaves, AtEnd}
-use Rattle.ff_io.specs.Following.{LinesState}
-use Rattle.ff_stream.specs.Traces.{Reads, IsTrace}
-use Rattle.ff_stream.specs.Owed.{text_of, turns_of, IsPromptAt, Streams}
+use Rattle.ff_io.specs.Following.{LinesState, ReadsWhileNone, IsGiven}
+use Rattle.ff_stream.specs.Traces.{Reads, IsTrace, onto}
+use Rattle.ff_stream.specs.Owed.{text_of, turns_of, IsPromptAt}
 use Rattle.ff_stream.specs.declared.end.BadLine.{BadLine}
 use Rattle.ff_stream.specs.declared.end.End.{End}
 use Rattle.ff_stream.specs.declared.end.End.TheVariants.{Done, Bad, ReadFault, WriteFault, NoMemory}
@@ -57,27 +57,53 @@ pub record IsStreaming {X F : Type 0} (Gives : List ℕ → Result (Option X) F 
   pub numbered : number ≤ lines.given + 1
   pub fine : lines.failed ≡ false
 
--- What taking an item made of a taker that was where some items had been taken: its text was put, or a part of it.
-abbrev pub TookAfter : {X F : Type 0} → (List X → X → List ℕ) → (List X → X → ℕ) → (List X → Type 0) → List Piece → X → ℕ → ℕ → List X → Option (End F) → Type 0
-TookAfter entry turns IsAt pieces item before now items None = (put_of pieces ≡ entry items item) × IsAt (items ++ item ∷ []) × (now ≡ before + turns items item)
-TookAfter entry turns IsAt pieces item before now items (Some WriteFault) = IsProperFront (put_of pieces) (entry items item) × (now ≡ before + turns items item)
-TookAfter entry turns IsAt pieces item before now items (Some NoMemory) = (pieces ≡ []) × (now ≤ before + turns items item)
-TookAfter entry turns IsAt pieces item before now items (Some other) = ⊥
+-- the lines once these pieces were read
+abbrev pub read_lines : LinesState → List Piece → LinesState
+read_lines lines pieces = record { held = lines.held ++ got_of pieces; given = lines.given; ended = lines.ended || has_end pieces; failed = false }
 
-pub record Took {X F : Type 0} (entry : List X → X → List ℕ) (turns : List X → X → ℕ) (WasAt IsAt : List X → Type 0)
-    (log_before log_now : Option (List Piece)) (rest_before rest_now : Option (List ℕ)) (item : X) (turns_before turns_now : ℕ) (end : Option (End F)) : Type 0 where
+-- What the next of these lines, which has this number, gives; or how the trace ends with what is held: nothing, an
+-- unfinished line or one that is bad.
+abbrev pub IsItem : {X F : Type 0} → (List ℕ → Result (Option X) F → Type 0) → ℕ → LinesState → LinesState → Result (Option X) (End F) → Type 0
+IsItem Gives number lines now (Ok item) = (line : List ℕ) × IsGiven lines.given lines.held lines.ended line now × Gives line (Ok item)
+IsItem Gives number lines now (Err Done) = (lines.ended ≡ true) × Reads Gives lines.ended number lines.given lines.held [] None
+IsItem Gives number lines now (Err (Bad line)) = Reads Gives lines.ended number lines.given lines.held [] (Some line)
+IsItem Gives number lines now (Err ReadFault) = (lines.ended ≡ false) × Reads Gives lines.ended number lines.given lines.held [] None
+IsItem Gives number lines now (Err WriteFault) = ⊥
+IsItem Gives number lines now (Err NoMemory) = ⊤
+
+-- What reading the next line does to a port, and what it answers.
+pub record ReadsItem {X F : Type 0} (Gives : List ℕ → Result (Option X) F → Type 0) (log_before log_now : Option (List Piece)) (rest_before rest_now : Option (List ℕ)) (number : ℕ) (lines now : LinesState) (result : Result (Option X) (End F)) : Type 0 where
+  pub pieces : List Piece
+  pub added : Adds log_before log_now pieces
+  pub left : Leaves rest_before rest_now (got_of pieces)
+  pub at_end : AtEnd pieces rest_now
+  pub reads : ReadsWhileNone lines.given lines.held lines.ended pieces
+  pub answer : IsItem Gives number (read_lines lines pieces) now result
+
+-- the text of what a line gives, and its turns, after these items
+abbrev pub item_text : {X : Type 0} → (List X → X → List ℕ) → List X → Option X → List ℕ
+item_text entry items None = []
+item_text entry items (Some item) = entry items item
+
+abbrev pub item_turns : {X : Type 0} → (List X → X → ℕ) → List X → Option X → ℕ
+item_turns turns items None = 0
+item_turns turns items (Some item) = turns items item
+
+-- What taking what a line gives, after these items, made of a taker and put: all of its text, or a part of it.
+abbrev pub IsTaken : {X F : Type 0} → (List X → X → List ℕ) → (List X → X → ℕ) → (List X → Type 0) → List Piece → Option X → ℕ → ℕ → List X → Result Unit (End F) → Type 0
+IsTaken entry turns IsAt pieces item before now items (Ok done) = (put_of pieces ≡ item_text entry items item) × IsAt (items ++ onto item []) × (now ≡ before + item_turns turns items item)
+IsTaken entry turns IsAt pieces item before now items (Err WriteFault) = IsProperFront (put_of pieces) (item_text entry items item) × (now ≡ before + item_turns turns items item)
+IsTaken entry turns IsAt pieces item before now items (Err NoMemory) = (pieces ≡ []) × (now ≤ before + item_turns turns items item)
+IsTaken entry turns IsAt pieces item before now items (Err other) = ⊥
+
+-- The same of a port.
+pub record TakesItem {X F : Type 0} (entry : List X → X → List ℕ) (turns : List X → X → ℕ) (WasAt IsAt : List X → Type 0)
+    (log_before log_now : Option (List Piece)) (rest_before rest_now : Option (List ℕ)) (item : Option X) (turns_before turns_now : ℕ) (result : Result Unit (End F)) : Type 0 where
   pub pieces : List Piece
   pub added : Adds log_before log_now pieces
   pub same_rest : rest_now ≡ rest_before
   pub all_put : AllPut pieces
-  pub took : (items : List X) → WasAt items → TookAfter entry turns IsAt pieces item turns_before turns_now items end
-
--- a step leads on, or ends the loop
-abbrev pub Onward : {X F : Type 0} → (List ℕ → Result (Option X) F → Type 0) → (List X → X → List ℕ) → (List X → X → ℕ) → (List X → Type 0) → Option (List Piece) → Option (List Piece) → Option (List ℕ) → Option (List ℕ) → ℕ → ℕ → ℕ → LinesState → Option (End F) → Type 0
-Onward Gives entry turns IsAt log_before log_now rest_before rest_now turns_before turns_now number lines None =
-    IsStreaming Gives entry turns IsAt log_before log_now rest_before rest_now turns_before turns_now (number + 1) lines
-Onward Gives entry turns IsAt log_before log_now rest_before rest_now turns_before turns_now number lines (Some end) =
-    Streams Gives entry turns IsAt log_before log_now rest_before rest_now turns_before turns_now end
+  pub taken : (items : List X) → WasAt items → IsTaken entry turns IsAt pieces item turns_before turns_now items result
 
 -- how it ends where no line can be given
 abbrev pub end_by : {F : Type 0} → ℕ → LineFail → End F
