@@ -33,6 +33,7 @@ pub fn stream<R: Reader, T: Taker<Item = R::Item>, P: Port, L: Ledger>(
     ensures streams { Streams (R.gives reader.now) (T.entry taker.now) (T.turns taker.now)
         (T.is_at taker.now state.new) (P.log port.old) (P.log port.new) (P.rest port.old)
         (P.rest port.new) steps.old steps.new result }
+    ensures later { steps.old ≤ steps.new }
     ensures read_fault { result ≡ End.ReadFault
         → Rose (P.read_faults port.old) (P.read_faults port.new) }
     ensures write_fault { result ≡ End.WriteFault
@@ -118,6 +119,7 @@ fn take_item<F, T: Taker, P: Port, L: Ledger>(
         (P.rest port.new) item steps.old steps.new result }
     ensures others { P.read_faults port.new ≡ P.read_faults port.old }
     ensures later { P.write_faults port.old ≤ P.write_faults port.new }
+    ensures later_turns { steps.old ≤ steps.new }
     ensures no_read { result ≢ Err End.ReadFault }
     ensures cause { result ≡ Err End.WriteFault
         → Rose (P.write_faults port.old) (P.write_faults port.new) }

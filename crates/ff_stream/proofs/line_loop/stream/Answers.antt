@@ -6,6 +6,7 @@ pub loop-item-init : goal.loop-item-init
 loop-item-init g c = record {
   so_far = streaming_start _ _ _ _ _ _ _ _ c.new-lines.ensures c.requires.start;
   later = omega arith;
+  later_turns = omega arith;
   later_writes = omega arith;
 }
 
@@ -16,6 +17,7 @@ pub loop-item-preserved : goal.loop-item-preserved
 loop-item-preserved g c = record {
   so_far = streaming_taken c.loop-item.invariant.so_far c.in-Ok.ensures.reads (g.met.R.Reader.once c.args.reader.now) c.in-Ok.item refl c.in-Ok-take_item.ensures.takes;
   later = search rules;
+  later_turns = search rules;
   later_writes = search rules;
 }
 
