@@ -1,7 +1,7 @@
 -- The items of inputs are well spelled, and the lines of inputs and outputs hold no newline.
 use Rattle.std.specs.Prelude.{IfSome, take_while}
-use Rattle.std.proofs.Common.{◌≡◌, ◌≢◌, ◌<◌, ◌^◌, ◌&&◌, ◌==◌, ℕ, suc, Bool, true, false, not, List, [], ◌∷◌, ◌++◌, length, map, get_or, Option, Some, None, refl, sym, ap, ◌∙◌, subst, arith, codes}
-use Rattle.std.specs.List.{All, AllByRecursion, list_all, join_with_byte}
+use Rattle.std.proofs.Common.{◌≡◌, ◌≢◌, ◌<◌, ◌+◌, ◌^◌, ◌&&◌, ◌==◌, ℕ, suc, Bool, true, false, not, List, [], ◌∷◌, ◌++◌, length, map, get_or, Option, Some, None, refl, sym, ap, ◌∙◌, subst, arith, codes}
+use Rattle.std.specs.List.{All, AllByRecursion, list_all, join_with_byte, prefix_len}
 use Rattle.std.specs.Str.{IsUtf8}
 use Rattle.std.proofs.lemmas.Bool.{and_parts}
 use Rattle.std.proofs.lemmas.List.{get_or_default}
@@ -171,7 +171,9 @@ before_blank : (text rest last : List ℕ) → ((k : ℕ) → k < length text �
 before_blank [] rest last other = refl
 before_blank (b ∷ text) rest last other =
     let test : (b == 32) ≡ false = no_blank b (other 0 (omega arith)) in
-    rw test (ap (λ (bs : List ℕ). b ∷ bs) (before_blank text rest last (λ k inside. other (suc k) (omega arith))))
+    let n = prefix_len (λ b. not (b == 32)) ((text ++ 32 ∷ rest) ++ last) in
+    let next : 1 + n ≡ suc n = omega arith in
+    rw (test, next) (ap (λ (bs : List ℕ). b ∷ bs) (before_blank text rest last (λ k inside. other (suc k) (omega arith))))
 
 -- what stands before the first blank of an output's line is the name of its level
 pub name_first : (order : Order) (l : ℕ) (one : Out) → IsOrder order → l < size order → take_while (λ b. not (b == 32)) (out_line order l one) ≡ name order l

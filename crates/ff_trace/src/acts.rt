@@ -7,8 +7,8 @@ ghost use Rattle.ff_trace.specs.Lines as lines;
 
 use crate::LineFault;
 use crate::parts::{read_address, read_domain, read_number, read_response, read_string};
-use ff_text::Sexp;
 use ff_name::by_word;
+use ff_text::Sexp;
 use ff_value::{Act, Kind};
 use std::alloc::Global;
 

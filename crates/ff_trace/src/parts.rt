@@ -11,9 +11,9 @@ ghost use Rattle.ff_name.specs.Reading.{read_url};
 ghost use Rattle.ff_trace.specs.Parts as parts;
 
 use crate::LineFault;
+use ff_forms::SyntaxFault;
 use ff_name::{Domain, Text, Url, UrlFault};
 use ff_number::read_nat;
-use ff_forms::SyntaxFault;
 use ff_reading::read_resp;
 use ff_text::Sexp;
 use ff_value::Resp;

@@ -102,11 +102,7 @@ fn print_kind<'a>(head: &'a [u8], act: &'a Act, out: &mut Vec<u8>) -> Result<(),
             out,
         ),
         Act::Clicks(win, button) => print_parts(
-            &[
-                Part::Word(head),
-                Part::Number(*win),
-                Part::Number(*button),
-            ],
+            &[Part::Word(head), Part::Number(*win), Part::Number(*button)],
             out,
         ),
         Act::Replies(domain, request, resp) => print_parts(

@@ -11,4 +11,4 @@ returns c =
     let one = c.args.act.now in
     let head = c.as_bytes.result.now in
     appends_same c.print_kind.result c.args.out.now.items c.print_kind.new.out.items (joined (word head ∷ act_parts one)) (joined (act_items one))
-    (ap (λ (h : List ℕ). joined (word h ∷ act_parts one)) (c.as_bytes.ensures ∙ c.word.ensures ∙ ap word_of c.kind-kind.ensures)) c.print_kind.ensures
+    (ap (λ (h : List ℕ). joined (word h ∷ act_parts one)) (c.as_bytes.ensures.value ∙ c.word.ensures ∙ ap word_of c.kind-kind.ensures)) c.print_kind.ensures
