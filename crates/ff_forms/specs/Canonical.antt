@@ -6,7 +6,6 @@ use Rattle.ff_name.specs.declared.urls.Url.{Url}
 use Rattle.ff_text.specs.Notation.{span}
 use Rattle.ff_text.specs.declared.items.Sexp.{Sexp}
 use Rattle.ff_text.specs.declared.items.Sexp.TheVariants as sexp
-use Rattle.ff_tree.specs.Ops.{word_of}
 use Rattle.ff_tree.specs.declared.tree.Lit.{Lit}
 use Rattle.ff_tree.specs.declared.tree.Lit.TheVariants as lit
 use Rattle.ff_tree.specs.declared.tree.Doc.{Doc}
@@ -22,6 +21,12 @@ use Rattle.ff_value.specs.declared.reply.CookieOp.{CookieOp}
 use Rattle.ff_value.specs.declared.reply.CookieOp.TheVariants as cookie
 use Rattle.ff_value.specs.declared.reply.Resp.{Resp}
 use Rattle.ff_value.specs.declared.reply.Resp.TheVariants as resp
+use Rattle.ff_forms.specs.Heads.{doc_word, expr_word, handler_word, resp_word, cookie_word}
+use Rattle.ff_forms.specs.declared.heads.DocHead.TheVariants as doc_head
+use Rattle.ff_forms.specs.declared.heads.ExprHead.TheVariants as expr_head
+use Rattle.ff_forms.specs.declared.heads.HandlerHead.TheVariants as handler_head
+use Rattle.ff_forms.specs.declared.heads.RespHead.TheVariants as resp_head
+use Rattle.ff_forms.specs.declared.heads.CookieHead.TheVariants as cookie_head
 
 abbrev pub word : List ℕ → Sexp
 word text = sexp.Word (span 0 0) text
@@ -46,29 +51,29 @@ lit_item (lit.Str text) = string text
 abbrev pub expr_form : Expr-F Sexp Sexp Sexp → Sexp
 expr_form (Expr-F.Lit l) = lit_item l
 expr_form (Expr-F.Var x) = word x
-expr_form (Expr-F.Let x e) = parens (word (codes "let") ∷ word x ∷ e ∷ [])
-expr_form (Expr-F.Set x e) = parens (word (codes "set") ∷ word x ∷ e ∷ [])
-expr_form (Expr-F.If e f g) = parens (word (codes "if") ∷ e ∷ f ∷ g ∷ [])
-expr_form (Expr-F.While e f) = parens (word (codes "while") ∷ e ∷ f ∷ [])
-expr_form (Expr-F.Do es) = parens (word (codes "do") ∷ es)
-expr_form (Expr-F.And e f) = parens (word (codes "and") ∷ e ∷ f ∷ [])
-expr_form (Expr-F.Or e f) = parens (word (codes "or") ∷ e ∷ f ∷ [])
-expr_form (Expr-F.Make params e) = parens (word (codes "fn") ∷ parens (map word params) ∷ e ∷ [])
-expr_form (Expr-F.Apply e es) = parens (word (codes "call") ∷ e ∷ es)
-expr_form (Expr-F.Tree doc) = parens (word (codes "new") ∷ doc ∷ [])
-expr_form (Expr-F.Prim op es) = parens (word (word_of op) ∷ es)
+expr_form (Expr-F.Let x e) = parens (word (expr_word expr_head.Let) ∷ word x ∷ e ∷ [])
+expr_form (Expr-F.Set x e) = parens (word (expr_word expr_head.Set) ∷ word x ∷ e ∷ [])
+expr_form (Expr-F.If e f g) = parens (word (expr_word expr_head.If) ∷ e ∷ f ∷ g ∷ [])
+expr_form (Expr-F.While e f) = parens (word (expr_word expr_head.While) ∷ e ∷ f ∷ [])
+expr_form (Expr-F.Do es) = parens (word (expr_word expr_head.Do) ∷ es)
+expr_form (Expr-F.And e f) = parens (word (expr_word expr_head.And) ∷ e ∷ f ∷ [])
+expr_form (Expr-F.Or e f) = parens (word (expr_word expr_head.Or) ∷ e ∷ f ∷ [])
+expr_form (Expr-F.Make params e) = parens (word (expr_word expr_head.Make) ∷ parens (map word params) ∷ e ∷ [])
+expr_form (Expr-F.Apply e es) = parens (word (expr_word expr_head.Apply) ∷ e ∷ es)
+expr_form (Expr-F.Tree doc) = parens (word (expr_word expr_head.Tree) ∷ doc ∷ [])
+expr_form (Expr-F.Prim op es) = parens (word (expr_word (expr_head.Prim op)) ∷ es)
 
 abbrev pub handler_form : Handler-F Sexp Sexp Sexp → Sexp
-handler_form handler = parens (word (codes "fn") ∷ parens (word handler.param ∷ []) ∷ handler.body ∷ [])
+handler_form handler = parens (word (handler_word handler_head.Make) ∷ parens (word handler.param ∷ []) ∷ handler.body ∷ [])
 
 abbrev pub doc_form : Doc-F Sexp Sexp Sexp → Sexp
-doc_form (Doc-F.Text x text) = parens (word (codes "text") ∷ word x ∷ string text ∷ [])
-doc_form (Doc-F.Link x url label) = parens (word (codes "link") ∷ word x ∷ address url ∷ string label ∷ [])
-doc_form (Doc-F.TextBox x text handlers) = parens (word (codes "box") ∷ word x ∷ string text ∷ handlers)
-doc_form (Doc-F.Button x label handlers) = parens (word (codes "button") ∷ word x ∷ string label ∷ handlers)
-doc_form (Doc-F.Script x e) = parens (word (codes "script") ∷ word x ∷ e ∷ [])
-doc_form (Doc-F.Src x url) = parens (word (codes "src") ∷ word x ∷ address url ∷ [])
-doc_form (Doc-F.Div x docs) = parens (word (codes "div") ∷ word x ∷ docs)
+doc_form (Doc-F.Text x text) = parens (word (doc_word doc_head.Text) ∷ word x ∷ string text ∷ [])
+doc_form (Doc-F.Link x url label) = parens (word (doc_word doc_head.Link) ∷ word x ∷ address url ∷ string label ∷ [])
+doc_form (Doc-F.TextBox x text handlers) = parens (word (doc_word doc_head.TextBox) ∷ word x ∷ string text ∷ handlers)
+doc_form (Doc-F.Button x label handlers) = parens (word (doc_word doc_head.Button) ∷ word x ∷ string label ∷ handlers)
+doc_form (Doc-F.Script x e) = parens (word (doc_word doc_head.Script) ∷ word x ∷ e ∷ [])
+doc_form (Doc-F.Src x url) = parens (word (doc_word doc_head.Src) ∷ word x ∷ address url ∷ [])
+doc_form (Doc-F.Div x docs) = parens (word (doc_word doc_head.Div) ∷ word x ∷ docs)
 
 abbrev pub doc_item : Doc → Sexp
 doc_item = fold-Doc Sexp Sexp Sexp doc_form expr_form handler_form
@@ -80,29 +85,29 @@ abbrev pub handler_item : Handler → Sexp
 handler_item = fold-Handler Sexp Sexp Sexp doc_form expr_form handler_form
 
 abbrev pub cookie_item : CookieOp → Sexp
-cookie_item (cookie.Put key value) = parens (word (codes "set") ∷ string key ∷ string value ∷ [])
-cookie_item (cookie.Drop key) = parens (word (codes "del") ∷ string key ∷ [])
+cookie_item (cookie.Put key value) = parens (word (cookie_word cookie_head.Put) ∷ string key ∷ string value ∷ [])
+cookie_item (cookie.Drop key) = parens (word (cookie_word cookie_head.Drop) ∷ string key ∷ [])
 
 abbrev pub cookies_item : List CookieOp → Sexp
 cookies_item cookies = parens (map cookie_item cookies)
 
 abbrev pub resp_item : Resp → Sexp
-resp_item (resp.Page cookies docs) = parens (word (codes "doc") ∷ cookies_item cookies ∷ map doc_item docs)
-resp_item (resp.Script cookies e) = parens (word (codes "script") ∷ cookies_item cookies ∷ expr_item e ∷ [])
-resp_item (resp.Data cookies text) = parens (word (codes "data") ∷ cookies_item cookies ∷ string text ∷ [])
+resp_item (resp.Page cookies docs) = parens (word (resp_word resp_head.Page) ∷ cookies_item cookies ∷ map doc_item docs)
+resp_item (resp.Script cookies e) = parens (word (resp_word resp_head.Script) ∷ cookies_item cookies ∷ expr_item e ∷ [])
+resp_item (resp.Data cookies text) = parens (word (resp_word resp_head.Data) ∷ cookies_item cookies ∷ string text ∷ [])
 
--- one level of what the user sees, where the items of its parts stand in their places
+-- one level of what the user is shown, where the items of its parts stand in their places
 abbrev pub seen_form : Seen-F Sexp → Sexp
-seen_form (Seen-F.Text text) = parens (word (codes "text") ∷ string text ∷ [])
-seen_form (Seen-F.Link url label) = parens (word (codes "link") ∷ address url ∷ string label ∷ [])
-seen_form (Seen-F.TextBox text) = parens (word (codes "box") ∷ string text ∷ [])
-seen_form (Seen-F.Button label) = parens (word (codes "button") ∷ string label ∷ [])
-seen_form (Seen-F.Div parts) = parens (word (codes "div") ∷ parts)
+seen_form (Seen-F.Text text) = parens (word (doc_word doc_head.Text) ∷ string text ∷ [])
+seen_form (Seen-F.Link url label) = parens (word (doc_word doc_head.Link) ∷ address url ∷ string label ∷ [])
+seen_form (Seen-F.TextBox text) = parens (word (doc_word doc_head.TextBox) ∷ string text ∷ [])
+seen_form (Seen-F.Button label) = parens (word (doc_word doc_head.Button) ∷ string label ∷ [])
+seen_form (Seen-F.Div parts) = parens (word (doc_word doc_head.Div) ∷ parts)
 
 abbrev pub seen_item : Seen → Sexp
 seen_item = fold-Seen Sexp seen_form
 
--- a page as the user sees it
+-- a page as the user is shown it
 abbrev pub shown_item : List Seen → Sexp
 shown_item shown = parens (word (codes "page") ∷ map seen_item shown)
 

@@ -1,14 +1,13 @@
 -- Which items are documents, expressions and responses, what they stand for, and which fault is met first: tables of the
 -- forms that lists may have.
-use Rattle.std.specs.Prelude.{◌≡◌, ◌⊎◌, ℕ, ◌-◌, Bool, true, false, ◌&&◌, ◌==◌, nat_le, if◌then◌else◌, Option, ok_or, Result, Ok, Err, List, [], ◌∷◌, ◌++◌, map, length, codes, find}
+use Rattle.std.specs.Prelude.{ℕ, ◌-◌, Bool, true, false, ◌&&◌, ◌==◌, nat_le, if◌then◌else◌, ok_or, Result, Ok, Err, List, [], ◌∷◌, ◌++◌, length, codes}
 use Rattle.std.specs.List.{list_any}
 use Rattle.std.specs.Str.{bytes_eq}
+use Rattle.ff_contract.specs.Answering.{Answers}
 use Rattle.ff_name.specs.declared.urls.Url.{Url}
 use Rattle.ff_name.specs.declared.urls.UrlFault.{UrlFault}
 use Rattle.ff_name.specs.declared.urls.UrlFault.TheVariants as url_fault
-use Rattle.ff_tree.specs.Ops.{word_of, arity_of}
-use Rattle.ff_tree.specs.declared.op.Op.{Op}
-use Rattle.ff_tree.specs.declared.op.Op.TheVariants as op
+use Rattle.ff_tree.specs.Ops.{arity_of}
 use Rattle.ff_tree.specs.declared.tree.Lit.TheVariants as lit
 use Rattle.ff_tree.specs.declared.tree.Doc.{Doc}
 use Rattle.ff_tree.specs.declared.tree.Doc.TheVariants as doc
@@ -22,7 +21,11 @@ use Rattle.ff_value.specs.declared.reply.Resp.TheVariants as resp
 use Rattle.ff_text.specs.declared.items.Sexp.{Sexp}
 use Rattle.ff_text.specs.declared.items.Sexp.TheOpen.{Sexp-F}
 use Rattle.ff_text.specs.declared.items.Sexp.TheFolds.{fold-Sexp}
-use Rattle.ff_forms.specs.Words.{is_name, is_variable, looks_like_number, number_of, address_of}
+use Rattle.ff_name.specs.Reading.{is_name, read_url}
+use Rattle.ff_forms.specs.Heads.{doc_word, expr_word, handler_word, resp_word, cookie_word, doc_heads, expr_heads, handler_heads, resp_heads, cookie_heads}
+use Rattle.ff_name.specs.Words.{with_word}
+use Rattle.ff_number.specs.Numbers.{read_num}
+use Rattle.ff_forms.specs.Words.{is_variable, looks_like_number}
 use Rattle.ff_forms.specs.declared.fault.SyntaxFault.{SyntaxFault}
 use Rattle.ff_forms.specs.declared.fault.SyntaxFault.TheVariants as fault
 use Rattle.ff_forms.specs.declared.heads.DocHead.{DocHead}
@@ -33,6 +36,8 @@ use Rattle.ff_forms.specs.declared.heads.RespHead.{RespHead}
 use Rattle.ff_forms.specs.declared.heads.RespHead.TheVariants as resp_head
 use Rattle.ff_forms.specs.declared.heads.CookieHead.{CookieHead}
 use Rattle.ff_forms.specs.declared.heads.CookieHead.TheVariants as cookie_head
+use Rattle.ff_forms.specs.declared.heads.HandlerHead.{HandlerHead}
+use Rattle.ff_forms.specs.declared.limits.TheConstants.{MOST_HANDLERS}
 
 -- what an item may be wanted as
 pub data Sort : Type 0 where
@@ -101,16 +106,17 @@ form sorts more makes = record { sorts = sorts; more = more; makes = makes }
 abbrev pub any : ℕ → Bool
 any n = true
 
-abbrev pub at_most_16 : ℕ → Bool
-at_most_16 n = nat_le n 16
+-- so few handlers that a text box or a button may have them
+abbrev pub few_handlers : ℕ → Bool
+few_handlers n = nat_le n MOST_HANDLERS
 
 -- THE TABLES: the form that begins with each head
 
 abbrev pub doc_form : DocHead → Form Doc
 doc_form doc_head.Text = form (a_name ∷ a_string ∷ []) nothing doc.Text
 doc_form doc_head.Link = form (a_name ∷ an_address ∷ a_string ∷ []) nothing doc.Link
-doc_form doc_head.TextBox = form (a_name ∷ a_string ∷ []) (further at_most_16 a_handler) doc.TextBox
-doc_form doc_head.Button = form (a_name ∷ a_string ∷ []) (further at_most_16 a_handler) doc.Button
+doc_form doc_head.TextBox = form (a_name ∷ a_string ∷ []) (further few_handlers a_handler) doc.TextBox
+doc_form doc_head.Button = form (a_name ∷ a_string ∷ []) (further few_handlers a_handler) doc.Button
 doc_form doc_head.Script = form (a_name ∷ an_expression ∷ []) nothing doc.Script
 doc_form doc_head.Src = form (a_name ∷ an_address ∷ []) nothing doc.Src
 doc_form doc_head.Div = form (a_name ∷ []) (further any a_document) doc.Div
@@ -140,8 +146,8 @@ cookie_form cookie_head.Drop = form (a_string ∷ []) nothing cookie.Drop
 abbrev pub handler : List ℕ → Expr → Handler
 handler param body = roll-Handler (record { param = param; body = body })
 
-abbrev pub handler_form : Form Handler
-handler_form = form (one_parameter ∷ an_expression ∷ []) nothing handler
+abbrev pub handler_form : HandlerHead → Form Handler
+handler_form head = form (one_parameter ∷ an_expression ∷ []) nothing handler
 
 -- HOW THE TABLES ARE READ
 
@@ -177,7 +183,7 @@ form_as at f parts = if may_have f.sorts f.more (length parts) then parts_as at 
 
 -- the form whose word the first item of a list is
 abbrev pub head_as : {H : Type 0} → (H → List ℕ) → List H → Reading → Result H SyntaxFault
-head_as word_at heads first = and_then (first a_head) (λ placed. ok_or (headed word_at heads placed.word) (fault.Head placed.from))
+head_as word_at heads first = and_then (first a_head) (λ placed. ok_or (with_word word_at heads placed.word) (fault.Head placed.from))
 
 -- a list is checked for its head, and then its form for the rest
 abbrev pub list_as : {H X : Type 0} → (H → List ℕ) → List H → (H → Form X) → ℕ → List Reading → Result X SyntaxFault
@@ -185,7 +191,7 @@ list_as word_at heads form_at at [] = Err (fault.Head at)
 list_as word_at heads form_at at (first ∷ parts) = and_then (head_as word_at heads first) (λ head. form_as at (form_at head) parts)
 
 abbrev pub handler_as : ℕ → List Reading → Result Handler SyntaxFault
-handler_as = list_as handler_word handler_heads (λ head. handler_form)
+handler_as = list_as handler_word handler_heads handler_form
 
 -- a parameter, after those that stand before
 abbrev pub parameter_as : List (List ℕ) → Reading → Result (List ℕ) SyntaxFault
@@ -203,7 +209,7 @@ one_parameter_as at _ = Err (fault.Count at)
 
 -- a word that has to be a number
 abbrev pub number_as : ℕ → List ℕ → Result Expr SyntaxFault
-number_as at word = and_then (ok_or (number_of word) (fault.Number at)) (λ n. Ok (expr.Lit (lit.Num n)))
+number_as at word = and_then (ok_or (read_num word) (fault.Number at)) (λ n. Ok (expr.Lit (lit.Num n)))
 
 -- a word that has to be a variable, where it is no literal
 abbrev pub name_as_expression : ℕ → List ℕ → Result Expr SyntaxFault
@@ -223,7 +229,7 @@ abbrev pub word_as : ℕ → List ℕ → (sort : Sort) → Result (Value sort) 
 word_as at word a_name = if is_name word then Ok word else Err (fault.Name at)
 word_as at word a_variable = if is_variable word then Ok word else Err (fault.Name at)
 word_as at word a_parameter = if is_variable word then Ok (record { from = at; word = word }) else Err (fault.Name at)
-word_as at word an_address = ok_or (address_of word) (fault.Url at)
+word_as at word an_address = ok_or (read_url word) (fault.Url at)
 word_as at word an_expression = word_as_expression at word
 word_as at word a_head = Ok (record { from = at; word = word })
 word_as at word _ = Err (fault.Place at)
@@ -270,7 +276,7 @@ resp_in item = reading item a_response
 
 -- the answer, or else want of memory
 abbrev pub Gives : {X : Type 0} → Result X SyntaxFault → Result X SyntaxFault → Type 0
-Gives result answer = (result ≡ answer) ⊎ (result ≡ Err fault.NoMemory)
+Gives result answer = Answers result answer (Err fault.NoMemory)
 
 -- the fault of a word that is no address, from the fault of reading it as one
 abbrev pub address_fault : ℕ → UrlFault → SyntaxFault

@@ -1,17 +1,19 @@
--- The words that head the lists of each form.
-use Rattle.std.specs.Prelude.{ℕ, Option, List, [], ◌∷◌, ◌++◌, map, codes, find}
-use Rattle.std.specs.Str.{bytes_eq}
+-- The words that head the lists of each form: each finds its head.
+use Rattle.std.specs.Prelude.{◌≡◌, ℕ, Some, List, codes, refl}
+use Rattle.ff_name.specs.Words.{with_word}
 use Rattle.ff_tree.specs.Ops.{word_of}
-use Rattle.ff_tree.specs.declared.op.Op.{Op}
 use Rattle.ff_tree.specs.declared.op.Op.TheVariants as op
 use Rattle.ff_forms.specs.declared.heads.DocHead.{DocHead}
 use Rattle.ff_forms.specs.declared.heads.DocHead.TheVariants as doc_head
 use Rattle.ff_forms.specs.declared.heads.ExprHead.{ExprHead}
 use Rattle.ff_forms.specs.declared.heads.ExprHead.TheVariants as expr_head
+use Rattle.ff_forms.specs.declared.heads.HandlerHead.{HandlerHead}
+use Rattle.ff_forms.specs.declared.heads.HandlerHead.TheVariants as handler_head
 use Rattle.ff_forms.specs.declared.heads.RespHead.{RespHead}
 use Rattle.ff_forms.specs.declared.heads.RespHead.TheVariants as resp_head
 use Rattle.ff_forms.specs.declared.heads.CookieHead.{CookieHead}
 use Rattle.ff_forms.specs.declared.heads.CookieHead.TheVariants as cookie_head
+use Rattle.ff_forms.specs.declared.heads.TheConstants.{DOC_HEADS, EXPR_HEADS, HANDLER_HEADS, RESP_HEADS, COOKIE_HEADS}
 
 abbrev pub doc_word : DocHead → List ℕ
 doc_word doc_head.Text = codes "text"
@@ -35,6 +37,9 @@ expr_word expr_head.Apply = codes "call"
 expr_word expr_head.Tree = codes "new"
 expr_word (expr_head.Prim o) = word_of o
 
+abbrev pub handler_word : HandlerHead → List ℕ
+handler_word handler_head.Make = codes "fn"
+
 abbrev pub resp_word : RespHead → List ℕ
 resp_word resp_head.Page = codes "doc"
 resp_word resp_head.Script = codes "script"
@@ -44,40 +49,92 @@ abbrev pub cookie_word : CookieHead → List ℕ
 cookie_word cookie_head.Put = codes "set"
 cookie_word cookie_head.Drop = codes "del"
 
--- a handler's list has one head
-abbrev pub handler_word : Unit {0} → List ℕ
-handler_word head = codes "fn"
-
-abbrev pub handler_heads : List (Unit {0})
-handler_heads = tt ∷ []
-
--- THE HEADS AT EACH POSITION, and the one whose word it is there
+-- the heads at each position
 
 abbrev pub doc_heads : List DocHead
-doc_heads = doc_head.Text ∷ doc_head.Link ∷ doc_head.TextBox ∷ doc_head.Button ∷ doc_head.Script ∷ doc_head.Src ∷ doc_head.Div ∷ []
-
-abbrev pub operators : List Op
-operators =
-    op.Add ∷ op.Sub ∷ op.Mul ∷ op.Div ∷ op.Rem ∷ op.Less ∷ op.AtMost ∷ op.Equal ∷ op.Not ∷ op.Cat ∷ op.Len ∷ op.Byte ∷ op.Cut ∷ op.Str ∷ op.Num
-    ∷ op.Cookie ∷ op.SetCookie ∷ op.DelCookie ∷ op.SelfWindow ∷ op.Opener ∷ op.Live ∷ op.Url ∷ op.Page ∷ op.Window ∷ op.Open ∷ op.OpenNamed
-    ∷ op.Go ∷ op.Close ∷ op.Kind ∷ op.Text ∷ op.SetText ∷ op.Count ∷ op.Child ∷ op.Find ∷ op.Nth ∷ op.Insert ∷ op.Listen ∷ op.Ask ∷ []
-
-abbrev pub own_heads : List ExprHead
-own_heads =
-    expr_head.Let ∷ expr_head.Set ∷ expr_head.If ∷ expr_head.While ∷ expr_head.Do ∷ expr_head.And ∷ expr_head.Or ∷ expr_head.Make ∷ expr_head.Apply ∷ expr_head.Tree ∷ []
-
-abbrev pub operator_heads : List ExprHead
-operator_heads = map expr_head.Prim operators
+doc_heads = DOC_HEADS
 
 abbrev pub expr_heads : List ExprHead
-expr_heads = own_heads ++ operator_heads
+expr_heads = EXPR_HEADS
+
+abbrev pub handler_heads : List HandlerHead
+handler_heads = HANDLER_HEADS
 
 abbrev pub resp_heads : List RespHead
-resp_heads = resp_head.Page ∷ resp_head.Script ∷ resp_head.Data ∷ []
+resp_heads = RESP_HEADS
 
 abbrev pub cookie_heads : List CookieHead
-cookie_heads = cookie_head.Put ∷ cookie_head.Drop ∷ []
+cookie_heads = COOKIE_HEADS
 
-abbrev pub headed : {H : Type 0} → (H → List ℕ) → List H → List ℕ → Option H
-headed word_at heads word = find (λ head. bytes_eq (word_at head) word) heads
+-- each is there, and none before it has its word
 
+pub doc_own : (head : DocHead) → with_word doc_word doc_heads (doc_word head) ≡ Some head
+doc_own doc_head.Text = refl
+doc_own doc_head.Link = refl
+doc_own doc_head.TextBox = refl
+doc_own doc_head.Button = refl
+doc_own doc_head.Script = refl
+doc_own doc_head.Src = refl
+doc_own doc_head.Div = refl
+
+pub expr_own : (head : ExprHead) → with_word expr_word expr_heads (expr_word head) ≡ Some head
+expr_own expr_head.Let = refl
+expr_own expr_head.Set = refl
+expr_own expr_head.If = refl
+expr_own expr_head.While = refl
+expr_own expr_head.Do = refl
+expr_own expr_head.And = refl
+expr_own expr_head.Or = refl
+expr_own expr_head.Make = refl
+expr_own expr_head.Apply = refl
+expr_own expr_head.Tree = refl
+expr_own (expr_head.Prim op.Add) = refl
+expr_own (expr_head.Prim op.Sub) = refl
+expr_own (expr_head.Prim op.Mul) = refl
+expr_own (expr_head.Prim op.Div) = refl
+expr_own (expr_head.Prim op.Rem) = refl
+expr_own (expr_head.Prim op.Less) = refl
+expr_own (expr_head.Prim op.AtMost) = refl
+expr_own (expr_head.Prim op.Equal) = refl
+expr_own (expr_head.Prim op.Not) = refl
+expr_own (expr_head.Prim op.Cat) = refl
+expr_own (expr_head.Prim op.Len) = refl
+expr_own (expr_head.Prim op.Byte) = refl
+expr_own (expr_head.Prim op.Cut) = refl
+expr_own (expr_head.Prim op.Str) = refl
+expr_own (expr_head.Prim op.Num) = refl
+expr_own (expr_head.Prim op.Cookie) = refl
+expr_own (expr_head.Prim op.SetCookie) = refl
+expr_own (expr_head.Prim op.DelCookie) = refl
+expr_own (expr_head.Prim op.SelfWindow) = refl
+expr_own (expr_head.Prim op.Opener) = refl
+expr_own (expr_head.Prim op.Live) = refl
+expr_own (expr_head.Prim op.Url) = refl
+expr_own (expr_head.Prim op.Page) = refl
+expr_own (expr_head.Prim op.Window) = refl
+expr_own (expr_head.Prim op.Open) = refl
+expr_own (expr_head.Prim op.OpenNamed) = refl
+expr_own (expr_head.Prim op.Go) = refl
+expr_own (expr_head.Prim op.Close) = refl
+expr_own (expr_head.Prim op.Kind) = refl
+expr_own (expr_head.Prim op.Text) = refl
+expr_own (expr_head.Prim op.SetText) = refl
+expr_own (expr_head.Prim op.Count) = refl
+expr_own (expr_head.Prim op.Child) = refl
+expr_own (expr_head.Prim op.Find) = refl
+expr_own (expr_head.Prim op.Nth) = refl
+expr_own (expr_head.Prim op.Insert) = refl
+expr_own (expr_head.Prim op.Listen) = refl
+expr_own (expr_head.Prim op.Ask) = refl
+
+pub handler_own : (head : HandlerHead) → with_word handler_word handler_heads (handler_word head) ≡ Some head
+handler_own handler_head.Make = refl
+
+pub resp_own : (head : RespHead) → with_word resp_word resp_heads (resp_word head) ≡ Some head
+resp_own resp_head.Page = refl
+resp_own resp_head.Script = refl
+resp_own resp_head.Data = refl
+
+pub cookie_own : (head : CookieHead) → with_word cookie_word cookie_heads (cookie_word head) ≡ Some head
+cookie_own cookie_head.Put = refl
+cookie_own cookie_head.Drop = refl

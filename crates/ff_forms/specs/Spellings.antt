@@ -22,6 +22,7 @@ use Rattle.ff_text.specs.declared.items.Span.{Span}
 use Rattle.ff_text.specs.declared.items.Sexp.{Sexp}
 use Rattle.ff_text.specs.declared.items.Sexp.TheVariants.{Word, Str, List as Parens}
 use Rattle.ff_forms.specs.Grammar.{handler}
+use Rattle.ff_forms.specs.declared.limits.TheConstants.{MOST_HANDLERS}
 
 -- the items are these words
 pub data AreWords : List Sexp → List (List ℕ) → Type 0 where
@@ -35,9 +36,9 @@ mutual
         → SpellsDoc (Parens at (Word h (codes "text") ∷ Word n name ∷ Str t text ∷ [])) (doc.Text name text)
     a_link : (at h n u t : Span) (name address : List ℕ) (url : Url) (label : List ℕ) → IsName name → Spells address url
         → SpellsDoc (Parens at (Word h (codes "link") ∷ Word n name ∷ Word u address ∷ Str t label ∷ [])) (doc.Link name url label)
-    a_text_box : (at h n t : Span) (name text : List ℕ) (items : List Sexp) (handlers : List Handler) → IsName name → SpellsHandlers items handlers → length handlers ≤ 16
+    a_text_box : (at h n t : Span) (name text : List ℕ) (items : List Sexp) (handlers : List Handler) → IsName name → SpellsHandlers items handlers → length handlers ≤ MOST_HANDLERS
         → SpellsDoc (Parens at (Word h (codes "box") ∷ Word n name ∷ Str t text ∷ items)) (doc.TextBox name text handlers)
-    a_button : (at h n t : Span) (name label : List ℕ) (items : List Sexp) (handlers : List Handler) → IsName name → SpellsHandlers items handlers → length handlers ≤ 16
+    a_button : (at h n t : Span) (name label : List ℕ) (items : List Sexp) (handlers : List Handler) → IsName name → SpellsHandlers items handlers → length handlers ≤ MOST_HANDLERS
         → SpellsDoc (Parens at (Word h (codes "button") ∷ Word n name ∷ Str t label ∷ items)) (doc.Button name label handlers)
     a_script : (at h n : Span) (name : List ℕ) (item : Sexp) (body : Expr) → IsName name → SpellsExpr item body
         → SpellsDoc (Parens at (Word h (codes "script") ∷ Word n name ∷ item ∷ [])) (doc.Script name body)

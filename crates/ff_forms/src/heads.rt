@@ -1,6 +1,6 @@
-ghost use Rattle.std.specs.Prelude.{◌≡◌};
-ghost use Rattle.ff_forms.specs.Grammar.{doc_word, doc_heads, expr_word, expr_heads, resp_word, resp_heads, cookie_word, cookie_heads, own_heads, operator_heads, headed};
+//! The words that head lists: one home for each.
 
+use ff_name::Worded;
 use ff_tree::Op;
 
 /// The words that head a document.
@@ -25,10 +25,21 @@ const DOC_HEADS: [DocHead; 7] = [
     DocHead::Div,
 ];
 
-impl DocHead {
-    pub fn word(self) -> &'static str
-        ensures { result.now ≡ doc_word self }
-    {
+impl Worded for DocHead {
+    ghost use Rattle.ff_forms.specs.Heads.{doc_word, doc_own};
+    ghost use Rattle.ff_forms.specs.declared.heads.TheConstants.{DOC_HEADS};
+
+    ghost word_of = { doc_word };
+
+    ghost each = { DOC_HEADS };
+
+    ghost own = { doc_own };
+
+    fn all() -> &'static [DocHead] {
+        &DOC_HEADS
+    }
+
+    fn word(self) -> &'static str {
         match self {
             DocHead::Text => "text",
             DocHead::Link => "link",
@@ -39,21 +50,6 @@ impl DocHead {
             DocHead::Div => "div",
         }
     }
-
-    pub fn by_word(word: &[u8]) -> Option<DocHead>
-        ensures { result ≡ headed doc_word doc_heads word.now }
-    {
-        first_doc_head(&DOC_HEADS, word)
-    }
-}
-
-fn first_doc_head(heads: &[DocHead], word: &[u8]) -> Option<DocHead>
-    ensures { result ≡ headed doc_word heads.now word.now }
-{
-    heads
-        .iter()
-        .copied()
-        .find(|head| head.word().as_bytes() == word)
 }
 
 /// The words that head an expression: those of the language's own forms, and those of the operators.
@@ -72,7 +68,7 @@ pub enum ExprHead {
     Prim(Op),
 }
 
-const OWN_HEADS: [ExprHead; 10] = [
+const EXPR_HEADS: [ExprHead; 48] = [
     ExprHead::Let,
     ExprHead::Set,
     ExprHead::If,
@@ -83,12 +79,61 @@ const OWN_HEADS: [ExprHead; 10] = [
     ExprHead::Make,
     ExprHead::Apply,
     ExprHead::Tree,
+    ExprHead::Prim(Op::Add),
+    ExprHead::Prim(Op::Sub),
+    ExprHead::Prim(Op::Mul),
+    ExprHead::Prim(Op::Div),
+    ExprHead::Prim(Op::Rem),
+    ExprHead::Prim(Op::Less),
+    ExprHead::Prim(Op::AtMost),
+    ExprHead::Prim(Op::Equal),
+    ExprHead::Prim(Op::Not),
+    ExprHead::Prim(Op::Cat),
+    ExprHead::Prim(Op::Len),
+    ExprHead::Prim(Op::Byte),
+    ExprHead::Prim(Op::Cut),
+    ExprHead::Prim(Op::Str),
+    ExprHead::Prim(Op::Num),
+    ExprHead::Prim(Op::Cookie),
+    ExprHead::Prim(Op::SetCookie),
+    ExprHead::Prim(Op::DelCookie),
+    ExprHead::Prim(Op::SelfWindow),
+    ExprHead::Prim(Op::Opener),
+    ExprHead::Prim(Op::Live),
+    ExprHead::Prim(Op::Url),
+    ExprHead::Prim(Op::Page),
+    ExprHead::Prim(Op::Window),
+    ExprHead::Prim(Op::Open),
+    ExprHead::Prim(Op::OpenNamed),
+    ExprHead::Prim(Op::Go),
+    ExprHead::Prim(Op::Close),
+    ExprHead::Prim(Op::Kind),
+    ExprHead::Prim(Op::Text),
+    ExprHead::Prim(Op::SetText),
+    ExprHead::Prim(Op::Count),
+    ExprHead::Prim(Op::Child),
+    ExprHead::Prim(Op::Find),
+    ExprHead::Prim(Op::Nth),
+    ExprHead::Prim(Op::Insert),
+    ExprHead::Prim(Op::Listen),
+    ExprHead::Prim(Op::Ask),
 ];
 
-impl ExprHead {
-    pub fn word(self) -> &'static str
-        ensures { result.now ≡ expr_word self }
-    {
+impl Worded for ExprHead {
+    ghost use Rattle.ff_forms.specs.Heads.{expr_word, expr_own};
+    ghost use Rattle.ff_forms.specs.declared.heads.TheConstants.{EXPR_HEADS};
+
+    ghost word_of = { expr_word };
+
+    ghost each = { EXPR_HEADS };
+
+    ghost own = { expr_own };
+
+    fn all() -> &'static [ExprHead] {
+        &EXPR_HEADS
+    }
+
+    fn word(self) -> &'static str {
         match self {
             ExprHead::Let => "let",
             ExprHead::Set => "set",
@@ -103,38 +148,34 @@ impl ExprHead {
             ExprHead::Prim(op) => op.word(),
         }
     }
+}
 
-    pub fn by_word(word: &[u8]) -> Option<ExprHead>
-        ensures { result ≡ headed expr_word expr_heads word.now }
-    {
-        match own_head(word) {
-            Some(head) => Some(head),
-            None => operator(word),
-        }
+/// The word that heads a handler.
+#[derive(Clone, Copy, Debug, PartialEq, Eq)]
+pub enum HandlerHead {
+    Make,
+}
+
+const HANDLER_HEADS: [HandlerHead; 1] = [HandlerHead::Make];
+
+impl Worded for HandlerHead {
+    ghost use Rattle.ff_forms.specs.Heads.{handler_word, handler_own};
+    ghost use Rattle.ff_forms.specs.declared.heads.TheConstants.{HANDLER_HEADS};
+
+    ghost word_of = { handler_word };
+
+    ghost each = { HANDLER_HEADS };
+
+    ghost own = { handler_own };
+
+    fn all() -> &'static [HandlerHead] {
+        &HANDLER_HEADS
     }
-}
 
-fn own_head(word: &[u8]) -> Option<ExprHead>
-    ensures { result ≡ headed expr_word own_heads word.now }
-{
-    first_expr_head(&OWN_HEADS, word)
-}
-
-fn first_expr_head(heads: &[ExprHead], word: &[u8]) -> Option<ExprHead>
-    ensures { result ≡ headed expr_word heads.now word.now }
-{
-    heads
-        .iter()
-        .copied()
-        .find(|head| head.word().as_bytes() == word)
-}
-
-fn operator(word: &[u8]) -> Option<ExprHead>
-    ensures { result ≡ headed expr_word operator_heads word.now }
-{
-    match Op::by_word(word) {
-        Some(op) => Some(ExprHead::Prim(op)),
-        None => None,
+    fn word(self) -> &'static str {
+        match self {
+            HandlerHead::Make => "fn",
+        }
     }
 }
 
@@ -148,31 +189,27 @@ pub enum RespHead {
 
 const RESP_HEADS: [RespHead; 3] = [RespHead::Page, RespHead::Script, RespHead::Data];
 
-impl RespHead {
-    pub fn word(self) -> &'static str
-        ensures { result.now ≡ resp_word self }
-    {
+impl Worded for RespHead {
+    ghost use Rattle.ff_forms.specs.Heads.{resp_word, resp_own};
+    ghost use Rattle.ff_forms.specs.declared.heads.TheConstants.{RESP_HEADS};
+
+    ghost word_of = { resp_word };
+
+    ghost each = { RESP_HEADS };
+
+    ghost own = { resp_own };
+
+    fn all() -> &'static [RespHead] {
+        &RESP_HEADS
+    }
+
+    fn word(self) -> &'static str {
         match self {
             RespHead::Page => "doc",
             RespHead::Script => "script",
             RespHead::Data => "data",
         }
     }
-
-    pub fn by_word(word: &[u8]) -> Option<RespHead>
-        ensures { result ≡ headed resp_word resp_heads word.now }
-    {
-        first_resp_head(&RESP_HEADS, word)
-    }
-}
-
-fn first_resp_head(heads: &[RespHead], word: &[u8]) -> Option<RespHead>
-    ensures { result ≡ headed resp_word heads.now word.now }
-{
-    heads
-        .iter()
-        .copied()
-        .find(|head| head.word().as_bytes() == word)
 }
 
 /// The words that head a cookie entry.
@@ -184,28 +221,24 @@ pub enum CookieHead {
 
 const COOKIE_HEADS: [CookieHead; 2] = [CookieHead::Put, CookieHead::Drop];
 
-impl CookieHead {
-    pub fn word(self) -> &'static str
-        ensures { result.now ≡ cookie_word self }
-    {
+impl Worded for CookieHead {
+    ghost use Rattle.ff_forms.specs.Heads.{cookie_word, cookie_own};
+    ghost use Rattle.ff_forms.specs.declared.heads.TheConstants.{COOKIE_HEADS};
+
+    ghost word_of = { cookie_word };
+
+    ghost each = { COOKIE_HEADS };
+
+    ghost own = { cookie_own };
+
+    fn all() -> &'static [CookieHead] {
+        &COOKIE_HEADS
+    }
+
+    fn word(self) -> &'static str {
         match self {
             CookieHead::Put => "set",
             CookieHead::Drop => "del",
         }
     }
-
-    pub fn by_word(word: &[u8]) -> Option<CookieHead>
-        ensures { result ≡ headed cookie_word cookie_heads word.now }
-    {
-        first_cookie_head(&COOKIE_HEADS, word)
-    }
-}
-
-fn first_cookie_head(heads: &[CookieHead], word: &[u8]) -> Option<CookieHead>
-    ensures { result ≡ headed cookie_word heads.now word.now }
-{
-    heads
-        .iter()
-        .copied()
-        .find(|head| head.word().as_bytes() == word)
 }

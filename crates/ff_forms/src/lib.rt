@@ -3,7 +3,9 @@
 
 mod fault;
 mod heads;
+mod limits;
 
 pub use fault::SyntaxFault;
 pub use ff_name::NoMemory;
-pub use heads::{CookieHead, DocHead, ExprHead, RespHead};
+pub use heads::{CookieHead, DocHead, ExprHead, HandlerHead, RespHead};
+pub use limits::MOST_HANDLERS;

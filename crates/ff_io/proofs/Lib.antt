@@ -1,3 +1,5 @@
+pub mod CuttingLemmas
+pub mod GatheringLemmas
 pub mod Fetching
 pub mod FrontLemmas
 pub mod Joins

@@ -5,9 +5,11 @@
 //! failure comes only where the count for that kind of call rose.
 #![tactic(auto)]
 
+mod chunk;
 mod counts;
 mod dir_shelf;
 mod fetch;
+mod lines;
 mod mem_port;
 mod mem_shelf;
 mod mem_sink;
@@ -19,8 +21,10 @@ mod std_port;
 mod tape;
 mod whole;
 
+pub use chunk::MOST_READ_BYTES;
 pub use dir_shelf::DirShelf;
 pub use fetch::{FetchFail, fetch_front};
+pub use lines::{LineFail, Lines, MOST_LINE_BYTES, MOST_TRACE_BYTES, Next};
 pub use mem_port::MemPort;
 pub use mem_shelf::MemShelf;
 pub use mem_sink::MemSink;

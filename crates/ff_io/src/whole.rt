@@ -90,7 +90,7 @@ pub fn read_all<P: Port>(alloc: Global, port: &mut P, limit: u64) -> Result<All,
 }
 
 // A vector of `size` zeros.
-fn buffer_of(alloc: Global, size: usize) -> Result<Vec<u8>, AllocError>
+pub(crate) fn buffer_of(alloc: Global, size: usize) -> Result<Vec<u8>, AllocError>
     ensures { IfOk result (λ buffer. vec_len buffer ≡ size) }
 {
     vec![in alloc; 0u8; size]

@@ -4,7 +4,7 @@ use Rattle.std.specs.List.{list_all, position_from}
 use Rattle.std.specs.Char.{is_ascii_alphabetic}
 use Rattle.ff_name.specs.Spelling.{stands_in_name}
 use Rattle.ff_name.specs.declared.levels.Level.{Level}
-use Rattle.ff_lattice.specs.declared.names.TheConstants.{MOST_LEVELS, MOST_NAME_BYTES}
+use Rattle.ff_lattice.specs.declared.names.TheConstants.{MOST_LEVELS, MOST_LEVEL_NAME_BYTES}
 use Rattle.ff_lattice.specs.Bounds.{IsLattice}
 use Rattle.ff_lattice.specs.LevelSet.{has, below, IsLevelSet}
 
@@ -70,10 +70,10 @@ bottom order = pick (λ l. list_all (leq order l) (below (size order))) (size or
 unfoldable pub top : Order → ℕ
 top order = pick (λ l. list_all (λ m. leq order m l) (below (size order))) (size order)
 
--- a level's name: a letter, and then letters, digits, `_` and `-`, in at most MOST_NAME_BYTES bytes
+-- a level's name: a letter, and then letters, digits, `_` and `-`, in at most MOST_LEVEL_NAME_BYTES bytes
 abbrev pub is_level_name : List ℕ → Bool
 is_level_name [] = false
-is_level_name (first ∷ rest) = is_ascii_alphabetic first && list_all stands_in_name rest && nat_lt (length rest) MOST_NAME_BYTES
+is_level_name (first ∷ rest) = is_ascii_alphabetic first && list_all stands_in_name rest && nat_lt (length rest) MOST_LEVEL_NAME_BYTES
 
 -- one to MOST_LEVELS levels with names of their own, in the order of a lattice
 pub record IsOrder (order : Order) : Type 0 where

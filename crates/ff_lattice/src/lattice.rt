@@ -1,4 +1,5 @@
-ghost use Rattle.std.specs.Prelude.{◌≡◌, ◌≢◌, ℕ, ◌<◌, ◌≤◌, ◌⊎◌, length, IfOk, IfErr, IsErrOf, IfSome, IfNone, List, [], ◌∷◌, codes};
+ghost use Rattle.std.specs.Prelude.{◌≡◌, ◌≢◌, ℕ, ◌<◌, ◌≤◌, length, Err, IfOk, IfErr, IfSome, IfNone, List, [], ◌∷◌, codes};
+ghost use Rattle.ff_contract.specs.Answering.{Answers};
 ghost use Rattle.ff_lattice.specs.Bounds.{IsLattice, IsJoin, IsMeet};
 ghost use Rattle.ff_lattice.specs.LevelSet.{levels_where};
 ghost use Rattle.ff_lattice.specs.Levels.{AreApart, AreLevels, Reaches, IsFault, IsLatticeOf};
@@ -54,10 +55,10 @@ impl Lattice {
     /// level; two levels that are each at or below the other; two with no join; two with no meet. Want of memory may come in
     /// place of any of these.
     pub fn build(alloc: Global, names: &[Text], below: &[Pair]) -> Result<Lattice, LatticeFault>
-        ensures ok { IfOk result (IsLatticeOf names.now below.now) }
+        ensures found { IfOk result (IsLatticeOf names.now below.now) }
         ensures fault { IfErr result (λ fault. fault ≢ LatticeFault.NoMemory → IsFault names.now below.now fault) }
-        ensures accepts { AreLevels names.now below.now → IsLattice (Reaches names.now below.now) (length names.now) → IfErr result (λ fault. fault ≡ LatticeFault.NoMemory) }
-        ensures only { (fault : LatticeFault) → IsFault names.now below.now fault → IsErrOf result fault ⊎ IsErrOf result LatticeFault.NoMemory }
+        ensures only { AreLevels names.now below.now → IsLattice (Reaches names.now below.now) (length names.now) → IfErr result (λ fault. fault ≡ LatticeFault.NoMemory) }
+        ensures exact { (fault : LatticeFault) → IsFault names.now below.now fault → Answers result (Err fault) (Err LatticeFault.NoMemory) }
     {
         check_names(names)?;
         let levels = distinct_names(alloc, names)?;

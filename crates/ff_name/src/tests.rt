@@ -80,7 +80,12 @@ fn texts_names_and_domains(rt: HostRuntime) -> Result<(), NoMemory> {
 
 #[test]
 fn texts_of_strs(rt: HostRuntime) -> Result<(), NoMemory> {
-    for word in ["", "h\u{e9}", "twenty-two bytes long.", "twenty-three bytes long"] {
+    for word in [
+        "",
+        "h\u{e9}",
+        "twenty-two bytes long.",
+        "twenty-three bytes long",
+    ] {
         let text = Text::of_str(rt.alloc(), word)?;
         assert!(rt; text.copy()?.as_str() == word, "{word}");
     }

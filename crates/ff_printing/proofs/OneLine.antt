@@ -155,7 +155,7 @@ words_one_line item has = each_other (spelled item) (spelled_in_line item has)
 pub spelled_one_line : (item : Sexp) → IsWellSpelled item → All (λ b. b ≢ 10) (spelled item)
 spelled_one_line item well = words_one_line item (words_fit item 0 well)
 
--- What the user sees.
+-- What the user is shown.
 
 list_has : (parts : List Sexp) → HaveWords parts → has_words (parens parts) ≡ true
 list_has parts have = has_words-List (span 0 0) parts ∙ have
@@ -228,7 +228,7 @@ each_seen : (shown : List Seen) → Each SeenHas shown
 each_seen [] = tt
 each_seen (s ∷ shown) = (seen_has s, each_seen shown)
 
--- the words in the item of a page as the user sees it are words
+-- the words in the item of a page as the user is shown it are words
 pub shown_item_has_words : (shown : List Seen) → AllByRecursion IsSpelledSeen shown → has_words (shown_item shown) ≡ true
 shown_item_has_words shown spelled =
     list_has (word (codes "page") ∷ map seen_item shown) (and_more (word (codes "page")) (map seen_item shown) (word_has (codes "page") refl) (all_have shown (each_seen shown) spelled))

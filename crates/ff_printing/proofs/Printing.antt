@@ -1,10 +1,11 @@
 -- What is printed piece by piece is printed whole.
 use Rattle.std.proofs.Common.{◌≡◌, ◌<◌, ◌+◌, ℕ, false, Result, Ok, Err, List, [], ◌∷◌, ◌++◌, length, map, take, get_or, refl, sym, ◌∙◌, ap, subst, append_assoc, append-nil}
-use Rattle.std.specs.Prelude.{OnOk, OnErr, is_err}
+use Rattle.std.specs.Prelude.{is_err}
 use Rattle.std.specs.List.{join_with_byte}
 use Rattle.std.proofs.lemmas.List.{take_more}
 use Rattle.std.proofs.lemmas.List.Concat.{flat_map-append}
-use Rattle.ff_name.specs.Output.{AppendsFront}
+use Rattle.ff_contract.specs.Appending.{Appends, AppendsFront}
+use Rattle.ff_contract.proofs.Sequence.{front_first, front_second}
 use Rattle.ff_text.specs.declared.items.Sexp.{Sexp}
 use Rattle.ff_text.specs.Printed.{spelled}
 use Rattle.ff_text.specs.Notation.{span}
@@ -13,32 +14,14 @@ use Rattle.ff_forms.specs.Canonical.{word, parens}
 use Rattle.ff_printing.specs.Pieces.{Prints, whole, cut_off, stopped, after_blank, each_after_blank, ending}
 use Rattle.ff_printing.specs.declared.printer.Printer.{Printer}
 
--- a front of the first of two pieces
-front_first : (old new first more : List ℕ) → AppendsFront old new first → AppendsFront old new (first ++ more)
-front_first old new first more front = record {
-  front = front.front;
-  rest = front.rest ++ more;
-  cut = ap (λ bs. bs ++ more) front.cut ∙ append_assoc front.front front.rest more;
-  appended = front.appended;
-}
-
--- a front of the second
-front_second : (old mid new first more : List ℕ) → mid ≡ old ++ first → AppendsFront mid new more → AppendsFront old new (first ++ more)
-front_second old mid new first more done front = record {
-  front = first ++ front.front;
-  rest = front.rest;
-  cut = ap (λ bs. first ++ bs) front.cut ∙ sym (append_assoc first front.front front.rest);
-  appended = front.appended ∙ ap (λ bs. bs ++ front.front) done ∙ append_assoc old first front.front;
-}
-
 -- one piece after another
 pub then : {p q r : Printer} {first more : List ℕ} → Prints p q first → Prints q r more → Prints p r (first ++ more)
 then {p} {q} {r} {first} {more} (whole a b e) (whole c d f) = whole a d (f ∙ ap (λ bs. bs ++ more) e ∙ append_assoc p.bytes.items first more)
-then {p} {q} {r} {first} {more} (whole a b e) (cut_off c d f) = cut_off a d (front_second p.bytes.items q.bytes.items r.bytes.items first more e f)
+then {p} {q} {r} {first} {more} (whole a b e) (cut_off c d f) = cut_off a d (front_second p.bytes.items q.bytes.items r.bytes.items first more (first ++ more) refl e f)
 then {p} {q} {r} {first} {more} (whole a b e) (stopped c d f) = cc
 then {p} {q} {r} {first} {more} (cut_off a b e) (whole c d f) = cc
 then {p} {q} {r} {first} {more} (cut_off a b e) (cut_off c d f) = cc
-then {p} {q} {r} {first} {more} (cut_off a b e) (stopped c d f) = cut_off a d (subst (λ bs. AppendsFront p.bytes.items bs (first ++ more)) (sym f) (front_first p.bytes.items q.bytes.items first more e))
+then {p} {q} {r} {first} {more} (cut_off a b e) (stopped c d f) = cut_off a d (subst (λ bs. AppendsFront p.bytes.items bs (first ++ more)) (sym f) (front_first p.bytes.items q.bytes.items first more (first ++ more) refl e))
 then {p} {q} {r} {first} {more} (stopped a b e) (whole c d f) = cc
 then {p} {q} {r} {first} {more} (stopped a b e) (cut_off c d f) = cc
 then {p} {q} {r} {first} {more} (stopped a b e) (stopped c d f) = stopped a d (f ∙ e)
@@ -47,10 +30,9 @@ pub prints_as : {p q : Printer} {bytes : List ℕ} (others : List ℕ) → other
 prints_as {p} {q} others e prints = subst (λ bs. Prints p q bs) (sym e) prints
 
 -- a call that appends, and whether it failed
-pub noted : {X E : Type 0} (p q : Printer) (bytes : List ℕ) (done : Result X E) → p.failed ≡ false → q.failed ≡ is_err done
-    → OnOk done (q.bytes.items ≡ p.bytes.items ++ bytes) → OnErr done (AppendsFront p.bytes.items q.bytes.items bytes) → Prints p q bytes
-noted p q bytes (Ok it) before after ok err = whole before after ok
-noted p q bytes (Err refused) before after ok err = cut_off before after err
+pub noted : {X E : Type 0} (p q : Printer) (bytes : List ℕ) (done : Result X E) → p.failed ≡ false → q.failed ≡ is_err done → Appends done p.bytes.items q.bytes.items bytes → Prints p q bytes
+noted p q bytes (Ok it) before after appends = whole before after appends
+noted p q bytes (Err refused) before after appends = cut_off before after appends
 
 joined_ending : (first : List ℕ) (parts : List Sexp) → join_with_byte 32 (first ∷ map spelled parts) ++ 41 ∷ [] ≡ first ++ ending parts
 joined_ending first [] = refl

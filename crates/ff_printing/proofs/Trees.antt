@@ -1,4 +1,4 @@
--- Induction over documents, expressions and handlers together, and over what the user sees.
+-- Induction over documents, expressions and handlers together, and over what the user is shown.
 use Rattle.std.proofs.Common.{ℕ, List, [], ◌∷◌, map, subst}
 use denote.Hole.Carrier
 use denote.Hole.Holds.{Such}

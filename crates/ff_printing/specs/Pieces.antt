@@ -1,7 +1,7 @@
 -- The pieces of a list, as they are printed one after another, and what a printer did with them.
 use Rattle.std.specs.Prelude.{◌≡◌, ℕ, true, false, List, [], ◌∷◌, ◌++◌}
 use Rattle.std.specs.List.{flat_map}
-use Rattle.ff_name.specs.Output.{AppendsFront}
+use Rattle.ff_contract.specs.Appending.{AppendsFront}
 use Rattle.ff_text.specs.declared.items.Sexp.{Sexp}
 use Rattle.ff_text.specs.Printed.{spelled}
 use Rattle.ff_printing.specs.declared.printer.Printer.{Printer}

@@ -1,4 +1,4 @@
-//! Documents, expressions, responses and what the user sees, printed in the notation.
+//! Documents, expressions, responses and what the user is shown, printed in the notation.
 #![tactic(auto)]
 
 mod print;

@@ -1,3 +1,4 @@
+//! What every printer here appends to, piece by piece.
 ghost use Rattle.std.specs.Prelude.{◌≡◌, [], ◌∷◌, true, false, IfOk, OnOk, OnErr};
 ghost use Rattle.ff_name.specs.Address.{printed};
 ghost use Rattle.ff_text.specs.Printed.{spelled};
@@ -5,7 +6,7 @@ ghost use Rattle.ff_number.specs.Decimal.{num_text};
 ghost use Rattle.ff_forms.specs.Canonical.{word, string, address, parens, lit_item};
 ghost use Rattle.ff_printing.specs.Pieces.{Prints, after_blank};
 
-use ff_name::{Name, NoMemory, Text, Url};
+use ff_name::{Name, NoMemory, Text, Url, Worded};
 use ff_number::print_num;
 use ff_text::quote;
 use ff_tree::Lit;
@@ -55,6 +56,13 @@ impl Printer {
         self.failed = done.is_err();
     }
 
+    /// Appends an opening parenthesis and the word of the list's head.
+    pub(crate) fn open<H: Worded>(&mut self, head: H)
+        ensures { Prints self.old self.new (40 ∷ H.word_of head) }
+    {
+        self.open_list(head.word().as_bytes());
+    }
+
     /// Appends an opening parenthesis and the word that heads the list.
     pub(crate) fn open_list(&mut self, head: &[u8])
         ensures { Prints self.old self.new (40 ∷ head.now) }
@@ -88,10 +96,10 @@ impl Printer {
     }
 
     /// Appends a list of a word and a string.
-    pub(crate) fn labelled(&mut self, head: &[u8], text: &Text)
-        ensures { Prints self.old self.new (spelled (parens (word head.now ∷ string text.now ∷ []))) }
+    pub(crate) fn labelled<H: Worded>(&mut self, head: H, text: &Text)
+        ensures { Prints self.old self.new (spelled (parens (word (H.word_of head) ∷ string text.now ∷ []))) }
     {
-        self.open_list(head);
+        self.open(head);
         self.string(text);
         self.close_list();
     }

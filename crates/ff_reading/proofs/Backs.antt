@@ -14,13 +14,15 @@ use Rattle.ff_text.specs.declared.items.Span.{Span}
 use Rattle.ff_text.specs.declared.items.Sexp.{Sexp}
 use Rattle.ff_text.specs.declared.items.Sexp.TheVariants.{Word, Str, List as Parens}
 use Rattle.ff_text.proofs.Layers.{items_ind}
-use Rattle.ff_forms.specs.Words.{is_name, is_literal, is_variable, address_of}
-use Rattle.ff_forms.specs.Grammar.{Sort, a_name, a_variable, an_address, a_string, a_parameter, a_head, parameters, one_parameter, Value, Placed, further, nothing, Form, form, reading, and_then, each_as, may_have, parts_as, form_as, head_as, list_as, headed, parameter_as, parameters_as, one_parameter_as, any, at_most_16}
+use Rattle.ff_forms.specs.declared.limits.TheConstants.{MOST_HANDLERS}
+use Rattle.ff_name.specs.Reading.{is_name, read_url}
+use Rattle.ff_name.proofs.Reading.{read_url_spelled, IsName-from}
+use Rattle.ff_forms.specs.Words.{is_literal, is_variable}
+use Rattle.ff_forms.specs.Grammar.{Sort, a_name, a_variable, an_address, a_string, a_parameter, a_head, parameters, one_parameter, Value, Placed, further, nothing, Form, form, reading, and_then, each_as, may_have, parts_as, form_as, head_as, list_as, parameter_as, parameters_as, one_parameter_as, any, few_handlers}
+use Rattle.ff_name.specs.Words.{with_word}
 use Rattle.ff_forms.specs.Spellings.{AreWords, no_words, a_word}
 use Rattle.ff_forms.specs.declared.fault.SyntaxFault.{SyntaxFault}
 use Rattle.ff_forms.specs.declared.fault.SyntaxFault.TheVariants as fault
-use Rattle.ff_reading.proofs.Naming.{IsName-from}
-use Rattle.ff_reading.proofs.Addressing.{address_spelled}
 use Rattle.ff_reading.proofs.Layers.{reading-Word, reading-Str, reading-List}
 use Rattle.ff_reading.proofs.Given.{or_parts}
 
@@ -126,7 +128,7 @@ pub record IsAddressWord (item : Sexp) (url : Url) : Type 0 where
 
 address_case : (item : Sexp) → IsOne item → (url : Url) → reading item an_address ≡ Ok url → IsAddressWord item url
 address_case _ (is_word at word) url e =
-    record { at = at; word = word; is = refl; spells = address_spelled word url (some_from (address_of word) (fault.Url at.from) url (sym (reading-Word at word an_address) ∙ e)) }
+    record { at = at; word = word; is = refl; spells = read_url_spelled word url (some_from (read_url word) (fault.Url at.from) url (sym (reading-Word at word an_address) ∙ e)) }
 address_case _ (is_string at text) url e = absurd (err_value (fault.Place at.from) url (sym (reading-Str at text an_address) ∙ e))
 address_case _ (is_list at parts) url e = absurd (err_value (fault.Place at.from) url (sym (reading-List at parts an_address) ∙ e))
 
@@ -156,13 +158,13 @@ pub record IsListThat {X : Type 0} (P : List Sexp → X → Type 0) (item : Sexp
 
 -- parameters
 
-record Named (before : List (List ℕ)) (items : List Sexp) (all : List (List ℕ)) : Type 0 where
-  xs : List (List ℕ)
-  joined : all ≡ before ++ xs
-  words : AreWords items xs
-  vars : AllByRecursion IsVar xs
-  differ : Differ xs
-  apart : AllByRecursion (λ x. list_any (bytes_eq x) before ≡ false) xs
+pub record Named (before : List (List ℕ)) (items : List Sexp) (all : List (List ℕ)) : Type 0 where
+  pub xs : List (List ℕ)
+  pub joined : all ≡ before ++ xs
+  pub words : AreWords items xs
+  pub vars : AllByRecursion IsVar xs
+  pub differ : Differ xs
+  pub apart : AllByRecursion (λ x. list_any (bytes_eq x) before ≡ false) xs
 
 apart_front : (x : List ℕ) (before : List (List ℕ)) (y : List ℕ) → list_any (bytes_eq x) (before ++ y ∷ []) ≡ false → (list_any (bytes_eq x) before ≡ false) × (bytes_eq x y ≡ false)
 apart_front x [] y e = (refl, (or_parts (bytes_eq x y) false e).0)
@@ -179,7 +181,7 @@ each_front before y (x ∷ xs) each =
     let rest = each_front before y xs each.1 in
     ((λ e. other_than x y one.1 (sym e), rest.0), (one.0, rest.1))
 
-named_back : (before : List (List ℕ)) (items : List Sexp) (all : List (List ℕ)) → parameters_as before (map reading items) ≡ Ok all → Named before items all
+pub named_back : (before : List (List ℕ)) (items : List Sexp) (all : List (List ℕ)) → parameters_as before (map reading items) ≡ Ok all → Named before items all
 named_back before [] all e = record { xs = []; joined = sym (ok_value before all e) ∙ sym (append-nil before); words = no_words; vars = tt; differ = tt; apart = tt }
 named_back before (item ∷ items) all e =
     let first = came_from (parameter_as before (reading item)) (λ x. parameters_as (before ++ x ∷ []) (map reading items)) all e in
@@ -241,7 +243,7 @@ one_parameter_back item x e = one_parameter_case item (item_cases item) x e
 
 -- lists that begin with a word of a table
 
-find_passes : {X : Type 0} (test : X → Bool) (xs : List X) (x : X) → find test xs ≡ Some x → test x ≡ true
+pub find_passes : {X : Type 0} (test : X → Bool) (xs : List X) (x : X) → find test xs ≡ Some x → test x ≡ true
 find_passes test [] x e = cc
 find_passes test (y ∷ ys) x e = by_test (test y) refl e (find_passes test ys x) where
   by_test : (b : Bool) → test y ≡ b → cond b (Some y) (find test ys) ≡ Some x → (find test ys ≡ Some x → test x ≡ true) → test x ≡ true
@@ -252,19 +254,19 @@ pub record HasHead {H : Type 0} (word_at : H → List ℕ) (item : Sexp) (head :
   pub at : Span
   pub is : item ≡ Word at (word_at head)
 
-head_case : {H : Type 0} (word_at : H → List ℕ) (heads : List H) (item : Sexp) → IsOne item → (head : H) → head_as word_at heads (reading item) ≡ Ok head → HasHead word_at item head
+pub head_case : {H : Type 0} (word_at : H → List ℕ) (heads : List H) (item : Sexp) → IsOne item → (head : H) → head_as word_at heads (reading item) ≡ Ok head → HasHead word_at item head
 head_case word_at heads _ (is_word at word) head e =
-    let placed = came_from (reading (Word at word) a_head) (λ p. ok_or (headed word_at heads p.word) (fault.Head p.from)) head e in
+    let placed = came_from (reading (Word at word) a_head) (λ p. ok_or (with_word word_at heads p.word) (fault.Head p.from)) head e in
     let here : Placed = record { from = at.from; word = word } in
     let same : here ≡ placed.0 = ok_value here placed.0 (sym (reading-Word at word a_head) ∙ placed.1) in
-    let found : headed word_at heads word ≡ Some head = ap (λ (p : Placed). headed word_at heads p.word) same ∙ some_from (headed word_at heads placed.0.word) (fault.Head placed.0.from) head placed.2 in
+    let found : with_word word_at heads word ≡ Some head = ap (λ (p : Placed). with_word word_at heads p.word) same ∙ some_from (with_word word_at heads placed.0.word) (fault.Head placed.0.from) head placed.2 in
     let spelled : word_at head ≡ word = (bytes_eq-Decides (word_at head) word).0 (find_passes (λ h. bytes_eq (word_at h) word) heads head found) in
     record { at = at; is = ap (Word at) (sym spelled) }
 head_case word_at heads _ (is_string at text) head e =
-    let placed = came_from (reading (Str at text) a_head) (λ p. ok_or (headed word_at heads p.word) (fault.Head p.from)) head e in
+    let placed = came_from (reading (Str at text) a_head) (λ p. ok_or (with_word word_at heads p.word) (fault.Head p.from)) head e in
     absurd (err_value (fault.Head at.from) placed.0 (sym (reading-Str at text a_head) ∙ placed.1))
 head_case word_at heads _ (is_list at parts) head e =
-    let placed = came_from (reading (Parens at parts) a_head) (λ p. ok_or (headed word_at heads p.word) (fault.Head p.from)) head e in
+    let placed = came_from (reading (Parens at parts) a_head) (λ p. ok_or (with_word word_at heads p.word) (fault.Head p.from)) head e in
     absurd (err_value (fault.Head at.from) placed.0 (sym (reading-List at parts a_head) ∙ placed.1))
 
 pub record ListBack {H X : Type 0} (word_at : H → List ℕ) (form_at : H → Form X) (at : ℕ) (items : List Sexp) (x : X) : Type 0 where
@@ -338,7 +340,7 @@ pub record TwoAllBack {X : Type 0} (s t sort : Sort) (makes : Value s → Value 
   pub w : Value t
   pub values : List (Value sort)
   pub is : parts ≡ a ∷ b ∷ rest
-  pub few : length rest ≤ 16
+  pub few : length rest ≤ MOST_HANDLERS
   pub first : reading a s ≡ Ok v
   pub second : reading b t ≡ Ok w
   pub each : each_as sort (map reading rest) ≡ Ok values
@@ -424,14 +426,14 @@ and_all_back at s sort makes parts x e = cases parts (counted at (form (s ∷ []
       record { a = a; rest = rest; v = first.0; values = each.0; is = refl; first = first.1; each = each.1; made = ok_value (makes first.0 each.0) x each.2 }
 
 pub two_all_back : {X : Type 0} (at : ℕ) (s t sort : Sort) (makes : Value s → Value t → List (Value sort) → X) (parts : List Sexp) (x : X)
-    → form_as at (form (s ∷ t ∷ []) (further at_most_16 sort) makes) (map reading parts) ≡ Ok x → TwoAllBack s t sort makes parts x
+    → form_as at (form (s ∷ t ∷ []) (further few_handlers sort) makes) (map reading parts) ≡ Ok x → TwoAllBack s t sort makes parts x
 two_all_back at s t sort makes parts x e =
-    let back = counted at (form (s ∷ t ∷ []) (further at_most_16 sort) makes) parts x e in
+    let back = counted at (form (s ∷ t ∷ []) (further few_handlers sort) makes) parts x e in
     cases parts back.0 back.1 where
-      few_rest : (n : ℕ) → nat_le 2 (suc (suc n)) && nat_le (suc (suc n) - 2) 16 ≡ true → n ≤ 16
-      few_rest n h = let test : nat_le (suc (suc n) - 2) 16 ≡ true = (and_parts (nat_le 2 (suc (suc n))) (nat_le (suc (suc n) - 2) 16) h).1 in grind (arith, nat_tests)
+      few_rest : (n : ℕ) → nat_le 2 (suc (suc n)) && nat_le (suc (suc n) - 2) MOST_HANDLERS ≡ true → n ≤ MOST_HANDLERS
+      few_rest n h = let test : nat_le (suc (suc n) - 2) MOST_HANDLERS ≡ true = (and_parts (nat_le 2 (suc (suc n))) (nat_le (suc (suc n) - 2) MOST_HANDLERS) h).1 in grind (arith, nat_tests)
 
-      cases : (parts : List Sexp) → may_have (s ∷ t ∷ []) (further at_most_16 sort) (length parts) ≡ true → parts_as at (s ∷ t ∷ []) (further at_most_16 sort) makes (map reading parts) ≡ Ok x → TwoAllBack s t sort makes parts x
+      cases : (parts : List Sexp) → may_have (s ∷ t ∷ []) (further few_handlers sort) (length parts) ≡ true → parts_as at (s ∷ t ∷ []) (further few_handlers sort) makes (map reading parts) ≡ Ok x → TwoAllBack s t sort makes parts x
       cases [] n f = absurd (err_value (fault.Count at) x f)
       cases (a ∷ []) n f =
           let first = came_from (reading a s) (λ v. err_of (fault.Count at)) x f in

@@ -1,5 +1,5 @@
 -- What is spelled is read, with the value that is spelled.
-use Rattle.std.proofs.Common.{◌≡◌, ◌==◌, ◌||◌, ◌&&◌, ◌≤◌, ℕ, suc, ℤ, true, false, List, [], ◌∷◌, map, length, Some, None, codes, Ok, Err, cond, FitsSigned, refl, ap, ◌∙◌, arith}
+use Rattle.std.proofs.Common.{◌≡◌, ◌==◌, ◌||◌, ◌&&◌, ◌≤◌, ℕ, suc, ℤ, true, false, List, [], ◌∷◌, map, length, Some, codes, Ok, Err, cond, FitsSigned, refl, ap, ◌∙◌, arith}
 use Rattle.std.specs.Int.{w64}
 use Rattle.std.specs.Char.{is_ascii_digit}
 use Rattle.std.specs.Str.{bytes_eq}
@@ -9,11 +9,9 @@ use Rattle.ff_name.specs.Spelling.{IsName, begins_name, stands_in_name}
 use Rattle.std.specs.List.{list_all}
 use Rattle.ff_number.specs.Decimal.{num_text}
 use Rattle.ff_number.proofs.Texts.{BeginsNumber, digit, minus, BeginsNumber-num_text}
-use Rattle.ff_tree.specs.Ops.{word_of, arity_of}
+use Rattle.ff_tree.specs.Ops.{arity_of}
 use Rattle.ff_tree.specs.Spelled.{IsVar}
 use Rattle.ff_tree.specs.declared.op.Op.{Op}
-use Rattle.ff_tree.specs.declared.op.Op.TheVariants as op
-use Rattle.ff_tree.proofs.Words.{with_word_exactly}
 use Rattle.ff_tree.specs.declared.tree.Lit.TheVariants as lit
 use Rattle.ff_tree.specs.declared.tree.Doc.{Doc}
 use Rattle.ff_tree.specs.declared.tree.Doc.TheVariants as doc
@@ -27,79 +25,44 @@ use Rattle.ff_value.specs.declared.reply.Resp.TheVariants as resp
 use Rattle.ff_text.specs.declared.items.Span.{Span}
 use Rattle.ff_text.specs.declared.items.Sexp.{Sexp}
 use Rattle.ff_text.specs.declared.items.Sexp.TheVariants.{Word, Str, List as Parens}
+use Rattle.ff_forms.specs.declared.limits.TheConstants.{MOST_HANDLERS}
 use Rattle.ff_forms.specs.Words.{is_literal, looks_like_number, begins_with_digit}
 use Rattle.ff_forms.specs.Grammar as sort
-use Rattle.ff_forms.specs.Grammar.{Value, reading, and_then, each_as, form_as, list_as, headed, handler, doc_word, doc_heads, doc_form, expr_word, expr_heads, expr_form, own_heads, operator_heads, operators, resp_word, resp_heads, resp_form, cookie_word, cookie_heads, cookie_form, handler_word, handler_form, word_as_expression, number_as, any}
+use Rattle.ff_forms.specs.Grammar.{Value, reading, and_then, each_as, form_as, list_as, handler, doc_form, expr_form, resp_form, cookie_form, handler_form, word_as_expression, number_as, any}
+use Rattle.ff_forms.specs.Heads.{doc_own, expr_own, handler_own, resp_own, cookie_own, doc_word, expr_word, resp_word, cookie_word, handler_word, handler_heads, doc_heads, expr_heads, resp_heads, cookie_heads}
 use Rattle.ff_forms.specs.Spellings.{SpellsDoc, a_text, a_link, a_text_box, a_button, a_script, a_source, a_division, SpellsDocs, no_docs, one_more_doc, SpellsHandler, a_handler_list, SpellsHandlers, no_handlers, one_more_handler, SpellsExpr, a_null, a_true, a_false, a_number, a_text_literal, a_name_of_variable, a_let, a_set, an_if, a_while, a_do, an_and, an_or, a_function, a_call, a_tree, an_operation, SpellsExprs, no_exprs, one_more_expr, SpellsCookie, a_put, a_drop, SpellsCookies, no_cookies, one_more_cookie, SpellsResp, a_page, a_script_sent, some_data}
 use Rattle.ff_forms.specs.declared.heads.DocHead.{DocHead}
 use Rattle.ff_forms.specs.declared.heads.DocHead.TheVariants as doc_head
 use Rattle.ff_forms.specs.declared.heads.ExprHead.{ExprHead}
 use Rattle.ff_forms.specs.declared.heads.ExprHead.TheVariants as expr_head
+use Rattle.ff_forms.specs.declared.heads.HandlerHead.{HandlerHead}
+use Rattle.ff_forms.specs.declared.heads.HandlerHead.TheVariants as handler_head
 use Rattle.ff_forms.specs.declared.heads.RespHead.{RespHead}
 use Rattle.ff_forms.specs.declared.heads.RespHead.TheVariants as resp_head
 use Rattle.ff_forms.specs.declared.heads.CookieHead.{CookieHead}
 use Rattle.ff_forms.specs.declared.heads.CookieHead.TheVariants as cookie_head
 use Rattle.ff_forms.specs.declared.fault.SyntaxFault.TheVariants as fault
-use Rattle.ff_forms.proofs.Heading.{own_missing, find_mapped}
 use Rattle.ff_reading.proofs.Layers.{reading-Word, reading-Str, reading-List}
 use Rattle.ff_reading.proofs.Numbering.{number_found, number_answers}
 use Rattle.ff_reading.proofs.Given.{not_literal, or_parts, name_item, variable_item, address_item, string_item, one_parameter_item, parameters_item, headed_list, one_read, two_read, three_read, all_read, and_all_read, two_all_read, each_read}
-use Rattle.ff_reading.proofs.Naming.{is_name-from}
+use Rattle.ff_name.proofs.Reading.{is_name-from}
 
 -- the lists that begin with the word of a form
 
-doc_found : (head : DocHead) → headed doc_word doc_heads (doc_word head) ≡ Some head
-doc_found doc_head.Text = refl
-doc_found doc_head.Link = refl
-doc_found doc_head.TextBox = refl
-doc_found doc_head.Button = refl
-doc_found doc_head.Script = refl
-doc_found doc_head.Src = refl
-doc_found doc_head.Div = refl
+pub doc_list : (at h : Span) (head : DocHead) (parts : List Sexp) → reading (Parens at (Word h (doc_word head) ∷ parts)) sort.a_document ≡ form_as at.from (doc_form head) (map reading parts)
+doc_list at h head parts = reading-List at (Word h (doc_word head) ∷ parts) sort.a_document ∙ headed_list doc_word doc_heads doc_form at.from h head parts (doc_own head)
 
-none_own : (o : Op) → headed expr_word own_heads (word_of o) ≡ None
-none_own op.Add = refl
-none_own _ = refl
+pub expr_list : (at h : Span) (head : ExprHead) (parts : List Sexp) → reading (Parens at (Word h (expr_word head) ∷ parts)) sort.an_expression ≡ form_as at.from (expr_form head) (map reading parts)
+expr_list at h head parts = reading-List at (Word h (expr_word head) ∷ parts) sort.an_expression ∙ headed_list expr_word expr_heads expr_form at.from h head parts (expr_own head)
 
-operator_word : (o : Op) → headed expr_word expr_heads (word_of o) ≡ Some (expr_head.Prim o)
-operator_word o = own_missing (word_of o) (none_own o) ∙ find_mapped operators (word_of o) o ((with_word_exactly (word_of o) o).1 refl)
+pub resp_list : (at h : Span) (head : RespHead) (parts : List Sexp) → reading (Parens at (Word h (resp_word head) ∷ parts)) sort.a_response ≡ form_as at.from (resp_form head) (map reading parts)
+resp_list at h head parts = reading-List at (Word h (resp_word head) ∷ parts) sort.a_response ∙ headed_list resp_word resp_heads resp_form at.from h head parts (resp_own head)
 
-expr_found : (head : ExprHead) → headed expr_word expr_heads (expr_word head) ≡ Some head
-expr_found expr_head.Let = refl
-expr_found expr_head.Set = refl
-expr_found expr_head.If = refl
-expr_found expr_head.While = refl
-expr_found expr_head.Do = refl
-expr_found expr_head.And = refl
-expr_found expr_head.Or = refl
-expr_found expr_head.Make = refl
-expr_found expr_head.Apply = refl
-expr_found expr_head.Tree = refl
-expr_found (expr_head.Prim o) = operator_word o
+pub cookie_list : (at h : Span) (head : CookieHead) (parts : List Sexp) → reading (Parens at (Word h (cookie_word head) ∷ parts)) sort.a_cookie ≡ form_as at.from (cookie_form head) (map reading parts)
+cookie_list at h head parts = reading-List at (Word h (cookie_word head) ∷ parts) sort.a_cookie ∙ headed_list cookie_word cookie_heads cookie_form at.from h head parts (cookie_own head)
 
-resp_found : (head : RespHead) → headed resp_word resp_heads (resp_word head) ≡ Some head
-resp_found resp_head.Page = refl
-resp_found resp_head.Script = refl
-resp_found resp_head.Data = refl
-
-cookie_found : (head : CookieHead) → headed cookie_word cookie_heads (cookie_word head) ≡ Some head
-cookie_found cookie_head.Put = refl
-cookie_found cookie_head.Drop = refl
-
-doc_list : (at h : Span) (head : DocHead) (parts : List Sexp) → reading (Parens at (Word h (doc_word head) ∷ parts)) sort.a_document ≡ form_as at.from (doc_form head) (map reading parts)
-doc_list at h head parts = reading-List at (Word h (doc_word head) ∷ parts) sort.a_document ∙ headed_list doc_word doc_heads doc_form at.from h head parts (doc_found head)
-
-expr_list : (at h : Span) (head : ExprHead) (parts : List Sexp) → reading (Parens at (Word h (expr_word head) ∷ parts)) sort.an_expression ≡ form_as at.from (expr_form head) (map reading parts)
-expr_list at h head parts = reading-List at (Word h (expr_word head) ∷ parts) sort.an_expression ∙ headed_list expr_word expr_heads expr_form at.from h head parts (expr_found head)
-
-resp_list : (at h : Span) (head : RespHead) (parts : List Sexp) → reading (Parens at (Word h (resp_word head) ∷ parts)) sort.a_response ≡ form_as at.from (resp_form head) (map reading parts)
-resp_list at h head parts = reading-List at (Word h (resp_word head) ∷ parts) sort.a_response ∙ headed_list resp_word resp_heads resp_form at.from h head parts (resp_found head)
-
-cookie_list : (at h : Span) (head : CookieHead) (parts : List Sexp) → reading (Parens at (Word h (cookie_word head) ∷ parts)) sort.a_cookie ≡ form_as at.from (cookie_form head) (map reading parts)
-cookie_list at h head parts = reading-List at (Word h (cookie_word head) ∷ parts) sort.a_cookie ∙ headed_list cookie_word cookie_heads cookie_form at.from h head parts (cookie_found head)
-
-handler_list : (at h : Span) (parts : List Sexp) → reading (Parens at (Word h (codes "fn") ∷ parts)) sort.a_handler ≡ form_as at.from handler_form (map reading parts)
-handler_list at h parts = reading-List at (Word h (codes "fn") ∷ parts) sort.a_handler ∙ headed_list handler_word (tt ∷ []) (λ head. handler_form) at.from h tt parts refl
+pub handler_list : (at h : Span) (head : HandlerHead) (parts : List Sexp) → reading (Parens at (Word h (handler_word head) ∷ parts)) sort.a_handler ≡ form_as at.from (handler_form head) (map reading parts)
+handler_list at h head parts = reading-List at (Word h (handler_word head) ∷ parts) sort.a_handler ∙ headed_list handler_word handler_heads handler_form at.from h head parts (handler_own head)
 
 -- words where an expression is wanted
 
@@ -112,7 +75,7 @@ name_looks (b ∷ x) name =
     let tests = or_parts (is_ascii_digit b) (b == 45) (not_digit b (and_parts (begins_name b) (list_all stands_in_name x) name.0).0) in
     ap (λ t. t || ((b == 45) && begins_with_digit x)) tests.0 ∙ ap (λ t. t && begins_with_digit x) tests.1
 
-after_literals : (at : ℕ) (x : List ℕ) → is_literal x ≡ false
+pub after_literals : (at : ℕ) (x : List ℕ) → is_literal x ≡ false
     → word_as_expression at x ≡ cond (looks_like_number x) (number_as at x) (sort.name_as_expression at x)
 after_literals at x e =
     let tests = or_parts (bytes_eq x (codes "null") || bytes_eq x (codes "true")) (bytes_eq x (codes "false")) e in
@@ -153,7 +116,7 @@ same_count_handlers : (items : List Sexp) (handlers : List Handler) → SpellsHa
 same_count_handlers _ _ no_handlers = refl
 same_count_handlers _ _ (one_more_handler item d items handlers one each) = ap suc (same_count_handlers items handlers each)
 
-few_items : (items : List Sexp) (handlers : List Handler) → SpellsHandlers items handlers → length handlers ≤ 16 → length items ≤ 16
+few_items : (items : List Sexp) (handlers : List Handler) → SpellsHandlers items handlers → length handlers ≤ MOST_HANDLERS → length items ≤ MOST_HANDLERS
 few_items items handlers each few = omega (arith, same_count_handlers items handlers each)
 
 same_count_exprs : (items : List Sexp) (es : List Expr) → SpellsExprs items es → length items ≡ length es
@@ -197,7 +160,7 @@ mutual
 
   pub handler_complete : (item : Sexp) (one : Handler) → SpellsHandler item one → reading item sort.a_handler ≡ Ok one
   handler_complete _ _ (a_handler_list at h p x param item body is spells) =
-      handler_list at h (Parens p (Word x param ∷ []) ∷ item ∷ [])
+      handler_list at h handler_head.Make (Parens p (Word x param ∷ []) ∷ item ∷ [])
       ∙ two_read at.from sort.one_parameter sort.an_expression handler (Parens p (Word x param ∷ [])) item param body (one_parameter_item p x param is) (expr_complete item body spells)
 
   pub handlers_complete : (items : List Sexp) (handlers : List Handler) → SpellsHandlers items handlers → each_as sort.a_handler (map reading items) ≡ Ok handlers

@@ -12,15 +12,18 @@ use Rattle.ff_tree.specs.Spelled.{IsVar, AreParams, Differ}
 use Rattle.ff_text.specs.declared.items.Span.{Span}
 use Rattle.ff_text.specs.declared.items.Sexp.{Sexp}
 use Rattle.ff_text.specs.declared.items.Sexp.TheVariants.{Word, Str, List as Parens}
+use Rattle.ff_forms.specs.declared.limits.TheConstants.{MOST_HANDLERS}
 use Rattle.ff_forms.specs.Words.{is_literal, is_variable}
-use Rattle.ff_forms.specs.Grammar.{Sort, a_name, a_variable, an_address, a_string, a_parameter, a_head, parameters, one_parameter, Value, Placed, further, nothing, Form, form, reading, and_then, each_as, form_as, list_as, headed, parameters_as, any, at_most_16}
+use Rattle.ff_forms.specs.Grammar.{Sort, a_name, a_variable, an_address, a_string, a_parameter, a_head, parameters, one_parameter, Value, Placed, further, nothing, Form, form, reading, and_then, each_as, form_as, list_as, parameters_as, any, few_handlers}
+use Rattle.ff_name.specs.Words.{with_word}
 use Rattle.ff_forms.specs.Spellings.{AreWords, no_words, a_word}
 use Rattle.ff_forms.specs.declared.fault.SyntaxFault.{SyntaxFault}
 use Rattle.ff_forms.specs.declared.fault.SyntaxFault.TheVariants as fault
-use Rattle.ff_reading.proofs.Naming.{is_name-from, name_given}
+use Rattle.ff_name.proofs.Reading.{is_name-from}
+use Rattle.ff_reading.proofs.Naming.{name_given}
 use Rattle.ff_reading.proofs.Addressing.{address_given}
 use Rattle.ff_reading.proofs.Layers.{reading-Word, reading-Str, reading-List}
-use Rattle.ff_reading.proofs.Shapes.{count_passes}
+use Rattle.ff_reading.proofs.Counting.{count_passes}
 
 -- words that differ do so in the test
 pub other_word : (x y : List ℕ) → x ≢ y → bytes_eq x y ≡ false
@@ -57,10 +60,10 @@ pub one_parameter_item : (p at : Span) (x : List ℕ) → IsVar x → reading (P
 one_parameter_item p at x v = reading-List p (Word at x ∷ []) one_parameter ∙ variable_item at x v
 
 -- a list whose first item is the word of a form
-pub headed_list : {H X : Type 0} (word_at : H → List ℕ) (heads : List H) (form_at : H → Form X) (at : ℕ) (h : Span) (head : H) (parts : List Sexp) → headed word_at heads (word_at head) ≡ Some head
+pub headed_list : {H X : Type 0} (word_at : H → List ℕ) (heads : List H) (form_at : H → Form X) (at : ℕ) (h : Span) (head : H) (parts : List Sexp) → with_word word_at heads (word_at head) ≡ Some head
     → list_as word_at heads form_at at (map reading (Word h (word_at head) ∷ parts)) ≡ form_as at (form_at head) (map reading parts)
 headed_list {H} {X} word_at heads form_at at h head parts found =
-    ap (λ (r : Result Placed SyntaxFault). and_then (and_then r (λ placed. ok_or (headed word_at heads placed.word) (fault.Head placed.from))) (λ k. form_as at (form_at k) (map reading parts)))
+    ap (λ (r : Result Placed SyntaxFault). and_then (and_then r (λ placed. ok_or (with_word word_at heads placed.word) (fault.Head placed.from))) (λ k. form_as at (form_at k) (map reading parts)))
     (reading-Word h (word_at head) a_head)
     ∙ ap (λ (o : Option H). and_then (ok_or o (fault.Head h.from)) (λ k. form_as at (form_at k) (map reading parts))) found
 
@@ -100,11 +103,11 @@ and_all_read at s sort makes a parts v values e f =
     ∙ ap (λ (r : Result (List (Value sort)) SyntaxFault). and_then r (λ vs. Ok (makes v vs))) f
 
 pub two_all_read : {X : Type 0} (at : ℕ) (s t sort : Sort) (makes : Value s → Value t → List (Value sort) → X) (a b : Sexp) (parts : List Sexp) (v : Value s) (w : Value t) (values : List (Value sort))
-    → length parts ≤ 16 → reading a s ≡ Ok v → reading b t ≡ Ok w
-    → each_as sort (map reading parts) ≡ Ok values → form_as at (form (s ∷ t ∷ []) (further at_most_16 sort) makes) (map reading (a ∷ b ∷ parts)) ≡ Ok (makes v w values)
+    → length parts ≤ MOST_HANDLERS → reading a s ≡ Ok v → reading b t ≡ Ok w
+    → each_as sort (map reading parts) ≡ Ok values → form_as at (form (s ∷ t ∷ []) (further few_handlers sort) makes) (map reading (a ∷ b ∷ parts)) ≡ Ok (makes v w values)
 two_all_read at s t sort makes a b parts v w values few e f g =
-    let some : nat_le 2 (length (a ∷ b ∷ parts)) && nat_le (length (a ∷ b ∷ parts) - 2) 16 ≡ true = grind (arith, nat_tests) in
-    count_passes at (form (s ∷ t ∷ []) (further at_most_16 sort) makes) (a ∷ b ∷ parts) some
+    let some : nat_le 2 (length (a ∷ b ∷ parts)) && nat_le (length (a ∷ b ∷ parts) - 2) MOST_HANDLERS ≡ true = grind (arith, nat_tests) in
+    count_passes at (form (s ∷ t ∷ []) (further few_handlers sort) makes) (a ∷ b ∷ parts) some
     ∙ ap (λ (r : Result (Value s) SyntaxFault). and_then r (λ x. and_then (reading b t) (λ y. and_then (each_as sort (map reading parts)) (λ vs. Ok (makes x y vs))))) e
     ∙ ap (λ (r : Result (Value t) SyntaxFault). and_then r (λ y. and_then (each_as sort (map reading parts)) (λ vs. Ok (makes v y vs)))) f
     ∙ ap (λ (r : Result (List (Value sort)) SyntaxFault). and_then r (λ vs. Ok (makes v w vs))) g
@@ -130,25 +133,28 @@ apart_more x (z ∷ before) y apart other =
     let parts = or_parts (bytes_eq x z) (list_any (bytes_eq x) before) apart in
     ap (λ t. t || list_any (bytes_eq x) (before ++ y ∷ [])) parts.0 ∙ apart_more x before y parts.1 other
 
-pub parameters_read : (before : List (List ℕ)) (items : List Sexp) (xs : List (List ℕ)) → AreWords items xs → AllByRecursion IsVar xs → Differ xs → AllByRecursion (λ x. Apart x before) xs
-    → parameters_as before (map reading items) ≡ Ok (before ++ xs)
-parameters_read before [] [] no_words vars differ apart = ap Ok (sym (append-nil before))
-parameters_read before [] (x ∷ xs) words vars differ apart = elim words [ ]
-parameters_read before (item ∷ items) [] words vars differ apart = elim words [ ]
-parameters_read before (_ ∷ items) (x ∷ xs) (a_word at _ _ _ words) vars differ apart =
-    ap (λ (r : Result Placed SyntaxFault). and_then (and_then r (λ p. cond (list_any (bytes_eq p.word) before) (Err (fault.Name p.from)) (Ok p.word))) (λ y. parameters_as (before ++ y ∷ []) (map reading items)))
+-- what stands after some parameters is read after their names
+pub parameters_after : (before : List (List ℕ)) (items : List Sexp) (xs : List (List ℕ)) (rest : List Sexp) → AreWords items xs → AllByRecursion IsVar xs → Differ xs → AllByRecursion (λ x. Apart x before) xs
+    → parameters_as before (map reading (items ++ rest)) ≡ parameters_as (before ++ xs) (map reading rest)
+parameters_after before [] [] rest no_words vars differ apart = ap (λ ys. parameters_as ys (map reading rest)) (sym (append-nil before))
+parameters_after before [] (x ∷ xs) rest words vars differ apart = elim words [ ]
+parameters_after before (item ∷ items) [] rest words vars differ apart = elim words [ ]
+parameters_after before (_ ∷ items) (x ∷ xs) rest (a_word at _ _ _ words) vars differ apart =
+    ap (λ (r : Result Placed SyntaxFault). and_then (and_then r (λ p. cond (list_any (bytes_eq p.word) before) (Err (fault.Name p.from)) (Ok p.word))) (λ y. parameters_as (before ++ y ∷ []) (map reading (items ++ rest))))
     (parameter_item at x vars.0)
-    ∙ ap (λ t. and_then (cond t (Err (fault.Name at.from)) (Ok x)) (λ y. parameters_as (before ++ y ∷ []) (map reading items))) apart.0
-    ∙ parameters_read (before ++ x ∷ []) items xs words vars.1 differ.1 (each_apart xs differ.0 apart.1)
-    ∙ ap Ok (append_assoc before (x ∷ []) xs)
+    ∙ ap (λ t. and_then (cond t (Err (fault.Name at.from)) (Ok x)) (λ y. parameters_as (before ++ y ∷ []) (map reading (items ++ rest)))) apart.0
+    ∙ parameters_after (before ++ x ∷ []) items xs rest words vars.1 differ.1 (each_apart xs differ.0 apart.1)
+    ∙ ap (λ ys. parameters_as ys (map reading rest)) (append_assoc before (x ∷ []) xs)
   where
     each_apart : (ys : List (List ℕ)) → AllByRecursion (λ y. x ≢ y) ys → AllByRecursion (λ y. Apart y before) ys → AllByRecursion (λ y. Apart y (before ++ x ∷ [])) ys
     each_apart [] others aparts = tt
     each_apart (y ∷ ys) others aparts = (apart_more y before x aparts.0 (λ e. others.0 (sym e)), each_apart ys others.1 aparts.1)
 
-none_before : (xs : List (List ℕ)) → AllByRecursion (λ x. Apart x []) xs
+pub none_before : (xs : List (List ℕ)) → AllByRecursion (λ x. Apart x []) xs
 none_before [] = tt
 none_before (x ∷ xs) = (refl, none_before xs)
 
 pub parameters_item : (p : Span) (items : List Sexp) (xs : List (List ℕ)) → AreWords items xs → AreParams xs → reading (Parens p items) parameters ≡ Ok xs
-parameters_item p items xs words params = reading-List p items parameters ∙ parameters_read [] items xs words params.vars params.differ (none_before xs)
+parameters_item p items xs words params =
+    reading-List p items parameters ∙ ap (λ (ps : List Sexp). parameters_as [] (map reading ps)) (sym (append-nil items))
+    ∙ parameters_after [] items xs [] words params.vars params.differ (none_before xs)

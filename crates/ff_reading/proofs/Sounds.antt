@@ -18,14 +18,20 @@ use Rattle.ff_text.specs.declared.items.Span.{Span}
 use Rattle.ff_text.specs.declared.items.Sexp.{Sexp}
 use Rattle.ff_text.specs.declared.items.Sexp.TheVariants.{Word, Str, List as Parens}
 use Rattle.ff_text.proofs.Layers.{Each, items_ind}
-use Rattle.ff_forms.specs.Words.{is_name, is_literal, looks_like_number, number_of}
+use Rattle.ff_forms.specs.declared.limits.TheConstants.{MOST_HANDLERS}
+use Rattle.ff_name.specs.Reading.{is_name}
+use Rattle.ff_number.specs.Numbers.{read_num}
+use Rattle.ff_forms.specs.Words.{is_literal, looks_like_number}
 use Rattle.ff_forms.specs.Grammar as sort
-use Rattle.ff_forms.specs.Grammar.{Sort, Value, reading, and_then, each_as, form_as, list_as, headed, handler, doc_word, doc_heads, doc_form, expr_word, expr_heads, expr_form, resp_word, resp_heads, resp_form, cookie_word, cookie_heads, cookie_form, handler_word, handler_form, word_as_expression, number_as, name_as_expression, any, at_most_16}
+use Rattle.ff_forms.specs.Grammar.{Sort, Value, reading, and_then, each_as, form_as, list_as, handler, doc_form, expr_form, resp_form, cookie_form, handler_form, word_as_expression, number_as, name_as_expression, any, few_handlers}
+use Rattle.ff_forms.specs.Heads.{doc_word, expr_word, resp_word, cookie_word, handler_word, handler_heads, doc_heads, expr_heads, resp_heads, cookie_heads}
 use Rattle.ff_forms.specs.Spellings.{SpellsDoc, a_text, a_link, a_text_box, a_button, a_script, a_source, a_division, SpellsDocs, no_docs, one_more_doc, SpellsHandler, a_handler_list, SpellsHandlers, no_handlers, one_more_handler, SpellsExpr, a_null, a_true, a_false, a_number, a_text_literal, a_name_of_variable, a_let, a_set, an_if, a_while, a_do, an_and, an_or, a_function, a_call, a_tree, an_operation, SpellsExprs, no_exprs, one_more_expr, SpellsCookie, a_put, a_drop, SpellsCookies, no_cookies, one_more_cookie, SpellsResp, a_page, a_script_sent, some_data}
 use Rattle.ff_forms.specs.declared.heads.DocHead.{DocHead}
 use Rattle.ff_forms.specs.declared.heads.DocHead.TheVariants as doc_head
 use Rattle.ff_forms.specs.declared.heads.ExprHead.{ExprHead}
 use Rattle.ff_forms.specs.declared.heads.ExprHead.TheVariants as expr_head
+use Rattle.ff_forms.specs.declared.heads.HandlerHead.{HandlerHead}
+use Rattle.ff_forms.specs.declared.heads.HandlerHead.TheVariants as handler_head
 use Rattle.ff_forms.specs.declared.heads.RespHead.{RespHead}
 use Rattle.ff_forms.specs.declared.heads.RespHead.TheVariants as resp_head
 use Rattle.ff_forms.specs.declared.heads.CookieHead.{CookieHead}
@@ -109,7 +115,7 @@ doc_sound at h doc_head.TextBox parts each d e =
     let string = string_back back.b back.w back.second in
     let inner : Each AllSpelled (back.a ∷ back.b ∷ back.rest) = subst (Each AllSpelled) back.is each in
     let handlers = handlers_sound back.rest inner.1.1 back.values back.each in
-    let few : length back.values ≤ 16 = omega (arith, same_handlers back.rest back.values handlers, back.few) in
+    let few : length back.values ≤ MOST_HANDLERS = omega (arith, same_handlers back.rest back.values handlers, back.few) in
     spelled_as SpellsDoc at h (codes "box") parts _ _ d back.made (back.is ∙ cons_is name.is (cons_is string.is refl))
     (a_text_box at h name.at string.at back.v back.w back.rest back.values name.holds handlers few)
 doc_sound at h doc_head.Button parts each d e =
@@ -118,7 +124,7 @@ doc_sound at h doc_head.Button parts each d e =
     let string = string_back back.b back.w back.second in
     let inner : Each AllSpelled (back.a ∷ back.b ∷ back.rest) = subst (Each AllSpelled) back.is each in
     let handlers = handlers_sound back.rest inner.1.1 back.values back.each in
-    let few : length back.values ≤ 16 = omega (arith, same_handlers back.rest back.values handlers, back.few) in
+    let few : length back.values ≤ MOST_HANDLERS = omega (arith, same_handlers back.rest back.values handlers, back.few) in
     spelled_as SpellsDoc at h (codes "button") parts _ _ d back.made (back.is ∙ cons_is name.is (cons_is string.is refl))
     (a_button at h name.at string.at back.v back.w back.rest back.values name.holds handlers few)
 doc_sound at h doc_head.Script parts each d e =
@@ -142,8 +148,8 @@ doc_sound at h doc_head.Div parts each d e =
 
 -- handlers
 
-handler_sound : (at h : Span) (parts : List Sexp) → Each AllSpelled parts → (d : Handler) → form_as at.from handler_form (map reading parts) ≡ Ok d → SpellsHandler (Parens at (Word h (codes "fn") ∷ parts)) d
-handler_sound at h parts each d e =
+handler_sound : (at h : Span) (head : HandlerHead) (parts : List Sexp) → Each AllSpelled parts → (d : Handler) → form_as at.from (handler_form head) (map reading parts) ≡ Ok d → SpellsHandler (Parens at (Word h (handler_word head) ∷ parts)) d
+handler_sound at h handler_head.Make parts each d e =
     let back = two_back at.from sort.one_parameter sort.an_expression handler parts d e in
     let list = one_parameter_back back.a back.v back.first in
     let inner : Each AllSpelled (back.a ∷ back.b ∷ []) = subst (Each AllSpelled) back.is each in
@@ -222,8 +228,8 @@ word_sound at word x e = null (bytes_eq word (codes "null")) refl e where
 
   as_number : number_as at.from word ≡ Ok x → SpellsExpr (Word at word) x
   as_number g =
-      let back = came_from (ok_or (number_of word) (fault.Number at.from)) (λ n. Ok (expr.Lit (lit.Num n))) x g in
-      let spelled = number_spelled word back.0 (some_from (number_of word) (fault.Number at.from) back.0 back.1) in
+      let back = came_from (ok_or (read_num word) (fault.Number at.from)) (λ n. Ok (expr.Lit (lit.Num n))) x g in
+      let spelled = number_spelled word back.0 (some_from (read_num word) (fault.Number at.from) back.0 back.1) in
       subst (SpellsExpr (Word at word)) (ok_value (expr.Lit (lit.Num back.0)) x back.2)
       (subst (λ w. SpellsExpr (Word at w) (expr.Lit (lit.Num back.0))) (sym spelled.1) (a_number at back.0 spelled.0))
 
@@ -279,9 +285,9 @@ lists_spelled at parts each = record {
       let inner : Each AllSpelled (Word back.h (expr_word back.head) ∷ back.parts) = subst (Each AllSpelled) back.is each in
       subst (λ (ps : List Sexp). SpellsExpr (Parens at ps) x) (sym back.is) (expr_sound at back.h back.head back.parts inner.1 x back.formed);
   handlers = λ h e.
-      let back = list_back handler_word (tt ∷ []) (λ head. handler_form) at.from parts h (sym (reading-List at parts sort.a_handler) ∙ e) in
+      let back = list_back handler_word handler_heads handler_form at.from parts h (sym (reading-List at parts sort.a_handler) ∙ e) in
       let inner : Each AllSpelled (Word back.h (handler_word back.head) ∷ back.parts) = subst (Each AllSpelled) back.is each in
-      subst (λ (ps : List Sexp). SpellsHandler (Parens at ps) h) (sym back.is) (handler_sound at back.h back.parts inner.1 h back.formed);
+      subst (λ (ps : List Sexp). SpellsHandler (Parens at ps) h) (sym back.is) (handler_sound at back.h back.head back.parts inner.1 h back.formed);
 }
 
 all_spelled : (item : Sexp) → AllSpelled item
@@ -289,6 +295,9 @@ all_spelled item = items_ind AllSpelled words_spelled strings_spelled lists_spel
 
 pub spelled_doc : (item : Sexp) (d : Doc) → reading item sort.a_document ≡ Ok d → SpellsDoc item d
 spelled_doc item = (all_spelled item).docs
+
+pub spelled_handler : (item : Sexp) (h : Handler) → reading item sort.a_handler ≡ Ok h → SpellsHandler item h
+spelled_handler item = (all_spelled item).handlers
 
 pub spelled_expr : (item : Sexp) (e : Expr) → reading item sort.an_expression ≡ Ok e → SpellsExpr item e
 spelled_expr item = (all_spelled item).exprs
@@ -318,6 +327,9 @@ cookie_sound _ (is_list at parts) entry e =
           spelled_as SpellsCookie at h (codes "del") items _ _ entry back.made (back.is ∙ cons_is key.is refl)
           (a_drop at h key.at back.v)
 
+pub spelled_cookie : (item : Sexp) (entry : CookieOp) → reading item sort.a_cookie ≡ Ok entry → SpellsCookie item entry
+spelled_cookie item entry e = cookie_sound item (item_cases item) entry e
+
 cookies_sound : (items : List Sexp) (entries : List CookieOp) → each_as sort.a_cookie (map reading items) ≡ Ok entries → SpellsCookies items entries
 cookies_sound [] entries e = subst (SpellsCookies []) (ok_value [] entries e) no_cookies
 cookies_sound (item ∷ items) entries e =
@@ -329,6 +341,9 @@ cookies_back : (item : Sexp) → IsOne item → (entries : List CookieOp) → re
 cookies_back _ (is_word at word) entries e = absurd (err_value (fault.Place at.from) entries (sym (reading-Word at word sort.cookies) ∙ e))
 cookies_back _ (is_string at text) entries e = absurd (err_value (fault.Place at.from) entries (sym (reading-Str at text sort.cookies) ∙ e))
 cookies_back _ (is_list at parts) entries e = record { at = at; parts = parts; is = refl; holds = cookies_sound parts entries (sym (reading-List at parts sort.cookies) ∙ e) }
+
+pub spelled_cookies : (item : Sexp) (entries : List CookieOp) → reading item sort.cookies ≡ Ok entries → IsListThat SpellsCookies item entries
+spelled_cookies item entries e = cookies_back item (item_cases item) entries e
 
 resp_sound : (at h : Span) (head : RespHead) (parts : List Sexp) (r : Resp) → form_as at.from (resp_form head) (map reading parts) ≡ Ok r → SpellsResp (Parens at (Word h (resp_word head) ∷ parts)) r
 resp_sound at h resp_head.Page parts r e =

@@ -11,7 +11,7 @@ use std::alloc::Global;
 
 /// The name that a word at a place is.
 #[tactic(auto, using(crate::proofs::Naming::names))]
-pub(crate) fn name_in(alloc: Global, at: u32, word: &[u8]) -> Result<Name, SyntaxFault>
+pub(crate) fn read_name_word(alloc: Global, at: u32, word: &[u8]) -> Result<Name, SyntaxFault>
     ensures { Gives result (word_as at word.now a_name) }
 {
     match Name::of(alloc, word)? {
@@ -21,13 +21,13 @@ pub(crate) fn name_in(alloc: Global, at: u32, word: &[u8]) -> Result<Name, Synta
 }
 
 /// The variable that a word at a place is.
-pub(crate) fn variable_in(alloc: Global, at: u32, word: &[u8]) -> Result<Name, SyntaxFault>
+pub(crate) fn read_variable_word(alloc: Global, at: u32, word: &[u8]) -> Result<Name, SyntaxFault>
     ensures { Gives result (word_as at word.now a_variable) }
 {
     if is_literal(word) {
         return Err(SyntaxFault::Name(at));
     }
-    name_in(alloc, at, word)
+    read_name_word(alloc, at, word)
 }
 
 /// Whether the word stands for a literal.
@@ -38,7 +38,7 @@ fn is_literal(word: &[u8]) -> bool
 }
 
 /// The address that a word at a place is.
-pub(crate) fn address_in(alloc: Global, at: u32, word: &[u8]) -> Result<Url, SyntaxFault>
+pub(crate) fn read_address_word(alloc: Global, at: u32, word: &[u8]) -> Result<Url, SyntaxFault>
     ensures { Gives result (word_as at word.now an_address) }
 {
     match Url::read(alloc, word) {
@@ -58,7 +58,7 @@ fn address_fault(at: u32, fault: UrlFault) -> SyntaxFault
 }
 
 /// The expression that a word at a place is.
-pub(crate) fn word_in(alloc: Global, at: u32, word: &[u8]) -> Result<Expr, SyntaxFault>
+pub(crate) fn read_word(alloc: Global, at: u32, word: &[u8]) -> Result<Expr, SyntaxFault>
     ensures { Gives result (word_as_expression at word.now) }
 {
     if word == b"null".as_slice() {
@@ -68,14 +68,14 @@ pub(crate) fn word_in(alloc: Global, at: u32, word: &[u8]) -> Result<Expr, Synta
     } else if word == b"false".as_slice() {
         Ok(Expr::Lit(Lit::Bool(false)))
     } else if looks_like_number(word) {
-        number_in(at, word)
+        read_number(at, word)
     } else {
-        Ok(Expr::Var(name_in(alloc, at, word)?))
+        Ok(Expr::Var(read_name_word(alloc, at, word)?))
     }
 }
 
 /// The number that a word at a place is.
-fn number_in(at: u32, word: &[u8]) -> Result<Expr, SyntaxFault>
+fn read_number(at: u32, word: &[u8]) -> Result<Expr, SyntaxFault>
     ensures { result ≡ number_as at word.now }
 {
     match read_num(word) {

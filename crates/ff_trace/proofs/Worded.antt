@@ -7,7 +7,7 @@ use Rattle.std.proofs.lemmas.Bool.{and_parts, and_from}
 use Rattle.std.proofs.lemmas.Bool.Decides.{nat_tests}
 use Rattle.std.proofs.lemmas.List.Folds.{list_all-append}
 use Rattle.std.proofs.lemmas.Str.{is_utf8-from_IsUtf8}
-use Rattle.ff_lattice.specs.Order.{Order, size, name, is_level_name, IsOrder}
+use Rattle.ff_lattice.specs.Order.{Order, size, name, is_level_name, IsOrder, IsTag}
 use Rattle.ff_name.specs.Address.{blank, scheme, printed, stands_in_request, IsRequest}
 use Rattle.ff_name.specs.Address as address
 use Rattle.ff_name.specs.Spelling.{IsDomain, is_label, stands_in_label, stands_in_name}
@@ -23,7 +23,6 @@ use Rattle.ff_text.specs.Printed.{fits_at, is_word, AreWellSpelled, IsWellSpelle
 use Rattle.ff_text.specs.declared.items.Sexp.{Sexp}
 use Rattle.ff_text.proofs.Layers.{fits_at-Word, fits_at-Str}
 use Rattle.ff_forms.specs.Canonical as canonical
-use Rattle.ff_trace.specs.Lines.{IsTag}
 
 word_from : (text : List ℕ) → list_all is_word_byte text ≡ true → text ≢ [] → is_word text ≡ true
 word_from [] all some = absurd (some refl)

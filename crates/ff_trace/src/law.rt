@@ -5,7 +5,7 @@ ghost use Rattle.ff_name.specs.Address.{Spells};
 ghost use Rattle.ff_name.specs.Spelling.{IsDomain};
 ghost use Rattle.ff_name.specs.declared.urls.Url.{Url};
 ghost use Rattle.ff_number.specs.Decimal.{nat_text};
-ghost use Rattle.ff_forms.specs.Words.{address_of};
+ghost use Rattle.ff_name.specs.Reading.{read_url};
 ghost use Rattle.ff_value.specs.declared.input.Input.{Input};
 ghost use Rattle.ff_value.specs.declared.output.Pair.{Pair};
 ghost use Rattle.ff_trace.specs.declared.fault.LineFault.{LineFault};
@@ -21,7 +21,7 @@ pub fn a_line_is_read_in_one_way()
 /// A part is a number, an address or a domain exactly where it is spelled as one.
 pub fn what_is_spelled_is_a_part()
     ensures numbers { (text : List ℕ) (n : ℕ) → (number_of text ≡ Some n) ↔ ((n < 2 ^ 32) × (text ≡ nat_text n)) }
-    ensures addresses { (text : List ℕ) (url : Url) → (address_of text ≡ Some url) ↔ Spells text url }
+    ensures addresses { (text : List ℕ) (url : Url) → (read_url text ≡ Some url) ↔ Spells text url }
     ensures domains { (text domain : List ℕ) → (domain_of text ≡ Some domain) ↔ (IsDomain text × (domain ≡ text)) }
 {}
 

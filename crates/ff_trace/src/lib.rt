@@ -3,9 +3,7 @@
 
 mod acts;
 mod fault;
-mod kind;
 mod law;
-mod levels;
 mod pairs;
 mod parts;
 mod pieces;

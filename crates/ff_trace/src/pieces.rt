@@ -1,4 +1,5 @@
-ghost use Rattle.ff_text.specs.Printed.{Appends, AppendsAll, blank_before, spelled};
+ghost use Rattle.ff_contract.specs.Appending.{Appends, AppendsAll};
+ghost use Rattle.ff_text.specs.Printed.{blank_before, spelled};
 ghost use Rattle.ff_trace.specs.Pieces.{part_item, part_items};
 ghost use Rattle.ff_trace.specs.Printed.{joined};
 

@@ -1,109 +1,104 @@
-use Rattle.std.proofs.Common.{◌∙◌, ◌-◌, Ok, length, ap, sym, inl, arith}
+use Rattle.std.proofs.Common.{rules, refl, ◌∙◌, ◌-◌, Ok, length, ap, sym, inl, arith}
 use Rattle.ff_tree.specs.declared.tree.Expr.TheVariants as expr
 use Rattle.ff_tree.specs.declared.tree.Lit.TheVariants as lit
 use Rattle.ff_forms.specs.Grammar.{a_document, a_handler, an_expression}
 use Rattle.ff_reading.proofs.Falling.{part_falls, tail_falls}
-use Rattle.ff_reading.proofs.Layers.{word_layer, string_layer, word_gives, list_gives}
+use Rattle.ff_reading.proofs.Shaped.{list_given, no_list_refused}
+use Rattle.ff_reading.proofs.Layers.{string_layer, word_gives, list_gives}
 use Rattle.ff_reading.proofs.reading.+read.Goals as goal
 
-pub doc_of-returns-in-Word : goal.doc_of-returns-in-Word
-doc_of-returns-in-Word t c = inl (sym (word_layer c.args.item.now c.in-Word.at c.in-Word.field-1 a_document c.in-Word.is))
+pub read_doc-returns-in_err-at : goal.read_doc-returns-in_err-at
+read_doc-returns-in_err-at t c = rw (no_list_refused c.args.item.now c.in_err-at.field-0.0 a_document (λ at. refl) refl refl c.in_err-at.ensures.other) (search rules)
 
-pub doc_of-returns-in-Str : goal.doc_of-returns-in-Str
-doc_of-returns-in-Str t c = inl (sym (string_layer c.args.item.now c.in-Str.at c.in-Str.field-1 a_document c.in-Str.is))
+pub read_doc-returns : goal.read_doc-returns
+read_doc-returns t c = list_given c.args.item.now c.in_ok-at.at c.in_ok-at.parts.now a_document c.read_doc_list.result c.in_ok-at.ensures.list c.read_doc_list.ensures
 
-pub doc_of-returns-in-List : goal.doc_of-returns-in-List
-doc_of-returns-in-List t c = list_gives c.args.item.now c.in-List.at c.in-List.parts c.as_slice.result.now a_document c.doc_list_of.result c.in-List.is c.as_slice.ensures c.doc_list_of.ensures
+pub read_handler-returns-in_err-at : goal.read_handler-returns-in_err-at
+read_handler-returns-in_err-at t c = rw (no_list_refused c.args.item.now c.in_err-at.field-0.0 a_handler (λ at. refl) refl refl c.in_err-at.ensures.other) (search rules)
 
-pub handler_of-returns-in-Word : goal.handler_of-returns-in-Word
-handler_of-returns-in-Word t c = inl (sym (word_layer c.args.item.now c.in-Word.at c.in-Word.field-1 a_handler c.in-Word.is))
+pub read_handler-returns : goal.read_handler-returns
+read_handler-returns t c = list_given c.args.item.now c.in_ok-at.at c.in_ok-at.parts.now a_handler c.read_handler_list.result c.in_ok-at.ensures.list c.read_handler_list.ensures
 
-pub handler_of-returns-in-Str : goal.handler_of-returns-in-Str
-handler_of-returns-in-Str t c = inl (sym (string_layer c.args.item.now c.in-Str.at c.in-Str.field-1 a_handler c.in-Str.is))
+pub read_expr-returns-in-Word : goal.read_expr-returns-in-Word
+read_expr-returns-in-Word t c = word_gives c.args.item.now c.in-Word.at c.in-Word.word c.as_bytes.result.now an_expression c.read_word.result c.in-Word.is c.as_bytes.ensures.value c.read_word.ensures
 
-pub handler_of-returns-in-List : goal.handler_of-returns-in-List
-handler_of-returns-in-List t c = list_gives c.args.item.now c.in-List.at c.in-List.parts c.as_slice.result.now a_handler c.handler_list_of.result c.in-List.is c.as_slice.ensures c.handler_list_of.ensures
+pub read_expr-returns-in_ok-copy-in-Str : goal.read_expr-returns-in_ok-copy-in-Str
+read_expr-returns-in_ok-copy-in-Str t c = inl (ap (λ text. Ok (expr.Lit (lit.Str text))) c.in_ok-copy-in-Str.ensures ∙ sym (string_layer c.args.item.now c.in-Str.field-0 c.in-Str.text an_expression c.in-Str.is))
 
-pub expr_of-returns-in-Word : goal.expr_of-returns-in-Word
-expr_of-returns-in-Word t c = word_gives c.args.item.now c.in-Word.at c.in-Word.word c.as_bytes.result.now an_expression c.word_in.result c.in-Word.is c.as_bytes.ensures.value c.word_in.ensures
+pub read_expr-returns-in-List : goal.read_expr-returns-in-List
+read_expr-returns-in-List t c = list_gives c.args.item.now c.in-List.at c.in-List.parts c.as_slice.result.now an_expression c.read_expr_list.result c.in-List.is c.as_slice.ensures c.read_expr_list.ensures
 
-pub expr_of-returns-in_ok-copy-in-Str : goal.expr_of-returns-in_ok-copy-in-Str
-expr_of-returns-in_ok-copy-in-Str t c = inl (ap (λ text. Ok (expr.Lit (lit.Str text))) c.in_ok-copy-in-Str.ensures ∙ sym (string_layer c.args.item.now c.in-Str.field-0 c.in-Str.text an_expression c.in-Str.is))
+pub read_doc_form-returns-in-Text : goal.read_doc_form-returns-in-Text
+read_doc_form-returns-in-Text t c = rw c.in-Text.is c.read_text.ensures
 
-pub expr_of-returns-in-List : goal.expr_of-returns-in-List
-expr_of-returns-in-List t c = list_gives c.args.item.now c.in-List.at c.in-List.parts c.as_slice.result.now an_expression c.expr_list_of.result c.in-List.is c.as_slice.ensures c.expr_list_of.ensures
+pub read_doc_form-returns-in-Link : goal.read_doc_form-returns-in-Link
+read_doc_form-returns-in-Link t c = rw c.in-Link.is c.read_link.ensures
 
-pub doc_form_of-returns-in-Text : goal.doc_form_of-returns-in-Text
-doc_form_of-returns-in-Text t c = rw c.in-Text.is c.text_of.ensures
+pub read_doc_form-returns-in-TextBox : goal.read_doc_form-returns-in-TextBox
+read_doc_form-returns-in-TextBox t c = rw c.in-TextBox.is c.read_text_box.ensures
 
-pub doc_form_of-returns-in-Link : goal.doc_form_of-returns-in-Link
-doc_form_of-returns-in-Link t c = rw c.in-Link.is c.link_of.ensures
+pub read_doc_form-returns-in-Button : goal.read_doc_form-returns-in-Button
+read_doc_form-returns-in-Button t c = rw c.in-Button.is c.read_button.ensures
 
-pub doc_form_of-returns-in-TextBox : goal.doc_form_of-returns-in-TextBox
-doc_form_of-returns-in-TextBox t c = rw c.in-TextBox.is c.text_box_of.ensures
+pub read_doc_form-returns-in-Script : goal.read_doc_form-returns-in-Script
+read_doc_form-returns-in-Script t c = rw c.in-Script.is c.read_script.ensures
 
-pub doc_form_of-returns-in-Button : goal.doc_form_of-returns-in-Button
-doc_form_of-returns-in-Button t c = rw c.in-Button.is c.button_of.ensures
+pub read_doc_form-returns-in-Src : goal.read_doc_form-returns-in-Src
+read_doc_form-returns-in-Src t c = rw c.in-Src.is c.read_src.ensures
 
-pub doc_form_of-returns-in-Script : goal.doc_form_of-returns-in-Script
-doc_form_of-returns-in-Script t c = rw c.in-Script.is c.script_of.ensures
+pub read_doc_form-returns-in-Div : goal.read_doc_form-returns-in-Div
+read_doc_form-returns-in-Div t c = rw c.in-Div.is c.read_div.ensures
 
-pub doc_form_of-returns-in-Src : goal.doc_form_of-returns-in-Src
-doc_form_of-returns-in-Src t c = rw c.in-Src.is c.src_of.ensures
+pub read_expr_form-returns-in-Let : goal.read_expr_form-returns-in-Let
+read_expr_form-returns-in-Let t c = rw c.in-Let.is c.read_let.ensures
 
-pub doc_form_of-returns-in-Div : goal.doc_form_of-returns-in-Div
-doc_form_of-returns-in-Div t c = rw c.in-Div.is c.div_of.ensures
+pub read_expr_form-returns-in-Set : goal.read_expr_form-returns-in-Set
+read_expr_form-returns-in-Set t c = rw c.in-Set.is c.read_set.ensures
 
-pub expr_form_of-returns-in-Let : goal.expr_form_of-returns-in-Let
-expr_form_of-returns-in-Let t c = rw c.in-Let.is c.let_of.ensures
+pub read_expr_form-returns-in-If : goal.read_expr_form-returns-in-If
+read_expr_form-returns-in-If t c = rw c.in-If.is c.read_if.ensures
 
-pub expr_form_of-returns-in-Set : goal.expr_form_of-returns-in-Set
-expr_form_of-returns-in-Set t c = rw c.in-Set.is c.set_of.ensures
+pub read_expr_form-returns-in-While : goal.read_expr_form-returns-in-While
+read_expr_form-returns-in-While t c = rw c.in-While.is c.read_while.ensures
 
-pub expr_form_of-returns-in-If : goal.expr_form_of-returns-in-If
-expr_form_of-returns-in-If t c = rw c.in-If.is c.if_of.ensures
+pub read_expr_form-returns-in-Do : goal.read_expr_form-returns-in-Do
+read_expr_form-returns-in-Do t c = rw c.in-Do.is c.read_do.ensures
 
-pub expr_form_of-returns-in-While : goal.expr_form_of-returns-in-While
-expr_form_of-returns-in-While t c = rw c.in-While.is c.while_of.ensures
+pub read_expr_form-returns-in-And : goal.read_expr_form-returns-in-And
+read_expr_form-returns-in-And t c = rw c.in-And.is c.read_and.ensures
 
-pub expr_form_of-returns-in-Do : goal.expr_form_of-returns-in-Do
-expr_form_of-returns-in-Do t c = rw c.in-Do.is c.do_of.ensures
+pub read_expr_form-returns-in-Or : goal.read_expr_form-returns-in-Or
+read_expr_form-returns-in-Or t c = rw c.in-Or.is c.read_or.ensures
 
-pub expr_form_of-returns-in-And : goal.expr_form_of-returns-in-And
-expr_form_of-returns-in-And t c = rw c.in-And.is c.and_of.ensures
+pub read_expr_form-returns-in-Make : goal.read_expr_form-returns-in-Make
+read_expr_form-returns-in-Make t c = rw c.in-Make.is c.read_make.ensures
 
-pub expr_form_of-returns-in-Or : goal.expr_form_of-returns-in-Or
-expr_form_of-returns-in-Or t c = rw c.in-Or.is c.or_of.ensures
+pub read_expr_form-returns-in-Apply : goal.read_expr_form-returns-in-Apply
+read_expr_form-returns-in-Apply t c = rw c.in-Apply.is c.read_apply.ensures
 
-pub expr_form_of-returns-in-Make : goal.expr_form_of-returns-in-Make
-expr_form_of-returns-in-Make t c = rw c.in-Make.is c.make_of.ensures
+pub read_expr_form-returns-in-Tree : goal.read_expr_form-returns-in-Tree
+read_expr_form-returns-in-Tree t c = rw c.in-Tree.is c.read_tree.ensures
 
-pub expr_form_of-returns-in-Apply : goal.expr_form_of-returns-in-Apply
-expr_form_of-returns-in-Apply t c = rw c.in-Apply.is c.apply_of.ensures
+pub read_expr_form-returns-in-Prim : goal.read_expr_form-returns-in-Prim
+read_expr_form-returns-in-Prim t c = rw c.in-Prim.is c.read_prim.ensures
 
-pub expr_form_of-returns-in-Tree : goal.expr_form_of-returns-in-Tree
-expr_form_of-returns-in-Tree t c = rw c.in-Tree.is c.tree_of.ensures
+pub read_text_box-read_handlers-requires : goal.read_text_box-read_handlers-requires
+read_text_box-read_handlers-requires t c = (omega (arith, part_falls c.args.parts.now 2 (length c.args.parts.now - 2)), tt)
 
-pub expr_form_of-returns-in-Prim : goal.expr_form_of-returns-in-Prim
-expr_form_of-returns-in-Prim t c = rw c.in-Prim.is c.prim_of.ensures
+pub read_button-read_handlers-requires : goal.read_button-read_handlers-requires
+read_button-read_handlers-requires t c = (omega (arith, part_falls c.args.parts.now 2 (length c.args.parts.now - 2)), tt)
 
-pub text_box_of-handlers_of-requires : goal.text_box_of-handlers_of-requires
-text_box_of-handlers_of-requires t c = (omega (arith, part_falls c.args.parts.now 2 (length c.args.parts.now - 2)), tt)
+pub read_div-read_docs-requires : goal.read_div-read_docs-requires
+read_div-read_docs-requires t c = (omega (arith, part_falls c.args.parts.now 1 (length c.args.parts.now - 1)), tt)
 
-pub button_of-handlers_of-requires : goal.button_of-handlers_of-requires
-button_of-handlers_of-requires t c = (omega (arith, part_falls c.args.parts.now 2 (length c.args.parts.now - 2)), tt)
+pub read_apply-read_exprs-requires : goal.read_apply-read_exprs-requires
+read_apply-read_exprs-requires t c = (omega (arith, part_falls c.args.parts.now 1 (length c.args.parts.now - 1)), tt)
 
-pub div_of-docs_of-requires : goal.div_of-docs_of-requires
-div_of-docs_of-requires t c = (omega (arith, part_falls c.args.parts.now 1 (length c.args.parts.now - 1)), tt)
+pub read_doc_list-read_doc_form-requires : goal.read_doc_list-read_doc_form-requires
+read_doc_list-read_doc_form-requires t c = (omega (arith, tail_falls c.args.items.now c.in-Some.parts.now c.in-Some.first.now c.in-Some.ensures.cases.0), tt)
 
-pub apply_of-exprs_of-requires : goal.apply_of-exprs_of-requires
-apply_of-exprs_of-requires t c = (omega (arith, part_falls c.args.parts.now 1 (length c.args.parts.now - 1)), tt)
+pub read_expr_list-read_expr_form-requires : goal.read_expr_list-read_expr_form-requires
+read_expr_list-read_expr_form-requires t c = (omega (arith, tail_falls c.args.items.now c.in-Some.parts.now c.in-Some.first.now c.in-Some.ensures.cases.0), tt)
 
-pub doc_list_of-doc_form_of-requires : goal.doc_list_of-doc_form_of-requires
-doc_list_of-doc_form_of-requires t c = (omega (arith, tail_falls c.args.items.now c.in-Some.parts.now c.in-Some.first.now c.in-Some.ensures.cases.0), tt)
-
-pub expr_list_of-expr_form_of-requires : goal.expr_list_of-expr_form_of-requires
-expr_list_of-expr_form_of-requires t c = (omega (arith, tail_falls c.args.items.now c.in-Some.parts.now c.in-Some.first.now c.in-Some.ensures.cases.0), tt)
-
-pub handler_list_of-handler_parts_of-requires : goal.handler_list_of-handler_parts_of-requires
-handler_list_of-handler_parts_of-requires t c = (omega (arith, tail_falls c.args.items.now c.in-Some.parts.now c.in-Some.first.now c.in-Some.ensures.cases.0), tt)
+pub read_handler_list-read_handler_form-requires : goal.read_handler_list-read_handler_form-requires
+read_handler_list-read_handler_form-requires t c = (omega (arith, tail_falls c.args.items.now c.in-Some.parts.now c.in-Some.first.now c.in-Some.ensures.cases.0), tt)

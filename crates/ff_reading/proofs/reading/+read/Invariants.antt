@@ -3,95 +3,95 @@ use Rattle.ff_forms.specs.Grammar.{a_document, a_handler, an_expression}
 use Rattle.ff_reading.proofs.Each.{Before}
 use Rattle.ff_reading.proofs.reading.+read.Given as goal
 
-abbrev pub invariant-docs_of-loop-part : goal.invariant-docs_of-loop-part
-invariant-docs_of-loop-part l = Before a_document l.parts l.part-index l.docs.items
+abbrev pub invariant-read_docs-loop-part : goal.invariant-read_docs-loop-part
+invariant-read_docs-loop-part l = Before a_document l.parts l.part-index l.docs.items
 
-abbrev pub invariant-handlers_of-loop-part : goal.invariant-handlers_of-loop-part
-invariant-handlers_of-loop-part l = Before a_handler l.parts l.part-index l.handlers.items
+abbrev pub invariant-read_handlers-loop-part : goal.invariant-read_handlers-loop-part
+invariant-read_handlers-loop-part l = Before a_handler l.parts l.part-index l.handlers.items
 
-abbrev pub invariant-exprs_of-loop-part : goal.invariant-exprs_of-loop-part
-invariant-exprs_of-loop-part l = Before an_expression l.parts l.part-index l.exprs.items
+abbrev pub invariant-read_exprs-loop-part : goal.invariant-read_exprs-loop-part
+invariant-read_exprs-loop-part l = Before an_expression l.parts l.part-index l.exprs.items
 
-abbrev pub decreases-doc_of : goal.decreases-doc_of
-decreases-doc_of l = 10 * goal.size-doc_of l
+abbrev pub decreases-read_doc : goal.decreases-read_doc
+decreases-read_doc l = 10 * goal.size-read_doc l
 
-abbrev pub decreases-expr_of : goal.decreases-expr_of
-decreases-expr_of l = 10 * goal.size-expr_of l
+abbrev pub decreases-read_expr : goal.decreases-read_expr
+decreases-read_expr l = 10 * goal.size-read_expr l
 
-abbrev pub decreases-handler_of : goal.decreases-handler_of
-decreases-handler_of l = 10 * goal.size-handler_of l
+abbrev pub decreases-read_handler : goal.decreases-read_handler
+decreases-read_handler l = 10 * goal.size-read_handler l
 
-abbrev pub decreases-body_of : goal.decreases-body_of
-decreases-body_of l = 10 * goal.size-body_of l + 1
+abbrev pub decreases-read_body : goal.decreases-read_body
+decreases-read_body l = 10 * goal.size-read_body l + 1
 
-abbrev pub decreases-docs_of : goal.decreases-docs_of
-decreases-docs_of l = 10 * goal.size-docs_of l + 2
+abbrev pub decreases-read_docs : goal.decreases-read_docs
+decreases-read_docs l = 10 * goal.size-read_docs l + 2
 
-abbrev pub decreases-handlers_of : goal.decreases-handlers_of
-decreases-handlers_of l = 10 * goal.size-handlers_of l + 2
+abbrev pub decreases-read_handlers : goal.decreases-read_handlers
+decreases-read_handlers l = 10 * goal.size-read_handlers l + 2
 
-abbrev pub decreases-exprs_of : goal.decreases-exprs_of
-decreases-exprs_of l = 10 * goal.size-exprs_of l + 2
+abbrev pub decreases-read_exprs : goal.decreases-read_exprs
+decreases-read_exprs l = 10 * goal.size-read_exprs l + 2
 
-abbrev pub decreases-text_box_of : goal.decreases-text_box_of
-decreases-text_box_of l = 10 * goal.size-text_box_of l + 3
+abbrev pub decreases-read_text_box : goal.decreases-read_text_box
+decreases-read_text_box l = 10 * goal.size-read_text_box l + 3
 
-abbrev pub decreases-button_of : goal.decreases-button_of
-decreases-button_of l = 10 * goal.size-button_of l + 3
+abbrev pub decreases-read_button : goal.decreases-read_button
+decreases-read_button l = 10 * goal.size-read_button l + 3
 
-abbrev pub decreases-script_of : goal.decreases-script_of
-decreases-script_of l = 10 * goal.size-script_of l + 3
+abbrev pub decreases-read_script : goal.decreases-read_script
+decreases-read_script l = 10 * goal.size-read_script l + 3
 
-abbrev pub decreases-div_of : goal.decreases-div_of
-decreases-div_of l = 10 * goal.size-div_of l + 3
+abbrev pub decreases-read_div : goal.decreases-read_div
+decreases-read_div l = 10 * goal.size-read_div l + 3
 
-abbrev pub decreases-handler_parts_of : goal.decreases-handler_parts_of
-decreases-handler_parts_of l = 10 * goal.size-handler_parts_of l + 3
+abbrev pub decreases-read_handler_form : goal.decreases-read_handler_form
+decreases-read_handler_form l = 10 * goal.size-read_handler_form l + 3
 
-abbrev pub decreases-let_of : goal.decreases-let_of
-decreases-let_of l = 10 * goal.size-let_of l + 3
+abbrev pub decreases-read_let : goal.decreases-read_let
+decreases-read_let l = 10 * goal.size-read_let l + 3
 
-abbrev pub decreases-set_of : goal.decreases-set_of
-decreases-set_of l = 10 * goal.size-set_of l + 3
+abbrev pub decreases-read_set : goal.decreases-read_set
+decreases-read_set l = 10 * goal.size-read_set l + 3
 
-abbrev pub decreases-if_of : goal.decreases-if_of
-decreases-if_of l = 10 * goal.size-if_of l + 3
+abbrev pub decreases-read_if : goal.decreases-read_if
+decreases-read_if l = 10 * goal.size-read_if l + 3
 
-abbrev pub decreases-while_of : goal.decreases-while_of
-decreases-while_of l = 10 * goal.size-while_of l + 3
+abbrev pub decreases-read_while : goal.decreases-read_while
+decreases-read_while l = 10 * goal.size-read_while l + 3
 
-abbrev pub decreases-do_of : goal.decreases-do_of
-decreases-do_of l = 10 * goal.size-do_of l + 3
+abbrev pub decreases-read_do : goal.decreases-read_do
+decreases-read_do l = 10 * goal.size-read_do l + 3
 
-abbrev pub decreases-and_of : goal.decreases-and_of
-decreases-and_of l = 10 * goal.size-and_of l + 3
+abbrev pub decreases-read_and : goal.decreases-read_and
+decreases-read_and l = 10 * goal.size-read_and l + 3
 
-abbrev pub decreases-or_of : goal.decreases-or_of
-decreases-or_of l = 10 * goal.size-or_of l + 3
+abbrev pub decreases-read_or : goal.decreases-read_or
+decreases-read_or l = 10 * goal.size-read_or l + 3
 
-abbrev pub decreases-make_of : goal.decreases-make_of
-decreases-make_of l = 10 * goal.size-make_of l + 3
+abbrev pub decreases-read_make : goal.decreases-read_make
+decreases-read_make l = 10 * goal.size-read_make l + 3
 
-abbrev pub decreases-apply_of : goal.decreases-apply_of
-decreases-apply_of l = 10 * goal.size-apply_of l + 3
+abbrev pub decreases-read_apply : goal.decreases-read_apply
+decreases-read_apply l = 10 * goal.size-read_apply l + 3
 
-abbrev pub decreases-tree_of : goal.decreases-tree_of
-decreases-tree_of l = 10 * goal.size-tree_of l + 3
+abbrev pub decreases-read_tree : goal.decreases-read_tree
+decreases-read_tree l = 10 * goal.size-read_tree l + 3
 
-abbrev pub decreases-prim_of : goal.decreases-prim_of
-decreases-prim_of l = 10 * goal.size-prim_of l + 3
+abbrev pub decreases-read_prim : goal.decreases-read_prim
+decreases-read_prim l = 10 * goal.size-read_prim l + 3
 
-abbrev pub decreases-doc_form_of : goal.decreases-doc_form_of
-decreases-doc_form_of l = 10 * goal.size-doc_form_of l + 4
+abbrev pub decreases-read_doc_form : goal.decreases-read_doc_form
+decreases-read_doc_form l = 10 * goal.size-read_doc_form l + 4
 
-abbrev pub decreases-expr_form_of : goal.decreases-expr_form_of
-decreases-expr_form_of l = 10 * goal.size-expr_form_of l + 4
+abbrev pub decreases-read_expr_form : goal.decreases-read_expr_form
+decreases-read_expr_form l = 10 * goal.size-read_expr_form l + 4
 
-abbrev pub decreases-doc_list_of : goal.decreases-doc_list_of
-decreases-doc_list_of l = 10 * goal.size-doc_list_of l + 5
+abbrev pub decreases-read_doc_list : goal.decreases-read_doc_list
+decreases-read_doc_list l = 10 * goal.size-read_doc_list l + 5
 
-abbrev pub decreases-expr_list_of : goal.decreases-expr_list_of
-decreases-expr_list_of l = 10 * goal.size-expr_list_of l + 5
+abbrev pub decreases-read_expr_list : goal.decreases-read_expr_list
+decreases-read_expr_list l = 10 * goal.size-read_expr_list l + 5
 
-abbrev pub decreases-handler_list_of : goal.decreases-handler_list_of
-decreases-handler_list_of l = 10 * goal.size-handler_list_of l + 5
+abbrev pub decreases-read_handler_list : goal.decreases-read_handler_list
+decreases-read_handler_list l = 10 * goal.size-read_handler_list l + 5

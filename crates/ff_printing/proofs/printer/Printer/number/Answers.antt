@@ -7,4 +7,4 @@ use Rattle.ff_printing.proofs.printer.Printer.number.Goals as goal
 pub returns : goal.returns
 returns c =
     prints_as (num_text c.args.n) (ap num_text (sym (to_z-of_z c.ranges.n)))
-    (noted c.args.self.now (record { bytes = c.print_num-done.new.out; failed = c.is_err-self.result }) (num_text (to_z w64 (of_z w64 c.args.n))) c.print_num-done.result c.if-self.false c.is_err-self.ensures.value c.print_num-done.ensures.ok c.print_num-done.ensures.err)
+    (noted c.args.self.now (record { bytes = c.print_num-done.new.out; failed = c.is_err-self.result }) (num_text (to_z w64 (of_z w64 c.args.n))) c.print_num-done.result c.if-self.false c.is_err-self.ensures.value c.print_num-done.ensures)

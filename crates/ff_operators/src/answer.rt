@@ -1,0 +1,38 @@
+ghost use Rattle.std.specs.Prelude.{◌≡◌};
+
+use ff_value::{Fault, NoMemory, Val};
+
+/// What an operator gave.
+#[derive(Debug, Drop)]
+pub struct Applied {
+    pub value: Val,
+    /// The mass after it, in bytes: what was made counts.
+    pub mass: u64,
+}
+
+impl Applied {
+    /// The value, for which the mass stays as it is.
+    pub(crate) fn free(value: Val, mass: u64) -> Applied
+        ensures { result ≡ record { value = value; mass = mass } }
+    {
+        Applied { value, mass }
+    }
+}
+
+/// Why a call on values or stores failed: by a fault of the script, or for want of memory.
+#[derive(Clone, Copy, Debug, PartialEq, Eq)]
+pub enum Fail {
+    Fault(Fault),
+    NoMemory,
+}
+
+impl From<NoMemory> for Fail {
+    ghost use Rattle.std.specs.Prelude.{◌≡◌};
+    ghost use Rattle.ff_operators.specs.declared.answer.Fail.TheVariants as fail;
+
+    ghost from_gives = { λ _ f. f ≡ fail.NoMemory };
+
+    fn from(_refused: NoMemory) -> Fail {
+        Fail::NoMemory
+    }
+}

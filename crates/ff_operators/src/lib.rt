@@ -1,0 +1,18 @@
+//! The pure operators of the script language: those on numbers, truth values and texts, which read and change no store.
+//!
+//! [`apply`] gives what an operator makes of its operands, or why it fails. Operands are lent, and memory is taken for
+//! made texts alone.
+#![tactic(auto)]
+
+mod answer;
+mod arithmetic;
+mod comparisons;
+pub mod operands;
+mod operators;
+#[cfg(test)]
+mod tests;
+mod texts;
+
+pub use answer::{Applied, Fail};
+pub use operators::apply;
+pub use texts::{MOST_MADE_BYTES, MOST_MASS};

@@ -1,0 +1,10 @@
+pub mod Forms
+pub mod Induction
+pub mod Sources
+pub mod Laws
+pub mod Keeping
+pub mod Sound
+pub mod Spelling
+pub mod Calls
+pub mod Reading
+pub mod Redexes
