@@ -22,9 +22,10 @@ use Rattle.ff_text.specs.declared.items.Sexp.{Sexp}
 use Rattle.ff_text.specs.declared.items.Sexp.TheOpen.{Sexp-F}
 use Rattle.ff_text.specs.declared.items.Sexp.TheFolds.{fold-Sexp}
 use Rattle.ff_name.specs.Reading.{is_name, read_url}
-use Rattle.ff_forms.specs.Heads.{doc_word, expr_word, handler_word, resp_word, cookie_word}
+use Rattle.ff_forms.specs.Heads.{doc_word, expr_word, handler_word, resp_word, cookie_word, doc_heads, expr_heads, handler_heads, resp_heads, cookie_heads}
 use Rattle.ff_name.specs.Words.{with_word}
-use Rattle.ff_forms.specs.Words.{is_variable, looks_like_number, number_of}
+use Rattle.ff_number.specs.Numbers.{read_num}
+use Rattle.ff_forms.specs.Words.{is_variable, looks_like_number}
 use Rattle.ff_forms.specs.declared.fault.SyntaxFault.{SyntaxFault}
 use Rattle.ff_forms.specs.declared.fault.SyntaxFault.TheVariants as fault
 use Rattle.ff_forms.specs.declared.heads.DocHead.{DocHead}
@@ -36,7 +37,6 @@ use Rattle.ff_forms.specs.declared.heads.RespHead.TheVariants as resp_head
 use Rattle.ff_forms.specs.declared.heads.CookieHead.{CookieHead}
 use Rattle.ff_forms.specs.declared.heads.CookieHead.TheVariants as cookie_head
 use Rattle.ff_forms.specs.declared.heads.HandlerHead.{HandlerHead}
-use Rattle.ff_forms.specs.declared.heads.TheConstants.{DOC_HEADS, EXPR_HEADS, HANDLER_HEADS, RESP_HEADS, COOKIE_HEADS}
 use Rattle.ff_forms.specs.declared.limits.TheConstants.{MOST_HANDLERS}
 
 -- what an item may be wanted as
@@ -191,7 +191,7 @@ list_as word_at heads form_at at [] = Err (fault.Head at)
 list_as word_at heads form_at at (first ∷ parts) = and_then (head_as word_at heads first) (λ head. form_as at (form_at head) parts)
 
 abbrev pub handler_as : ℕ → List Reading → Result Handler SyntaxFault
-handler_as = list_as handler_word HANDLER_HEADS handler_form
+handler_as = list_as handler_word handler_heads handler_form
 
 -- a parameter, after those that stand before
 abbrev pub parameter_as : List (List ℕ) → Reading → Result (List ℕ) SyntaxFault
@@ -209,7 +209,7 @@ one_parameter_as at _ = Err (fault.Count at)
 
 -- a word that has to be a number
 abbrev pub number_as : ℕ → List ℕ → Result Expr SyntaxFault
-number_as at word = and_then (ok_or (number_of word) (fault.Number at)) (λ n. Ok (expr.Lit (lit.Num n)))
+number_as at word = and_then (ok_or (read_num word) (fault.Number at)) (λ n. Ok (expr.Lit (lit.Num n)))
 
 -- a word that has to be a variable, where it is no literal
 abbrev pub name_as_expression : ℕ → List ℕ → Result Expr SyntaxFault
@@ -243,10 +243,10 @@ string_as at text _ = Err (fault.Place at)
 
 -- a list at a place, where a sort is wanted
 abbrev pub parts_in_list_as : ℕ → List Reading → (sort : Sort) → Result (Value sort) SyntaxFault
-parts_in_list_as at parts a_document = list_as doc_word DOC_HEADS doc_form at parts
-parts_in_list_as at parts an_expression = list_as expr_word EXPR_HEADS expr_form at parts
-parts_in_list_as at parts a_response = list_as resp_word RESP_HEADS resp_form at parts
-parts_in_list_as at parts a_cookie = list_as cookie_word COOKIE_HEADS cookie_form at parts
+parts_in_list_as at parts a_document = list_as doc_word doc_heads doc_form at parts
+parts_in_list_as at parts an_expression = list_as expr_word expr_heads expr_form at parts
+parts_in_list_as at parts a_response = list_as resp_word resp_heads resp_form at parts
+parts_in_list_as at parts a_cookie = list_as cookie_word cookie_heads cookie_form at parts
 parts_in_list_as at parts a_handler = handler_as at parts
 parts_in_list_as at parts cookies = each_as a_cookie parts
 parts_in_list_as at parts parameters = parameters_as [] parts

@@ -49,7 +49,26 @@ abbrev pub cookie_word : CookieHead → List ℕ
 cookie_word cookie_head.Put = codes "set"
 cookie_word cookie_head.Drop = codes "del"
 
-pub doc_own : (head : DocHead) → with_word doc_word DOC_HEADS (doc_word head) ≡ Some head
+-- the heads at each position
+
+abbrev pub doc_heads : List DocHead
+doc_heads = DOC_HEADS
+
+abbrev pub expr_heads : List ExprHead
+expr_heads = EXPR_HEADS
+
+abbrev pub handler_heads : List HandlerHead
+handler_heads = HANDLER_HEADS
+
+abbrev pub resp_heads : List RespHead
+resp_heads = RESP_HEADS
+
+abbrev pub cookie_heads : List CookieHead
+cookie_heads = COOKIE_HEADS
+
+-- each is there, and none before it has its word
+
+pub doc_own : (head : DocHead) → with_word doc_word doc_heads (doc_word head) ≡ Some head
 doc_own doc_head.Text = refl
 doc_own doc_head.Link = refl
 doc_own doc_head.TextBox = refl
@@ -58,7 +77,7 @@ doc_own doc_head.Script = refl
 doc_own doc_head.Src = refl
 doc_own doc_head.Div = refl
 
-pub expr_own : (head : ExprHead) → with_word expr_word EXPR_HEADS (expr_word head) ≡ Some head
+pub expr_own : (head : ExprHead) → with_word expr_word expr_heads (expr_word head) ≡ Some head
 expr_own expr_head.Let = refl
 expr_own expr_head.Set = refl
 expr_own expr_head.If = refl
@@ -108,14 +127,14 @@ expr_own (expr_head.Prim op.Insert) = refl
 expr_own (expr_head.Prim op.Listen) = refl
 expr_own (expr_head.Prim op.Ask) = refl
 
-pub handler_own : (head : HandlerHead) → with_word handler_word HANDLER_HEADS (handler_word head) ≡ Some head
+pub handler_own : (head : HandlerHead) → with_word handler_word handler_heads (handler_word head) ≡ Some head
 handler_own handler_head.Make = refl
 
-pub resp_own : (head : RespHead) → with_word resp_word RESP_HEADS (resp_word head) ≡ Some head
+pub resp_own : (head : RespHead) → with_word resp_word resp_heads (resp_word head) ≡ Some head
 resp_own resp_head.Page = refl
 resp_own resp_head.Script = refl
 resp_own resp_head.Data = refl
 
-pub cookie_own : (head : CookieHead) → with_word cookie_word COOKIE_HEADS (cookie_word head) ≡ Some head
+pub cookie_own : (head : CookieHead) → with_word cookie_word cookie_heads (cookie_word head) ≡ Some head
 cookie_own cookie_head.Put = refl
 cookie_own cookie_head.Drop = refl

@@ -1,4 +1,4 @@
--- Which words are variables and numbers, and what they stand for.
+-- Which words are variables, and which have to be numbers.
 use Rattle.std.specs.Prelude.{ℕ, ℤ, pos, negsuc, neg_ℤ, ◌^◌, Bool, false, ◌&&◌, ◌||◌, not, ◌==◌, nat_lt, if◌then◌else◌, Option, Some, None, List, [], ◌∷◌, codes}
 use Rattle.std.specs.Char.{is_ascii_digit}
 use Rattle.std.specs.Str.{bytes_eq}
@@ -22,17 +22,3 @@ begins_with_digit (b ∷ word) = is_ascii_digit b
 abbrev pub looks_like_number : List ℕ → Bool
 looks_like_number [] = false
 looks_like_number (b ∷ word) = is_ascii_digit b || (b == 45 && begins_with_digit word)
-
--- a number of 64 bits with its sign: below 2 ^ 63 where it is not negative, else above -1 - 2 ^ 63
-abbrev pub fits : ℤ → Bool
-fits (pos n) = nat_lt n (2 ^ 63)
-fits (negsuc n) = nat_lt n (2 ^ 63)
-
--- the value of digits, which a minus before them makes negative
-abbrev pub value_of : List ℕ → ℤ
-value_of [] = pos 0
-value_of (b ∷ digits) = if b == 45 then neg_ℤ (pos (digits_value 10 digits)) else pos (digits_value 10 (b ∷ digits))
-
--- the number of 64 bits whose canonical spelling the word is
-abbrev pub number_of : List ℕ → Option ℤ
-number_of word = if fits (value_of word) && bytes_eq (num_text (value_of word)) word then Some (value_of word) else None

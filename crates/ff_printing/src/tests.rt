@@ -1,8 +1,40 @@
-use crate::{NoMemory, print_pairs, print_shown};
-use ff_name::{Text, Url};
+use crate::{NoMemory, print_doc, print_expr, print_pairs, print_resp, print_shown};
+use ff_name::{Name, Text, Url};
 use ff_shared::SharedList;
-use ff_value::{Pair, Seen};
+use ff_tree::{Doc, Expr, Lit};
+use ff_value::{Pair, Resp, Seen};
 use std::alloc::{AllocError, Global};
+
+#[test]
+fn a_document_is_printed(rt: HostRuntime) -> Result<(), NoMemory> {
+    let Some(name) = Name::of(rt.alloc(), b"s")? else {
+        return Err(AllocError);
+    };
+    let mut out = Vec::new(rt.alloc());
+    print_doc(&Doc::Src(name, Url::Blank), &mut out)?;
+    assert!(rt;
+        out.as_slice() == b"(src s about:blank)".as_slice(),
+        "{out:?}"
+    );
+    Ok(())
+}
+
+#[test]
+fn an_expression_is_printed(rt: HostRuntime) -> Result<(), NoMemory> {
+    let mut out = Vec::new(rt.alloc());
+    print_expr(&Expr::Lit(Lit::Num(-7)), &mut out)?;
+    assert!(rt; out.as_slice() == b"-7".as_slice(), "{out:?}");
+    Ok(())
+}
+
+#[test]
+fn a_response_is_printed(rt: HostRuntime) -> Result<(), NoMemory> {
+    let none = SharedList::from_vec(rt.alloc(), Vec::new(rt.alloc()))?;
+    let mut out = Vec::new(rt.alloc());
+    print_resp(&Resp::Data(none, text(rt.alloc(), b"t")?), &mut out)?;
+    assert!(rt; out.as_slice() == b"(data () \"t\")".as_slice(), "{out:?}");
+    Ok(())
+}
 
 fn text(alloc: Global, bytes: &[u8]) -> Result<Text, NoMemory> {
     match Text::of(alloc, bytes)? {

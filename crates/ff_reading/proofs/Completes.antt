@@ -1,5 +1,5 @@
 -- What is spelled is read, with the value that is spelled.
-use Rattle.std.proofs.Common.{◌≡◌, ◌==◌, ◌||◌, ◌&&◌, ◌≤◌, ℕ, suc, ℤ, true, false, List, [], ◌∷◌, map, length, Some, None, codes, Ok, Err, cond, FitsSigned, refl, ap, ◌∙◌, arith}
+use Rattle.std.proofs.Common.{◌≡◌, ◌==◌, ◌||◌, ◌&&◌, ◌≤◌, ℕ, suc, ℤ, true, false, List, [], ◌∷◌, map, length, Some, codes, Ok, Err, cond, FitsSigned, refl, ap, ◌∙◌, arith}
 use Rattle.std.specs.Int.{w64}
 use Rattle.std.specs.Char.{is_ascii_digit}
 use Rattle.std.specs.Str.{bytes_eq}
@@ -9,10 +9,9 @@ use Rattle.ff_name.specs.Spelling.{IsName, begins_name, stands_in_name}
 use Rattle.std.specs.List.{list_all}
 use Rattle.ff_number.specs.Decimal.{num_text}
 use Rattle.ff_number.proofs.Texts.{BeginsNumber, digit, minus, BeginsNumber-num_text}
-use Rattle.ff_tree.specs.Ops.{word_of, arity_of}
+use Rattle.ff_tree.specs.Ops.{arity_of}
 use Rattle.ff_tree.specs.Spelled.{IsVar}
 use Rattle.ff_tree.specs.declared.op.Op.{Op}
-use Rattle.ff_tree.specs.declared.op.Op.TheVariants as op
 use Rattle.ff_tree.specs.declared.tree.Lit.TheVariants as lit
 use Rattle.ff_tree.specs.declared.tree.Doc.{Doc}
 use Rattle.ff_tree.specs.declared.tree.Doc.TheVariants as doc
@@ -30,9 +29,7 @@ use Rattle.ff_forms.specs.declared.limits.TheConstants.{MOST_HANDLERS}
 use Rattle.ff_forms.specs.Words.{is_literal, looks_like_number, begins_with_digit}
 use Rattle.ff_forms.specs.Grammar as sort
 use Rattle.ff_forms.specs.Grammar.{Value, reading, and_then, each_as, form_as, list_as, handler, doc_form, expr_form, resp_form, cookie_form, handler_form, word_as_expression, number_as, any}
-use Rattle.ff_forms.specs.Heads.{doc_own, expr_own, handler_own, resp_own, cookie_own, doc_word, expr_word, resp_word, cookie_word, handler_word}
-use Rattle.ff_name.specs.Words.{with_word}
-use Rattle.ff_forms.specs.declared.heads.TheConstants.{HANDLER_HEADS, DOC_HEADS, EXPR_HEADS, RESP_HEADS, COOKIE_HEADS}
+use Rattle.ff_forms.specs.Heads.{doc_own, expr_own, handler_own, resp_own, cookie_own, doc_word, expr_word, resp_word, cookie_word, handler_word, handler_heads, doc_heads, expr_heads, resp_heads, cookie_heads}
 use Rattle.ff_forms.specs.Spellings.{SpellsDoc, a_text, a_link, a_text_box, a_button, a_script, a_source, a_division, SpellsDocs, no_docs, one_more_doc, SpellsHandler, a_handler_list, SpellsHandlers, no_handlers, one_more_handler, SpellsExpr, a_null, a_true, a_false, a_number, a_text_literal, a_name_of_variable, a_let, a_set, an_if, a_while, a_do, an_and, an_or, a_function, a_call, a_tree, an_operation, SpellsExprs, no_exprs, one_more_expr, SpellsCookie, a_put, a_drop, SpellsCookies, no_cookies, one_more_cookie, SpellsResp, a_page, a_script_sent, some_data}
 use Rattle.ff_forms.specs.declared.heads.DocHead.{DocHead}
 use Rattle.ff_forms.specs.declared.heads.DocHead.TheVariants as doc_head
@@ -53,19 +50,19 @@ use Rattle.ff_name.proofs.Reading.{is_name-from}
 -- the lists that begin with the word of a form
 
 pub doc_list : (at h : Span) (head : DocHead) (parts : List Sexp) → reading (Parens at (Word h (doc_word head) ∷ parts)) sort.a_document ≡ form_as at.from (doc_form head) (map reading parts)
-doc_list at h head parts = reading-List at (Word h (doc_word head) ∷ parts) sort.a_document ∙ headed_list doc_word DOC_HEADS doc_form at.from h head parts (doc_own head)
+doc_list at h head parts = reading-List at (Word h (doc_word head) ∷ parts) sort.a_document ∙ headed_list doc_word doc_heads doc_form at.from h head parts (doc_own head)
 
 pub expr_list : (at h : Span) (head : ExprHead) (parts : List Sexp) → reading (Parens at (Word h (expr_word head) ∷ parts)) sort.an_expression ≡ form_as at.from (expr_form head) (map reading parts)
-expr_list at h head parts = reading-List at (Word h (expr_word head) ∷ parts) sort.an_expression ∙ headed_list expr_word EXPR_HEADS expr_form at.from h head parts (expr_own head)
+expr_list at h head parts = reading-List at (Word h (expr_word head) ∷ parts) sort.an_expression ∙ headed_list expr_word expr_heads expr_form at.from h head parts (expr_own head)
 
 pub resp_list : (at h : Span) (head : RespHead) (parts : List Sexp) → reading (Parens at (Word h (resp_word head) ∷ parts)) sort.a_response ≡ form_as at.from (resp_form head) (map reading parts)
-resp_list at h head parts = reading-List at (Word h (resp_word head) ∷ parts) sort.a_response ∙ headed_list resp_word RESP_HEADS resp_form at.from h head parts (resp_own head)
+resp_list at h head parts = reading-List at (Word h (resp_word head) ∷ parts) sort.a_response ∙ headed_list resp_word resp_heads resp_form at.from h head parts (resp_own head)
 
 pub cookie_list : (at h : Span) (head : CookieHead) (parts : List Sexp) → reading (Parens at (Word h (cookie_word head) ∷ parts)) sort.a_cookie ≡ form_as at.from (cookie_form head) (map reading parts)
-cookie_list at h head parts = reading-List at (Word h (cookie_word head) ∷ parts) sort.a_cookie ∙ headed_list cookie_word COOKIE_HEADS cookie_form at.from h head parts (cookie_own head)
+cookie_list at h head parts = reading-List at (Word h (cookie_word head) ∷ parts) sort.a_cookie ∙ headed_list cookie_word cookie_heads cookie_form at.from h head parts (cookie_own head)
 
 pub handler_list : (at h : Span) (head : HandlerHead) (parts : List Sexp) → reading (Parens at (Word h (handler_word head) ∷ parts)) sort.a_handler ≡ form_as at.from (handler_form head) (map reading parts)
-handler_list at h head parts = reading-List at (Word h (handler_word head) ∷ parts) sort.a_handler ∙ headed_list handler_word HANDLER_HEADS handler_form at.from h head parts (handler_own head)
+handler_list at h head parts = reading-List at (Word h (handler_word head) ∷ parts) sort.a_handler ∙ headed_list handler_word handler_heads handler_form at.from h head parts (handler_own head)
 
 -- words where an expression is wanted
 

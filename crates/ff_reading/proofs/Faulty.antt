@@ -1,27 +1,25 @@
 -- Where reading refuses, the item's first fault is the one that is answered.
-use Rattle.std.proofs.Common.{◌≡◌, ◌≢◌, ◌==◌, ◌&&◌, ◌-◌, ℕ, ℤ, suc, Bool, true, false, nat_le, List, [], ◌∷◌, ◌++◌, map, length, codes, Option, Some, None, ok_or, Result, Ok, Err, cond, FitsSigned, refl, sym, ap, subst, ◌∙◌, append_assoc, append-nil, arith}
+use Rattle.std.proofs.Common.{◌≡◌, ◌≢◌, ◌==◌, ◌-◌, ℕ, ℤ, suc, Bool, true, false, nat_le, List, [], ◌∷◌, ◌++◌, map, length, codes, Option, Some, None, ok_or, Result, Ok, Err, cond, FitsSigned, refl, sym, ap, subst, ◌∙◌, append_assoc, arith}
 use Rattle.std.specs.Int.{w64}
-use Rattle.std.specs.List.{list_any, AllByRecursion}
+use Rattle.std.specs.List.{list_any}
 use Rattle.std.specs.Str.{bytes_eq}
 use Rattle.std.proofs.lemmas.List.{length-map}
 use Rattle.std.proofs.lemmas.Bool.{and_parts, and_from}
 use Rattle.std.proofs.lemmas.Bool.Decides.{nat_tests}
 use Rattle.ff_number.specs.Decimal.{num_text}
-use Rattle.ff_name.specs.Spelling.{IsName}
-use Rattle.ff_name.specs.Address.{Spells}
 use Rattle.ff_name.specs.Reading.{is_name, read_url}
 use Rattle.ff_name.specs.declared.urls.Url.{Url}
 use Rattle.ff_name.proofs.Reading.{is_name-from, read_url_found}
 use Rattle.ff_tree.specs.Spelled.{IsVar, AreParams}
 use Rattle.ff_tree.specs.declared.tree.Lit.TheVariants as lit
-use Rattle.ff_tree.specs.declared.tree.Expr.{Expr}
 use Rattle.ff_tree.specs.declared.tree.Expr.TheVariants as expr
 use Rattle.ff_text.specs.declared.items.Span.{Span}
 use Rattle.ff_text.specs.declared.items.Sexp.{Sexp}
 use Rattle.ff_text.specs.declared.items.Sexp.TheVariants.{Word, Str, List as Parens}
 use Rattle.ff_text.proofs.Layers.{Each, items_ind}
-use Rattle.ff_forms.specs.Words.{is_variable, looks_like_number, number_of}
-use Rattle.ff_forms.specs.Heads.{doc_word, expr_word, resp_word, cookie_word, handler_word, doc_own, expr_own, handler_own, resp_own, cookie_own}
+use Rattle.ff_number.specs.Numbers.{read_num}
+use Rattle.ff_forms.specs.Words.{is_variable, looks_like_number}
+use Rattle.ff_forms.specs.Heads.{doc_word, expr_word, resp_word, cookie_word, handler_word, doc_own, expr_own, handler_own, resp_own, cookie_own, doc_heads, expr_heads, handler_heads, resp_heads, cookie_heads}
 use Rattle.ff_name.specs.Words.{with_word}
 use Rattle.ff_forms.specs.Grammar as sort
 use Rattle.ff_forms.specs.Grammar.{Sort, Value, Placed, Form, Further, nothing, further, any, Making, may_have, and_then, reading, each_as, parts_as, form_as, head_as, list_as, word_as, string_as, parts_in_list_as, parameter_as, parameters_as, one_parameter_as, number_as, name_as_expression, word_as_expression, doc_form, expr_form, resp_form, cookie_form, handler_form}
@@ -35,20 +33,19 @@ use Rattle.ff_forms.specs.declared.heads.ExprHead.{ExprHead}
 use Rattle.ff_forms.specs.declared.heads.RespHead.{RespHead}
 use Rattle.ff_forms.specs.declared.heads.CookieHead.{CookieHead}
 use Rattle.ff_forms.specs.declared.heads.HandlerHead.{HandlerHead}
-use Rattle.ff_forms.specs.declared.heads.TheConstants.{DOC_HEADS, EXPR_HEADS, HANDLER_HEADS, RESP_HEADS, COOKIE_HEADS}
 use Rattle.ff_reading.proofs.Layers.{reading-Word, reading-Str, reading-List}
 use Rattle.ff_reading.proofs.Numbering.{number_found}
 use Rattle.ff_reading.proofs.Given.{is_variable-from, parameter_item, parameters_after, none_before}
-use Rattle.ff_reading.proofs.Backs.{IsOne, is_word, is_string, is_list, item_cases, ok_of, err_of, IsVar-from, head_case, named_back}
+use Rattle.ff_reading.proofs.Backs.{IsOne, is_word, is_string, is_list, item_cases, ok_of, err_of, head_case, named_back}
 use Rattle.ff_reading.proofs.Sorts.{read_spelled}
 
 -- answers
 
 both : (t : Bool) → t ≡ true → t ≡ false → ⊥
-both true yes no = cc
-both false yes no = cc
+both true e f = cc
+both false e f = cc
 
-pub same_fault : {X : Type 0} (which found : SyntaxFault) → err_of {X} which ≡ Err found → which ≡ found
+pub same_fault : {X : Type 0} (which found : SyntaxFault) → err_of {X = X} which ≡ Err found → which ≡ found
 same_fault which found e = cc
 
 no_fault : {X : Type 0} (x : X) (found : SyntaxFault) → ok_of x ≡ Err found → ⊥
@@ -74,8 +71,8 @@ expression_fault : (at : Span) (word : List ℕ) (found : SyntaxFault) → word_
 expression_fault at word found e = null (bytes_eq word (codes "null")) e where
   by_look : (b : Bool) → looks_like_number word ≡ b → cond b (number_as at.from word) (name_as_expression at.from word) ≡ Err found → FirstFault sort.an_expression (Word at word) found
   by_look true looks f =
-      let none = missing (number_of word) (fault.Number at.from) found (through (ok_or (number_of word) (fault.Number at.from)) (λ n. expr.Lit (lit.Num n)) found f) in
-      let other : (n : ℤ) → FitsSigned w64 n → word ≢ num_text n = λ n fits same. absurd (some_none n (sym (number_found n fits) ∙ ap number_of (sym same) ∙ none.0)) in
+      let none = missing (read_num word) (fault.Number at.from) found (through (ok_or (read_num word) (fault.Number at.from)) (λ n. expr.Lit (lit.Num n)) found f) in
+      let other : (n : ℤ) → FitsSigned w64 n → word ≢ num_text n = λ n fits same. absurd (some_none n (sym (number_found n fits) ∙ ap read_num (sym same) ∙ none.0)) in
       subst (FirstFault sort.an_expression (Word at word)) none.1 (first.no_number at word looks other)
     where
       some_none : (n : ℤ) → Some n ≡ None → ⊥
@@ -159,16 +156,17 @@ Names item = (which : Sort) (found : SyntaxFault) → reading item which ≡ Err
 
 further_fault : (so_many : ℕ → Bool) (which : Sort) (parts : List Sexp) → Each Names parts → (found : SyntaxFault) → each_as which (map reading parts) ≡ Err found → FaultyPart [] (further so_many which) parts found
 further_fault so_many which [] each found e = cc
-further_fault so_many which (part ∷ parts) each found e = by_part (reading part which) refl e where
-  by_part : (r : Result (Value which) SyntaxFault) → reading part which ≡ r → and_then r (λ v. and_then (each_as which (map reading parts)) (λ vs. Ok (v ∷ vs))) ≡ Err found → FaultyPart [] (further so_many which) (part ∷ parts) found
-  by_part (Err this) is f = record {
+further_fault so_many which (part ∷ parts) each found e = by_part (reading part which) refl e (further_fault so_many which parts each.1 found) where
+  by_part : (r : Result (Value which) SyntaxFault) → reading part which ≡ r → and_then r (λ v. and_then (each_as which (map reading parts)) (λ vs. Ok (v ∷ vs))) ≡ Err found
+      → (each_as which (map reading parts) ≡ Err found → FaultyPart [] (further so_many which) parts found) → FaultyPart [] (further so_many which) (part ∷ parts) found
+  by_part (Err this) is f rest = record {
     wanted = which;
     part = part;
     reached = the_first_further so_many which part parts;
     at_fault = each.0 which found (is ∙ ap (λ (g : SyntaxFault). err_of g) (same_fault this found f));
   }
-  by_part (Ok value) is f =
-      let later = further_fault so_many which parts each.1 found (through (each_as which (map reading parts)) (λ vs. value ∷ vs) found f) in
+  by_part (Ok value) is f rest =
+      let later = rest (through (each_as which (map reading parts)) (λ vs. value ∷ vs) found f) in
       record {
         wanted = later.wanted;
         part = later.part;
@@ -195,22 +193,25 @@ parts_fault at [] nothing makes parts few each found e = cc
 parts_fault at [] (further so_many which) makes parts few each found e =
     further_fault so_many which parts each found (through (each_as which (map reading parts)) makes found e)
 parts_fault at (which ∷ sorts) more makes [] few each found e = absurd (none_left which sorts more few)
-parts_fault at (which ∷ sorts) more makes (part ∷ parts) few each found e = by_part (reading part which) refl e where
-  by_part : (r : Result (Value which) SyntaxFault) → reading part which ≡ r → and_then r (λ v. parts_as at sorts more (makes v) (map reading parts)) ≡ Err found → FaultyPart (which ∷ sorts) more (part ∷ parts) found
-  by_part (Err this) is f = record {
-    wanted = which;
-    part = part;
-    reached = the_first which sorts more part parts;
-    at_fault = each.0 which found (is ∙ ap (λ (g : SyntaxFault). err_of g) (same_fault this found f));
-  }
-  by_part (Ok value) is f =
-      let later = parts_fault at sorts more (makes value) parts (one_less which sorts more (length parts) few) each.1 found f in
-      record {
-        wanted = later.wanted;
-        part = later.part;
-        reached = a_later which sorts more part parts value later.wanted later.part (read_spelled which part value is) later.reached;
-        at_fault = later.at_fault;
-      }
+parts_fault at (which ∷ sorts) more makes (part ∷ parts) few each found e =
+    by_part (reading part which) refl e (λ value. parts_fault at sorts more (makes value) parts (one_less which sorts more (length parts) few) each.1 found)
+  where
+    by_part : (r : Result (Value which) SyntaxFault) → reading part which ≡ r → and_then r (λ v. parts_as at sorts more (makes v) (map reading parts)) ≡ Err found
+        → ((value : Value which) → parts_as at sorts more (makes value) (map reading parts) ≡ Err found → FaultyPart sorts more parts found) → FaultyPart (which ∷ sorts) more (part ∷ parts) found
+    by_part (Err this) is f rest = record {
+      wanted = which;
+      part = part;
+      reached = the_first which sorts more part parts;
+      at_fault = each.0 which found (is ∙ ap (λ (g : SyntaxFault). err_of g) (same_fault this found f));
+    }
+    by_part (Ok value) is f rest =
+        let later = rest value f in
+        record {
+          wanted = later.wanted;
+          part = later.part;
+          reached = a_later which sorts more part parts value later.wanted later.part (read_spelled which part value is) later.reached;
+          at_fault = later.at_fault;
+        }
 
 -- lists that begin with the word of a form
 
@@ -236,7 +237,7 @@ record IsTable (which : Sort) (H : Type 0) (word_at : H → List ℕ) (heads : L
 
 head_fault : {H : Type 0} (which : Sort) (word_at : H → List ℕ) (heads : List H) (sorts_at : H → List Sort) (more_at : H → Further) → IsTable which H word_at heads sorts_at more_at
     → (at : Span) (item : Sexp) → IsOne item → (parts : List Sexp) → Names item → (found : SyntaxFault) → head_as word_at heads (reading item) ≡ Err found → FirstFault which (Parens at (item ∷ parts)) found
-head_fault which word_at heads sorts_at more_at table at _ (is_word h word) parts names found e =
+head_fault {H} which word_at heads sorts_at more_at table at _ (is_word h word) parts names found e =
     let none = missing (with_word word_at heads word) (fault.Head h.from) found
     (sym (ap (λ (r : Result Placed SyntaxFault). and_then r (λ p. ok_or (with_word word_at heads p.word) (fault.Head p.from))) (reading-Word h word sort.a_head)) ∙ e) in
     let other : (sorts : List Sort) (more : Further) → HasForm which word sorts more → ⊥ = λ sorts more form.
@@ -301,22 +302,28 @@ params_after before names at word words params var other =
 parameters_fault : (at : Span) (before : List Sexp) (names : List (List ℕ)) → AreWords before names → AreParams names → (parts : List Sexp) → Each Names parts → (found : SyntaxFault)
     → parameters_as names (map reading parts) ≡ Err found → FirstFault sort.parameters (Parens at (before ++ parts)) found
 parameters_fault at before names words params [] each found e = cc
-parameters_fault at before names words params (part ∷ parts) each found e = by_part (reading part sort.a_parameter) refl e where
-  answer : Result Placed SyntaxFault → Result (List (List ℕ)) SyntaxFault
-  answer r = and_then (and_then r (λ p. cond (list_any (bytes_eq p.word) names) (Err (fault.Name p.from)) (Ok p.word))) (λ x. parameters_as (names ++ x ∷ []) (map reading parts))
+parameters_fault at before names words params (part ∷ parts) each found e =
+    by_part (reading part sort.a_parameter) refl e (λ p word are differ. parameters_fault at (before ++ Word p word ∷ []) (names ++ word ∷ []) are differ parts each.1 found)
+  where
+    answer : Result Placed SyntaxFault → Result (List (List ℕ)) SyntaxFault
+    answer r = and_then (and_then r (λ p. cond (list_any (bytes_eq p.word) names) (Err (fault.Name p.from)) (Ok p.word))) (λ x. parameters_as (names ++ x ∷ []) (map reading parts))
 
-  by_part : (r : Result Placed SyntaxFault) → reading part sort.a_parameter ≡ r → answer r ≡ Err found → FirstFault sort.parameters (Parens at (before ++ part ∷ parts)) found
-  by_part (Err this) is f =
-      first.a_wrong_parameter at before names part parts found words params (each.0 sort.a_parameter found (is ∙ ap (λ (g : SyntaxFault). err_of g) (same_fault this found f)))
-  by_part (Ok placed) is f = placed_one part placed (read_spelled sort.a_parameter part placed is) f where
-    placed_one : (item : Sexp) (p : Placed) → first.SpellsPlaced IsVar item p → answer (Ok p) ≡ Err found → FirstFault sort.parameters (Parens at (before ++ item ∷ parts)) found
-    placed_one _ _ (first.a_placed_word p word var) g = by_test (list_any (bytes_eq word) names) refl g where
-      by_test : (t : Bool) → list_any (bytes_eq word) names ≡ t → and_then (cond t (Err (fault.Name p.from)) (ok_of word)) (λ x. parameters_as (names ++ x ∷ []) (map reading parts)) ≡ Err found
-          → FirstFault sort.parameters (Parens at (before ++ Word p word ∷ parts)) found
-      by_test true again k = subst (FirstFault sort.parameters (Parens at (before ++ Word p word ∷ parts))) (same_fault (fault.Name p.from) found k) (first.a_parameter_again at p before names word parts words params var again)
-      by_test false other k =
-          subst (λ (ps : List Sexp). FirstFault sort.parameters (Parens at ps) found) (append_assoc before (Word p word ∷ []) parts)
-          (parameters_fault at (before ++ Word p word ∷ []) (names ++ word ∷ []) (words_after before names p word words) (params_after before names p word words params var other) parts each.1 found k)
+    Later : Type 0
+    Later = (p : Span) (word : List ℕ) → AreWords (before ++ Word p word ∷ []) (names ++ word ∷ []) → AreParams (names ++ word ∷ []) → parameters_as (names ++ word ∷ []) (map reading parts) ≡ Err found
+        → FirstFault sort.parameters (Parens at ((before ++ Word p word ∷ []) ++ parts)) found
+
+    by_part : (r : Result Placed SyntaxFault) → reading part sort.a_parameter ≡ r → answer r ≡ Err found → Later → FirstFault sort.parameters (Parens at (before ++ part ∷ parts)) found
+    by_part (Err this) is f later =
+        first.a_wrong_parameter at before names part parts found words params (each.0 sort.a_parameter found (is ∙ ap (λ (g : SyntaxFault). err_of g) (same_fault this found f)))
+    by_part (Ok placed) is f later = placed_one part placed (read_spelled sort.a_parameter part placed is) f where
+      placed_one : (item : Sexp) (p : Placed) → first.SpellsPlaced IsVar item p → answer (Ok p) ≡ Err found → FirstFault sort.parameters (Parens at (before ++ item ∷ parts)) found
+      placed_one _ _ (first.a_placed_word p word var) g = by_test (list_any (bytes_eq word) names) refl g where
+        by_test : (t : Bool) → list_any (bytes_eq word) names ≡ t → and_then (cond t (Err (fault.Name p.from)) (ok_of word)) (λ x. parameters_as (names ++ x ∷ []) (map reading parts)) ≡ Err found
+            → FirstFault sort.parameters (Parens at (before ++ Word p word ∷ parts)) found
+        by_test true again k = subst (FirstFault sort.parameters (Parens at (before ++ Word p word ∷ parts))) (same_fault (fault.Name p.from) found k) (first.a_parameter_again at p before names word parts words params var again)
+        by_test false other k =
+            subst (λ (ps : List Sexp). FirstFault sort.parameters (Parens at ps) found) (append_assoc before (Word p word ∷ []) parts)
+            (later p word (words_after before names p word words) (params_after before names p word words params var other) k)
 
 one_parameter_fault : (at : Span) (parts : List Sexp) → Each Names parts → (found : SyntaxFault) → one_parameter_as at.from (map reading parts) ≡ Err found → FirstFault sort.one_parameter (Parens at parts) found
 one_parameter_fault at [] each found e =
@@ -329,15 +336,15 @@ one_parameter_fault at (part ∷ part' ∷ parts) each found e =
 
 in_list_fault : (which : Sort) (at : Span) (parts : List Sexp) → Each Names parts → (found : SyntaxFault) → parts_in_list_as at.from (map reading parts) which ≡ Err found → FirstFault which (Parens at parts) found
 in_list_fault sort.a_document at parts each found e =
-    list_fault sort.a_document doc_word DOC_HEADS doc_form (record { listed = refl; found = doc_own; forms = of_documents; only = doc_only }) at parts each found e
+    list_fault sort.a_document doc_word doc_heads doc_form (record { listed = refl; found = doc_own; forms = of_documents; only = doc_only }) at parts each found e
 in_list_fault sort.an_expression at parts each found e =
-    list_fault sort.an_expression expr_word EXPR_HEADS expr_form (record { listed = refl; found = expr_own; forms = of_expressions; only = expr_only }) at parts each found e
+    list_fault sort.an_expression expr_word expr_heads expr_form (record { listed = refl; found = expr_own; forms = of_expressions; only = expr_only }) at parts each found e
 in_list_fault sort.a_response at parts each found e =
-    list_fault sort.a_response resp_word RESP_HEADS resp_form (record { listed = refl; found = resp_own; forms = of_responses; only = resp_only }) at parts each found e
+    list_fault sort.a_response resp_word resp_heads resp_form (record { listed = refl; found = resp_own; forms = of_responses; only = resp_only }) at parts each found e
 in_list_fault sort.a_cookie at parts each found e =
-    list_fault sort.a_cookie cookie_word COOKIE_HEADS cookie_form (record { listed = refl; found = cookie_own; forms = of_cookies; only = cookie_only }) at parts each found e
+    list_fault sort.a_cookie cookie_word cookie_heads cookie_form (record { listed = refl; found = cookie_own; forms = of_cookies; only = cookie_only }) at parts each found e
 in_list_fault sort.a_handler at parts each found e =
-    list_fault sort.a_handler handler_word HANDLER_HEADS handler_form (record { listed = refl; found = handler_own; forms = of_handlers; only = handler_only }) at parts each found e
+    list_fault sort.a_handler handler_word handler_heads handler_form (record { listed = refl; found = handler_own; forms = of_handlers; only = handler_only }) at parts each found e
 in_list_fault sort.cookies at parts each found e =
     let it = further_fault any sort.a_cookie parts each found e in
     first.a_wrong_cookie at parts it.wanted it.part found it.reached it.at_fault

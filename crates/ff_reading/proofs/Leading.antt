@@ -11,7 +11,7 @@ use Rattle.ff_forms.specs.declared.fault.SyntaxFault.{SyntaxFault}
 use Rattle.ff_forms.specs.declared.fault.SyntaxFault.TheVariants as fault
 use Rattle.ff_reading.proofs.Layers.{word_layer, string_layer, list_layer}
 
-abbrev by_table : {H : Type 0} → (H → List ℕ) → List H → Result Placed SyntaxFault → Result H SyntaxFault
+abbrev pub by_table : {H : Type 0} → (H → List ℕ) → List H → Result Placed SyntaxFault → Result H SyntaxFault
 by_table word_at heads r = and_then r (λ placed. ok_or (with_word word_at heads placed.word) (fault.Head placed.from))
 
 pub head_word : {H : Type 0} (word_at : H → List ℕ) (heads : List H) (first : Sexp) (at : Span) (word bytes : List ℕ) (found : Option H) → first ≡ sexp.Word at word → bytes ≡ word → found ≡ with_word word_at heads bytes
@@ -25,7 +25,7 @@ head_string word_at heads first at text e = ap (by_table word_at heads) (sym (st
 pub head_list : {H : Type 0} (word_at : H → List ℕ) (heads : List H) (first : Sexp) (at : Span) (parts : List Sexp) → first ≡ sexp.List at parts → Err (fault.Head at.from) ≡ head_as word_at heads (reading first)
 head_list word_at heads first at parts e = ap (by_table word_at heads) (sym (list_layer first at parts a_head e))
 
-abbrev after_names : List (List ℕ) → Result Placed SyntaxFault → Result (List ℕ) SyntaxFault
+abbrev pub after_names : List (List ℕ) → Result Placed SyntaxFault → Result (List ℕ) SyntaxFault
 after_names before r = and_then r (λ x. cond (list_any (bytes_eq x.word) before) (Err (fault.Name x.from)) (Ok x.word))
 
 pub parameter_word : (before : List (List ℕ)) (part : Sexp) (at : Span) (word bytes : List ℕ) → part ≡ sexp.Word at word → bytes ≡ word → parameter_as before (word_as at.from bytes) ≡ parameter_as before (reading part)

@@ -1,8 +1,6 @@
 -- Which words are read as names and as variables.
-use Rattle.std.proofs.Common.{◌≡◌, ◌≤◌, ℕ, Bool, true, false, List, length, Ok, Err, refl, arith, nat_le}
-use Rattle.std.proofs.lemmas.Bool.{and_parts, and_from}
-use Rattle.std.proofs.lemmas.Bool.Decides.{nat_tests}
-use Rattle.ff_name.specs.Spelling.{IsName, is_named}
+use Rattle.std.proofs.Common.{◌≡◌, ℕ, Bool, true, false, List, Ok, Err, refl}
+use Rattle.ff_name.specs.Spelling.{IsName}
 use Rattle.ff_name.specs.Reading.{is_name}
 use Rattle.ff_name.proofs.Reading.{is_name-from, IsName-from}
 use Rattle.ff_forms.specs.Grammar.{word_as, a_name}

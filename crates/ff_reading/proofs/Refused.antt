@@ -1,10 +1,9 @@
 -- What has a first fault is refused, with that fault.
-use Rattle.std.proofs.Common.{◌≡◌, ◌≢◌, ◌==◌, ◌||◌, ℕ, ℤ, Bool, true, false, List, [], ◌∷◌, ◌++◌, map, length, codes, Option, Some, None, ok_or, Result, Ok, Err, cond, FitsSigned, refl, sym, ap, subst, ◌∙◌, arith}
+use Rattle.std.proofs.Common.{◌≡◌, ◌≢◌, ◌||◌, ℕ, ℤ, Bool, true, false, List, [], ◌∷◌, ◌++◌, map, length, codes, Option, Some, None, ok_or, Result, Ok, Err, cond, FitsSigned, refl, sym, ap, subst, ◌∙◌}
 use Rattle.std.specs.Int.{w64}
 use Rattle.std.specs.List.{list_any}
 use Rattle.std.specs.Str.{bytes_eq}
 use Rattle.std.proofs.lemmas.List.{length-map}
-use Rattle.std.proofs.lemmas.Bool.Decides.{nat_tests}
 use Rattle.std.proofs.lemmas.Slice.Eq.{bytes_eq-Decides}
 use Rattle.ff_number.specs.Decimal.{num_text}
 use Rattle.ff_name.specs.Spelling.{IsName}
@@ -12,14 +11,14 @@ use Rattle.ff_name.specs.Address.{Spells}
 use Rattle.ff_name.specs.Reading.{is_name, read_url}
 use Rattle.ff_name.specs.declared.urls.Url.{Url}
 use Rattle.ff_name.proofs.Reading.{IsName-from, read_url_spelled}
-use Rattle.ff_tree.specs.Spelled.{IsVar}
 use Rattle.ff_tree.specs.declared.tree.Lit.TheVariants as lit
 use Rattle.ff_tree.specs.declared.tree.Expr.TheVariants as expr
 use Rattle.ff_text.specs.declared.items.Span.{Span}
 use Rattle.ff_text.specs.declared.items.Sexp.{Sexp}
-use Rattle.ff_text.specs.declared.items.Sexp.TheVariants.{Word, Str, List as Parens}
-use Rattle.ff_forms.specs.Words.{is_literal, is_variable, looks_like_number, number_of}
-use Rattle.ff_forms.specs.Heads.{doc_word, expr_word, handler_word, resp_word, cookie_word}
+use Rattle.ff_text.specs.declared.items.Sexp.TheVariants.{Word, List as Parens}
+use Rattle.ff_number.specs.Numbers.{read_num}
+use Rattle.ff_forms.specs.Words.{is_literal, is_variable, looks_like_number}
+use Rattle.ff_forms.specs.Heads.{doc_word, expr_word, handler_word, resp_word, cookie_word, doc_heads, expr_heads, handler_heads, resp_heads, cookie_heads}
 use Rattle.ff_name.specs.Words.{with_word}
 use Rattle.ff_forms.specs.Grammar as sort
 use Rattle.ff_forms.specs.Grammar.{Sort, Value, Placed, Form, Further, nothing, further, Making, may_have, and_then, reading, each_as, parts_as, form_as, list_as, word_as, string_as, parts_in_list_as, parameters_as, one_parameter_as, number_as, name_as_expression, word_as_expression, doc_form, expr_form, resp_form, cookie_form, handler_form}
@@ -27,67 +26,66 @@ use Rattle.ff_forms.specs.Faults as first
 use Rattle.ff_forms.specs.Faults.{word_may_be, string_may_be, list_may_be, misplaced, has_forms, HasForm, of_documents, of_expressions, of_handlers, of_responses, of_cookies, Reached, the_first, a_later, the_first_further, a_later_further, FirstFault}
 use Rattle.ff_forms.specs.declared.fault.SyntaxFault.{SyntaxFault}
 use Rattle.ff_forms.specs.declared.fault.SyntaxFault.TheVariants as fault
-use Rattle.ff_forms.specs.declared.heads.TheConstants.{DOC_HEADS, EXPR_HEADS, HANDLER_HEADS, RESP_HEADS, COOKIE_HEADS}
 use Rattle.ff_reading.proofs.Layers.{reading-Word, reading-Str, reading-List}
 use Rattle.ff_reading.proofs.Numbering.{number_spelled}
-use Rattle.ff_reading.proofs.Given.{or_parts, parameter_item, parameters_after, none_before}
+use Rattle.ff_reading.proofs.Given.{parameter_item, parameters_after, none_before}
 use Rattle.ff_reading.proofs.Completes.{after_literals, doc_list, expr_list, handler_list, resp_list, cookie_list}
 use Rattle.ff_reading.proofs.Backs.{IsVar-from, err_of, find_passes}
 use Rattle.ff_reading.proofs.Sorts.{spelled_read}
 
 fails : (t : Bool) → (t ≡ true → ⊥) → t ≡ false
-fails true no = absurd (no refl)
-fails false no = refl
+fails true isnt = absurd (isnt refl)
+fails false isnt = refl
 
 -- words
 
 pub word_wrong : (which : Sort) (at : ℕ) (word : List ℕ) → word_may_be which ≡ false → word_as at word which ≡ Err (misplaced which at)
-word_wrong sort.a_name at word no = cc
-word_wrong sort.a_variable at word no = cc
-word_wrong sort.a_parameter at word no = cc
-word_wrong sort.an_address at word no = cc
-word_wrong sort.an_expression at word no = cc
-word_wrong sort.a_head at word no = cc
-word_wrong sort.a_string at word no = refl
-word_wrong sort.a_document at word no = refl
-word_wrong sort.a_handler at word no = refl
-word_wrong sort.a_response at word no = refl
-word_wrong sort.a_cookie at word no = refl
-word_wrong sort.cookies at word no = refl
-word_wrong sort.parameters at word no = refl
-word_wrong sort.one_parameter at word no = refl
+word_wrong sort.a_name at word off = cc
+word_wrong sort.a_variable at word off = cc
+word_wrong sort.a_parameter at word off = cc
+word_wrong sort.an_address at word off = cc
+word_wrong sort.an_expression at word off = cc
+word_wrong sort.a_head at word off = cc
+word_wrong sort.a_string at word off = refl
+word_wrong sort.a_document at word off = refl
+word_wrong sort.a_handler at word off = refl
+word_wrong sort.a_response at word off = refl
+word_wrong sort.a_cookie at word off = refl
+word_wrong sort.cookies at word off = refl
+word_wrong sort.parameters at word off = refl
+word_wrong sort.one_parameter at word off = refl
 
 pub string_wrong : (which : Sort) (at : ℕ) (text : List ℕ) → string_may_be which ≡ false → string_as at text which ≡ Err (misplaced which at)
-string_wrong sort.a_string at text no = cc
-string_wrong sort.an_expression at text no = cc
-string_wrong sort.a_name at text no = refl
-string_wrong sort.a_variable at text no = refl
-string_wrong sort.a_parameter at text no = refl
-string_wrong sort.an_address at text no = refl
-string_wrong sort.a_head at text no = refl
-string_wrong sort.a_document at text no = refl
-string_wrong sort.a_handler at text no = refl
-string_wrong sort.a_response at text no = refl
-string_wrong sort.a_cookie at text no = refl
-string_wrong sort.cookies at text no = refl
-string_wrong sort.parameters at text no = refl
-string_wrong sort.one_parameter at text no = refl
+string_wrong sort.a_string at text off = cc
+string_wrong sort.an_expression at text off = cc
+string_wrong sort.a_name at text off = refl
+string_wrong sort.a_variable at text off = refl
+string_wrong sort.a_parameter at text off = refl
+string_wrong sort.an_address at text off = refl
+string_wrong sort.a_head at text off = refl
+string_wrong sort.a_document at text off = refl
+string_wrong sort.a_handler at text off = refl
+string_wrong sort.a_response at text off = refl
+string_wrong sort.a_cookie at text off = refl
+string_wrong sort.cookies at text off = refl
+string_wrong sort.parameters at text off = refl
+string_wrong sort.one_parameter at text off = refl
 
 pub list_wrong : (which : Sort) (at : ℕ) (parts : List Sexp) → list_may_be which ≡ false → parts_in_list_as at (map reading parts) which ≡ Err (misplaced which at)
-list_wrong sort.an_expression at parts no = cc
-list_wrong sort.a_document at parts no = cc
-list_wrong sort.a_handler at parts no = cc
-list_wrong sort.a_response at parts no = cc
-list_wrong sort.a_cookie at parts no = cc
-list_wrong sort.cookies at parts no = cc
-list_wrong sort.parameters at parts no = cc
-list_wrong sort.one_parameter at parts no = cc
-list_wrong sort.a_name at parts no = refl
-list_wrong sort.a_variable at parts no = refl
-list_wrong sort.a_parameter at parts no = refl
-list_wrong sort.an_address at parts no = refl
-list_wrong sort.a_string at parts no = refl
-list_wrong sort.a_head at parts no = refl
+list_wrong sort.an_expression at parts off = cc
+list_wrong sort.a_document at parts off = cc
+list_wrong sort.a_handler at parts off = cc
+list_wrong sort.a_response at parts off = cc
+list_wrong sort.a_cookie at parts off = cc
+list_wrong sort.cookies at parts off = cc
+list_wrong sort.parameters at parts off = cc
+list_wrong sort.one_parameter at parts off = cc
+list_wrong sort.a_name at parts off = refl
+list_wrong sort.a_variable at parts off = refl
+list_wrong sort.a_parameter at parts off = refl
+list_wrong sort.an_address at parts off = refl
+list_wrong sort.a_string at parts off = refl
+list_wrong sort.a_head at parts off = refl
 
 -- a literal is a name and no number
 literal_word : (word : List ℕ) → is_literal word ≡ true → (is_name word ≡ true) × (looks_like_number word ≡ false)
@@ -107,12 +105,12 @@ no_number_word : (at : ℕ) (word : List ℕ) → looks_like_number word ≡ tru
 no_number_word at word looks other =
     after_literals at word (fails (is_literal word) (λ e. looks_not looks (literal_word word e).1))
     ∙ ap (λ t. cond t (number_as at word) (name_as_expression at word)) looks
-    ∙ ap (λ (o : Option ℤ). and_then (ok_or o (fault.Number at)) (λ n. Ok (expr.Lit (lit.Num n)))) (none (number_of word) refl)
+    ∙ ap (λ (o : Option ℤ). and_then (ok_or o (fault.Number at)) (λ n. Ok (expr.Lit (lit.Num n)))) (none (read_num word) refl)
   where
     looks_not : looks_like_number word ≡ true → looks_like_number word ≡ false → ⊥
     looks_not e f = cc
 
-    none : (o : Option ℤ) → number_of word ≡ o → number_of word ≡ None
+    none : (o : Option ℤ) → read_num word ≡ o → read_num word ≡ None
     none (Some n) e = let spelled = number_spelled word n e in absurd (other n spelled.0 spelled.1)
     none None e = e
 
@@ -168,11 +166,11 @@ empty_refused sort.parameters at has = cc
 empty_refused sort.one_parameter at has = cc
 
 no_head_refused : (which : Sort) (at : ℕ) (item : Sexp) (parts : List Sexp) (found : SyntaxFault) → has_forms which ≡ true → reading item sort.a_head ≡ Err found → parts_in_list_as at (map reading (item ∷ parts)) which ≡ Err found
-no_head_refused sort.an_expression at item parts found has e = first_refused expr_word EXPR_HEADS expr_form at item parts found e
-no_head_refused sort.a_document at item parts found has e = first_refused doc_word DOC_HEADS doc_form at item parts found e
-no_head_refused sort.a_handler at item parts found has e = first_refused handler_word HANDLER_HEADS handler_form at item parts found e
-no_head_refused sort.a_response at item parts found has e = first_refused resp_word RESP_HEADS resp_form at item parts found e
-no_head_refused sort.a_cookie at item parts found has e = first_refused cookie_word COOKIE_HEADS cookie_form at item parts found e
+no_head_refused sort.an_expression at item parts found has e = first_refused expr_word expr_heads expr_form at item parts found e
+no_head_refused sort.a_document at item parts found has e = first_refused doc_word doc_heads doc_form at item parts found e
+no_head_refused sort.a_handler at item parts found has e = first_refused handler_word handler_heads handler_form at item parts found e
+no_head_refused sort.a_response at item parts found has e = first_refused resp_word resp_heads resp_form at item parts found e
+no_head_refused sort.a_cookie at item parts found has e = first_refused cookie_word cookie_heads cookie_form at item parts found e
 no_head_refused sort.a_name at item parts found has e = cc
 no_head_refused sort.a_variable at item parts found has e = cc
 no_head_refused sort.a_parameter at item parts found has e = cc
@@ -185,11 +183,11 @@ no_head_refused sort.one_parameter at item parts found has e = cc
 
 wrong_head_refused : (which : Sort) (at : ℕ) (h : Span) (word : List ℕ) (parts : List Sexp) → has_forms which ≡ true → ((sorts : List Sort) (more : Further) → HasForm which word sorts more → ⊥)
     → parts_in_list_as at (map reading (Word h word ∷ parts)) which ≡ Err (fault.Head h.from)
-wrong_head_refused sort.an_expression at h word parts has other = head_refused sort.an_expression expr_word EXPR_HEADS expr_form of_expressions at h word parts other
-wrong_head_refused sort.a_document at h word parts has other = head_refused sort.a_document doc_word DOC_HEADS doc_form of_documents at h word parts other
-wrong_head_refused sort.a_handler at h word parts has other = head_refused sort.a_handler handler_word HANDLER_HEADS handler_form of_handlers at h word parts other
-wrong_head_refused sort.a_response at h word parts has other = head_refused sort.a_response resp_word RESP_HEADS resp_form of_responses at h word parts other
-wrong_head_refused sort.a_cookie at h word parts has other = head_refused sort.a_cookie cookie_word COOKIE_HEADS cookie_form of_cookies at h word parts other
+wrong_head_refused sort.an_expression at h word parts has other = head_refused sort.an_expression expr_word expr_heads expr_form of_expressions at h word parts other
+wrong_head_refused sort.a_document at h word parts has other = head_refused sort.a_document doc_word doc_heads doc_form of_documents at h word parts other
+wrong_head_refused sort.a_handler at h word parts has other = head_refused sort.a_handler handler_word handler_heads handler_form of_handlers at h word parts other
+wrong_head_refused sort.a_response at h word parts has other = head_refused sort.a_response resp_word resp_heads resp_form of_responses at h word parts other
+wrong_head_refused sort.a_cookie at h word parts has other = head_refused sort.a_cookie cookie_word cookie_heads cookie_form of_cookies at h word parts other
 wrong_head_refused sort.a_name at h word parts has other = cc
 wrong_head_refused sort.a_variable at h word parts has other = cc
 wrong_head_refused sort.a_parameter at h word parts has other = cc
@@ -203,7 +201,7 @@ wrong_head_refused sort.one_parameter at h word parts has other = cc
 -- forms
 
 count_refused : {X : Type 0} (at : ℕ) (f : Form X) (parts : List Sexp) → may_have f.sorts f.more (length parts) ≡ false → form_as at f (map reading parts) ≡ Err (fault.Count at)
-count_refused at f parts no = rw (length-map parts reading) (rw no refl)
+count_refused at f parts off = rw (length-map parts reading) (rw off refl)
 
 further_refused : (so_many : ℕ → Bool) (which : Sort) (parts : List Sexp) (wanted : Sort) (part : Sexp) (found : SyntaxFault) → Reached [] (further so_many which) parts wanted part → reading part wanted ≡ Err found
     → each_as which (map reading parts) ≡ Err found
@@ -225,19 +223,28 @@ parts_refused at _ _ makes _ _ _ found (the_first_further so_many which part par
 parts_refused at _ _ makes _ _ _ found (a_later_further so_many which part parts value wanted later spells reached) e =
     ap (λ (r : Result (List (Value which)) SyntaxFault). and_then r (λ vs. Ok (makes vs))) (further_refused so_many which (part ∷ parts) wanted later found (a_later_further so_many which part parts value wanted later spells reached) e)
 
--- an answer of a form is that of the list that begins with its word
-form_list : (which : Sort) (at h : Span) (word : List ℕ) (sorts : List Sort) (more : Further) (parts : List Sexp) (found : SyntaxFault) → HasForm which word sorts more
-    → ({X : Type 0} (f : Form X) → f.sorts ≡ sorts → f.more ≡ more → form_as at.from f (map reading parts) ≡ Err found) → reading (Parens at (Word h word ∷ parts)) which ≡ Err found
-form_list _ at h _ _ _ parts found (of_documents head) refused = doc_list at h head parts ∙ refused (doc_form head) refl refl
-form_list _ at h _ _ _ parts found (of_expressions head) refused = expr_list at h head parts ∙ refused (expr_form head) refl refl
-form_list _ at h _ _ _ parts found (of_responses head) refused = resp_list at h head parts ∙ refused (resp_form head) refl refl
-form_list _ at h _ _ _ parts found (of_cookies head) refused = cookie_list at h head parts ∙ refused (cookie_form head) refl refl
-form_list _ at h _ _ _ parts found (of_handlers head) refused = handler_list at h head parts ∙ refused (handler_form head) refl refl
-
-part_refused : {X : Type 0} (at : ℕ) (f : Form X) (sorts : List Sort) (more : Further) (parts : List Sexp) (wanted : Sort) (part : Sexp) (found : SyntaxFault) → f.sorts ≡ sorts → f.more ≡ more
-    → may_have sorts more (length parts) ≡ true → Reached sorts more parts wanted part → reading part wanted ≡ Err found → form_as at f (map reading parts) ≡ Err found
-part_refused at f _ _ parts wanted part found refl refl few reached e =
+part_refused : {X : Type 0} (at : ℕ) (f : Form X) (parts : List Sexp) (wanted : Sort) (part : Sexp) (found : SyntaxFault) → may_have f.sorts f.more (length parts) ≡ true
+    → Reached f.sorts f.more parts wanted part → reading part wanted ≡ Err found → form_as at f (map reading parts) ≡ Err found
+part_refused at f parts wanted part found few reached e =
     rw (length-map parts reading) (rw few (parts_refused at f.sorts f.more f.makes parts wanted part found reached e))
+
+-- the list that begins with the word of a form
+
+count_in_list : (which : Sort) (at h : Span) (word : List ℕ) (sorts : List Sort) (more : Further) (parts : List Sexp) → HasForm which word sorts more → may_have sorts more (length parts) ≡ false
+    → reading (Parens at (Word h word ∷ parts)) which ≡ Err (fault.Count at.from)
+count_in_list _ at h _ _ _ parts (of_documents head) off = doc_list at h head parts ∙ count_refused at.from (doc_form head) parts off
+count_in_list _ at h _ _ _ parts (of_expressions head) off = expr_list at h head parts ∙ count_refused at.from (expr_form head) parts off
+count_in_list _ at h _ _ _ parts (of_responses head) off = resp_list at h head parts ∙ count_refused at.from (resp_form head) parts off
+count_in_list _ at h _ _ _ parts (of_cookies head) off = cookie_list at h head parts ∙ count_refused at.from (cookie_form head) parts off
+count_in_list _ at h _ _ _ parts (of_handlers head) off = handler_list at h head parts ∙ count_refused at.from (handler_form head) parts off
+
+part_in_list : (which : Sort) (at h : Span) (word : List ℕ) (sorts : List Sort) (more : Further) (parts : List Sexp) (wanted : Sort) (part : Sexp) (found : SyntaxFault) → HasForm which word sorts more
+    → may_have sorts more (length parts) ≡ true → Reached sorts more parts wanted part → reading part wanted ≡ Err found → reading (Parens at (Word h word ∷ parts)) which ≡ Err found
+part_in_list _ at h _ _ _ parts wanted part found (of_documents head) few reached e = doc_list at h head parts ∙ part_refused at.from (doc_form head) parts wanted part found few reached e
+part_in_list _ at h _ _ _ parts wanted part found (of_expressions head) few reached e = expr_list at h head parts ∙ part_refused at.from (expr_form head) parts wanted part found few reached e
+part_in_list _ at h _ _ _ parts wanted part found (of_responses head) few reached e = resp_list at h head parts ∙ part_refused at.from (resp_form head) parts wanted part found few reached e
+part_in_list _ at h _ _ _ parts wanted part found (of_cookies head) few reached e = cookie_list at h head parts ∙ part_refused at.from (cookie_form head) parts wanted part found few reached e
+part_in_list _ at h _ _ _ parts wanted part found (of_handlers head) few reached e = handler_list at h head parts ∙ part_refused at.from (handler_form head) parts wanted part found few reached e
 
 -- parameters
 
@@ -248,9 +255,9 @@ one_parameter_refused at (part ∷ part' ∷ parts) other = refl
 
 -- the first fault of an item is the one that is answered
 pub fault_refused : (which : Sort) (item : Sexp) (found : SyntaxFault) → FirstFault which item found → reading item which ≡ Err found
-fault_refused _ _ _ (first.a_wrong_word which at word no) = reading-Word at word which ∙ word_wrong which at.from word no
-fault_refused _ _ _ (first.a_wrong_string which at text no) = reading-Str at text which ∙ string_wrong which at.from text no
-fault_refused _ _ _ (first.a_wrong_list which at parts no) = reading-List at parts which ∙ list_wrong which at.from parts no
+fault_refused _ _ _ (first.a_wrong_word which at word off) = reading-Word at word which ∙ word_wrong which at.from word off
+fault_refused _ _ _ (first.a_wrong_string which at text off) = reading-Str at text which ∙ string_wrong which at.from text off
+fault_refused _ _ _ (first.a_wrong_list which at parts off) = reading-List at parts which ∙ list_wrong which at.from parts off
 fault_refused _ _ _ (first.no_name at word other) =
     reading-Word at word sort.a_name ∙ ap (λ t. cond t (Ok word) (Err (fault.Name at.from))) (fails (is_name word) (λ e. other (IsName-from word e)))
 fault_refused _ _ _ (first.no_variable at word other) =
@@ -264,12 +271,9 @@ fault_refused _ _ _ (first.an_empty_list which at has) = reading-List at [] whic
 fault_refused _ _ _ (first.no_head which at item parts found has it) =
     in_list which at (item ∷ parts) found (no_head_refused which at.from item parts found has (fault_refused sort.a_head item found it))
 fault_refused _ _ _ (first.a_wrong_head which at h word parts has other) = in_list which at (Word h word ∷ parts) (fault.Head h.from) (wrong_head_refused which at.from h word parts has other)
-fault_refused _ _ _ (first.a_wrong_count which at h word sorts more parts form no) =
-    form_list which at h word sorts more parts (fault.Count at.from) form
-    (λ f same also. count_refused at.from f parts (subst (λ ss. may_have ss f.more (length parts) ≡ false) (sym same) (subst (λ m. may_have sorts m (length parts) ≡ false) (sym also) no)))
+fault_refused _ _ _ (first.a_wrong_count which at h word sorts more parts form off) = count_in_list which at h word sorts more parts form off
 fault_refused _ _ _ (first.a_wrong_part which at h word sorts more parts wanted part found form few reached it) =
-    form_list which at h word sorts more parts found form
-    (λ f same also. part_refused at.from f sorts more parts wanted part found same also few reached (fault_refused wanted part found it))
+    part_in_list which at h word sorts more parts wanted part found form few reached (fault_refused wanted part found it)
 fault_refused _ _ _ (first.a_wrong_cookie at parts wanted part found reached it) =
     in_list sort.cookies at parts found (further_refused _ sort.a_cookie parts wanted part found reached (fault_refused wanted part found it))
 fault_refused _ _ _ (first.no_one_parameter at parts other) = in_list sort.one_parameter at parts (fault.Count at.from) (one_parameter_refused at.from parts other)

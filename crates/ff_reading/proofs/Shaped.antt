@@ -1,8 +1,8 @@
 -- What is answered for an item from what is answered for its word or its parts.
-use Rattle.std.proofs.Common.{◌≡◌, ℕ, Bool, false, List, map, Result, Err, refl, sym, ap, subst, ◌∙◌, inl}
+use Rattle.std.proofs.Common.{◌≡◌, ℕ, false, List, map, Result, Err, sym, ap, subst, ◌∙◌}
 use Rattle.ff_text.specs.declared.items.Sexp.{Sexp}
 use Rattle.ff_forms.specs.Faults.{word_may_be, string_may_be, list_may_be, misplaced}
-use Rattle.ff_forms.specs.Grammar.{Sort, Value, Gives, reading, word_as, parts_in_list_as, parameter_as, a_parameter}
+use Rattle.ff_forms.specs.Grammar.{Sort, Value, Gives, reading, word_as, parts_in_list_as}
 use Rattle.ff_forms.specs.declared.fault.SyntaxFault.{SyntaxFault}
 use Rattle.ff_forms.specs.declared.fault.SyntaxFault.TheVariants as fault
 use Rattle.ff_reading.specs.Shapes.{IsWordAt, IsListAt, IsNoWord, a_string_for_a_word, a_list_for_a_word, IsNoList, a_word_for_a_list, a_string_for_a_list}

@@ -1,10 +1,9 @@
 -- What an item of each sort spells is what is read of it.
-use Rattle.std.proofs.Common.{◌≡◌, ℕ, List, [], ◌∷◌, Ok, Err, refl, sym, subst, ap, ◌∙◌}
+use Rattle.std.proofs.Common.{◌≡◌, Ok, sym, subst, ap, ◌∙◌}
 use Rattle.ff_name.specs.Spelling.{IsName}
 use Rattle.ff_tree.specs.Spelled.{IsVar}
-use Rattle.ff_tree.specs.declared.tree.Handler.{Handler}
 use Rattle.ff_text.specs.declared.items.Sexp.{Sexp}
-use Rattle.ff_text.specs.declared.items.Sexp.TheVariants.{Word, Str, List as Parens}
+use Rattle.ff_text.specs.declared.items.Sexp.TheVariants.{Word, List as Parens}
 use Rattle.ff_forms.specs.Grammar as sort
 use Rattle.ff_forms.specs.Grammar.{Sort, Value, Placed, reading}
 use Rattle.ff_forms.specs.Words.{is_variable}
@@ -13,7 +12,7 @@ use Rattle.ff_forms.specs.declared.fault.SyntaxFault.TheVariants as fault
 use Rattle.ff_reading.proofs.Layers.{reading-Word, reading-Str, reading-List}
 use Rattle.ff_reading.proofs.Given.{name_item, variable_item, parameter_item, address_item, string_item, one_parameter_item, parameters_item}
 use Rattle.ff_reading.proofs.Completes.{doc_complete, expr_complete, handler_complete, resp_complete, cookie_complete, cookies_complete}
-use Rattle.ff_reading.proofs.Backs.{IsOne, is_word, is_string, is_list, item_cases, ok_value, err_value, IsWordThat, name_back, variable_back, address_back, passed, IsVar-from, string_back, parameters_back, one_parameter_back}
+use Rattle.ff_reading.proofs.Backs.{IsOne, is_word, is_string, is_list, item_cases, ok_value, err_value, name_back, variable_back, address_back, passed, IsVar-from, string_back, parameters_back, one_parameter_back}
 use Rattle.ff_reading.proofs.Sounds.{spelled_doc, spelled_expr, spelled_handler, spelled_cookie, spelled_cookies, spelled_resp}
 
 -- what is spelled as a sort is read as it

@@ -20,12 +20,11 @@ use Rattle.ff_text.specs.declared.items.Sexp.TheVariants.{Word, Str, List as Par
 use Rattle.ff_text.proofs.Layers.{Each, items_ind}
 use Rattle.ff_forms.specs.declared.limits.TheConstants.{MOST_HANDLERS}
 use Rattle.ff_name.specs.Reading.{is_name}
-use Rattle.ff_forms.specs.Words.{is_literal, looks_like_number, number_of}
+use Rattle.ff_number.specs.Numbers.{read_num}
+use Rattle.ff_forms.specs.Words.{is_literal, looks_like_number}
 use Rattle.ff_forms.specs.Grammar as sort
 use Rattle.ff_forms.specs.Grammar.{Sort, Value, reading, and_then, each_as, form_as, list_as, handler, doc_form, expr_form, resp_form, cookie_form, handler_form, word_as_expression, number_as, name_as_expression, any, few_handlers}
-use Rattle.ff_forms.specs.Heads.{doc_word, expr_word, resp_word, cookie_word, handler_word}
-use Rattle.ff_name.specs.Words.{with_word}
-use Rattle.ff_forms.specs.declared.heads.TheConstants.{HANDLER_HEADS, DOC_HEADS, EXPR_HEADS, RESP_HEADS, COOKIE_HEADS}
+use Rattle.ff_forms.specs.Heads.{doc_word, expr_word, resp_word, cookie_word, handler_word, handler_heads, doc_heads, expr_heads, resp_heads, cookie_heads}
 use Rattle.ff_forms.specs.Spellings.{SpellsDoc, a_text, a_link, a_text_box, a_button, a_script, a_source, a_division, SpellsDocs, no_docs, one_more_doc, SpellsHandler, a_handler_list, SpellsHandlers, no_handlers, one_more_handler, SpellsExpr, a_null, a_true, a_false, a_number, a_text_literal, a_name_of_variable, a_let, a_set, an_if, a_while, a_do, an_and, an_or, a_function, a_call, a_tree, an_operation, SpellsExprs, no_exprs, one_more_expr, SpellsCookie, a_put, a_drop, SpellsCookies, no_cookies, one_more_cookie, SpellsResp, a_page, a_script_sent, some_data}
 use Rattle.ff_forms.specs.declared.heads.DocHead.{DocHead}
 use Rattle.ff_forms.specs.declared.heads.DocHead.TheVariants as doc_head
@@ -229,8 +228,8 @@ word_sound at word x e = null (bytes_eq word (codes "null")) refl e where
 
   as_number : number_as at.from word ≡ Ok x → SpellsExpr (Word at word) x
   as_number g =
-      let back = came_from (ok_or (number_of word) (fault.Number at.from)) (λ n. Ok (expr.Lit (lit.Num n))) x g in
-      let spelled = number_spelled word back.0 (some_from (number_of word) (fault.Number at.from) back.0 back.1) in
+      let back = came_from (ok_or (read_num word) (fault.Number at.from)) (λ n. Ok (expr.Lit (lit.Num n))) x g in
+      let spelled = number_spelled word back.0 (some_from (read_num word) (fault.Number at.from) back.0 back.1) in
       subst (SpellsExpr (Word at word)) (ok_value (expr.Lit (lit.Num back.0)) x back.2)
       (subst (λ w. SpellsExpr (Word at w) (expr.Lit (lit.Num back.0))) (sym spelled.1) (a_number at back.0 spelled.0))
 
@@ -278,15 +277,15 @@ strings_spelled at text = record {
 lists_spelled : (at : Span) (parts : List Sexp) → Each AllSpelled parts → AllSpelled (Parens at parts)
 lists_spelled at parts each = record {
   docs = λ d e.
-      let back = list_back doc_word DOC_HEADS doc_form at.from parts d (sym (reading-List at parts sort.a_document) ∙ e) in
+      let back = list_back doc_word doc_heads doc_form at.from parts d (sym (reading-List at parts sort.a_document) ∙ e) in
       let inner : Each AllSpelled (Word back.h (doc_word back.head) ∷ back.parts) = subst (Each AllSpelled) back.is each in
       subst (λ (ps : List Sexp). SpellsDoc (Parens at ps) d) (sym back.is) (doc_sound at back.h back.head back.parts inner.1 d back.formed);
   exprs = λ x e.
-      let back = list_back expr_word EXPR_HEADS expr_form at.from parts x (sym (reading-List at parts sort.an_expression) ∙ e) in
+      let back = list_back expr_word expr_heads expr_form at.from parts x (sym (reading-List at parts sort.an_expression) ∙ e) in
       let inner : Each AllSpelled (Word back.h (expr_word back.head) ∷ back.parts) = subst (Each AllSpelled) back.is each in
       subst (λ (ps : List Sexp). SpellsExpr (Parens at ps) x) (sym back.is) (expr_sound at back.h back.head back.parts inner.1 x back.formed);
   handlers = λ h e.
-      let back = list_back handler_word HANDLER_HEADS handler_form at.from parts h (sym (reading-List at parts sort.a_handler) ∙ e) in
+      let back = list_back handler_word handler_heads handler_form at.from parts h (sym (reading-List at parts sort.a_handler) ∙ e) in
       let inner : Each AllSpelled (Word back.h (handler_word back.head) ∷ back.parts) = subst (Each AllSpelled) back.is each in
       subst (λ (ps : List Sexp). SpellsHandler (Parens at ps) h) (sym back.is) (handler_sound at back.h back.head back.parts inner.1 h back.formed);
 }
@@ -313,7 +312,7 @@ cookie_sound : (item : Sexp) → IsOne item → (entry : CookieOp) → reading i
 cookie_sound _ (is_word at word) entry e = absurd (err_value (fault.Place at.from) entry (sym (reading-Word at word sort.a_cookie) ∙ e))
 cookie_sound _ (is_string at text) entry e = absurd (err_value (fault.Place at.from) entry (sym (reading-Str at text sort.a_cookie) ∙ e))
 cookie_sound _ (is_list at parts) entry e =
-    let back = list_back cookie_word COOKIE_HEADS cookie_form at.from parts entry (sym (reading-List at parts sort.a_cookie) ∙ e) in
+    let back = list_back cookie_word cookie_heads cookie_form at.from parts entry (sym (reading-List at parts sort.a_cookie) ∙ e) in
     subst (λ (ps : List Sexp). SpellsCookie (Parens at ps) entry) (sym back.is) (by_head back.h back.head back.parts back.formed) where
       by_head : (h : Span) (head : CookieHead) (items : List Sexp) → form_as at.from (cookie_form head) (map reading items) ≡ Ok entry → SpellsCookie (Parens at (Word h (cookie_word head) ∷ items)) entry
       by_head h cookie_head.Put items f =
@@ -368,7 +367,7 @@ resp_case : (item : Sexp) → IsOne item → (r : Resp) → reading item sort.a_
 resp_case _ (is_word at word) r e = absurd (err_value (fault.Place at.from) r (sym (reading-Word at word sort.a_response) ∙ e))
 resp_case _ (is_string at text) r e = absurd (err_value (fault.Place at.from) r (sym (reading-Str at text sort.a_response) ∙ e))
 resp_case _ (is_list at parts) r e =
-    let back = list_back resp_word RESP_HEADS resp_form at.from parts r (sym (reading-List at parts sort.a_response) ∙ e) in
+    let back = list_back resp_word resp_heads resp_form at.from parts r (sym (reading-List at parts sort.a_response) ∙ e) in
     subst (λ (ps : List Sexp). SpellsResp (Parens at ps) r) (sym back.is) (resp_sound at back.h back.head back.parts r back.formed)
 
 pub spelled_resp : (item : Sexp) (r : Resp) → reading item sort.a_response ≡ Ok r → SpellsResp item r

@@ -3,9 +3,8 @@ ghost use Rattle.std.specs.Prelude.{◌≡◌, [], map};
 ghost use Rattle.std.specs.List.{list_any};
 ghost use Rattle.std.specs.Str.{bytes_eq};
 ghost use Rattle.ff_forms.specs.Grammar.{Gives, reading, a_name, a_variable, a_string, an_address, parameters, one_parameter, cookies, a_cookie, parameters_as, parameter_as, one_parameter_as, word_as, each_as, form_as, list_as, cookie_form};
-ghost use Rattle.ff_forms.specs.Heads.{cookie_word};
+ghost use Rattle.ff_forms.specs.Heads.{cookie_word, cookie_heads};
 ghost use Rattle.ff_forms.specs.declared.heads.CookieHead.TheVariants as cookie_head;
-ghost use Rattle.ff_forms.specs.declared.heads.TheConstants.{COOKIE_HEADS};
 
 use crate::shapes::{as_list, as_word, head_of};
 use crate::words::{read_address_word, read_name_word, read_variable_word};
@@ -142,7 +141,7 @@ fn read_cookie(item: &Sexp) -> Result<CookieOp, SyntaxFault>
 }
 
 fn read_cookie_list(at: u32, items: &[Sexp]) -> Result<CookieOp, SyntaxFault>
-    ensures { Gives result (list_as cookie_word COOKIE_HEADS cookie_form at (map reading items.now)) }
+    ensures { Gives result (list_as cookie_word cookie_heads cookie_form at (map reading items.now)) }
 {
     match items.split_first() {
         Some((first, parts)) => read_cookie_form(at, head_of(first)?, parts),

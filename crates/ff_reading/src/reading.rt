@@ -2,12 +2,11 @@
 //! right, each whole before the next.
 ghost use Rattle.std.specs.Prelude.{map};
 ghost use Rattle.ff_forms.specs.Grammar.{Gives, reading, a_handler, an_expression, a_document, a_response, list_as, each_as, form_as, handler_as, handler_form, doc_form, expr_form, resp_form};
-ghost use Rattle.ff_forms.specs.Heads.{doc_word, expr_word, resp_word};
+ghost use Rattle.ff_forms.specs.Heads.{doc_word, expr_word, resp_word, doc_heads, expr_heads, resp_heads};
 ghost use Rattle.ff_forms.specs.declared.heads.DocHead.TheVariants as doc_head;
 ghost use Rattle.ff_forms.specs.declared.heads.ExprHead.TheVariants as expr_head;
 ghost use Rattle.ff_forms.specs.declared.heads.HandlerHead.TheVariants as handler_head;
 ghost use Rattle.ff_forms.specs.declared.heads.RespHead.TheVariants as resp_head;
-ghost use Rattle.ff_forms.specs.declared.heads.TheConstants.{DOC_HEADS, EXPR_HEADS, RESP_HEADS};
 
 use crate::leaves::{
     read_address, read_cookies, read_name, read_one_parameter, read_parameters, read_string,
@@ -31,7 +30,7 @@ pub(crate) fn read_resp(alloc: Global, item: &Sexp) -> Result<Resp, SyntaxFault>
 }
 
 fn read_resp_list(alloc: Global, at: u32, items: &[Sexp]) -> Result<Resp, SyntaxFault>
-    ensures { Gives result (list_as resp_word RESP_HEADS resp_form at (map reading items.now)) }
+    ensures { Gives result (list_as resp_word resp_heads resp_form at (map reading items.now)) }
 {
     match items.split_first() {
         Some((first, parts)) => read_resp_form(alloc, at, head_of(first)?, parts),
@@ -98,7 +97,7 @@ pub(crate) fn read_doc(alloc: Global, item: &Sexp) -> Result<Doc, SyntaxFault>
 
 #[cycle(read)]
 fn read_doc_list(alloc: Global, at: u32, items: &[Sexp]) -> Result<Doc, SyntaxFault>
-    ensures { Gives result (list_as doc_word DOC_HEADS doc_form at (map reading items.now)) }
+    ensures { Gives result (list_as doc_word doc_heads doc_form at (map reading items.now)) }
 {
     match items.split_first() {
         Some((first, parts)) => read_doc_form(alloc, at, head_of(first)?, parts),
@@ -309,7 +308,7 @@ fn read_exprs(alloc: Global, parts: &[Sexp]) -> Result<Exprs, SyntaxFault>
 
 #[cycle(read)]
 fn read_expr_list(alloc: Global, at: u32, items: &[Sexp]) -> Result<Expr, SyntaxFault>
-    ensures { Gives result (list_as expr_word EXPR_HEADS expr_form at (map reading items.now)) }
+    ensures { Gives result (list_as expr_word expr_heads expr_form at (map reading items.now)) }
 {
     match items.split_first() {
         Some((first, parts)) => read_expr_form(alloc, at, head_of(first)?, parts),

@@ -27,13 +27,13 @@ fn answer(alloc: Global, line: &str) -> Result<String> {
         "doc" => doc(alloc, &item),
         "expr" => expr(alloc, &item),
         "resp" => resp(alloc, &item),
-        _ => bail!(in alloc; "no sort: {sort}"),
+        _ => bail!("no sort: {sort}"),
     }
 }
 
 fn read_item(alloc: Global, bytes: &[u8]) -> Result<Sexp> {
     if bytes.len() > MOST_BYTES {
-        bail!(in alloc; "a line is too long");
+        bail!("a line is too long");
     }
     Ok(read(alloc, bytes)?)
 }

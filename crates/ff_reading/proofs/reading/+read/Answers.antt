@@ -1,10 +1,23 @@
-use Rattle.std.proofs.Common.{◌∙◌, ◌-◌, Ok, length, ap, sym, inl, arith}
+use Rattle.std.proofs.Common.{rules, refl, ◌∙◌, ◌-◌, Ok, length, ap, sym, inl, arith}
 use Rattle.ff_tree.specs.declared.tree.Expr.TheVariants as expr
 use Rattle.ff_tree.specs.declared.tree.Lit.TheVariants as lit
 use Rattle.ff_forms.specs.Grammar.{a_document, a_handler, an_expression}
 use Rattle.ff_reading.proofs.Falling.{part_falls, tail_falls}
-use Rattle.ff_reading.proofs.Layers.{word_layer, string_layer, word_gives, list_gives}
+use Rattle.ff_reading.proofs.Shaped.{list_given, no_list_refused}
+use Rattle.ff_reading.proofs.Layers.{string_layer, word_gives, list_gives}
 use Rattle.ff_reading.proofs.reading.+read.Goals as goal
+
+pub read_doc-returns-in_err-at : goal.read_doc-returns-in_err-at
+read_doc-returns-in_err-at t c = rw (no_list_refused c.args.item.now c.in_err-at.field-0.0 a_document (λ at. refl) refl refl c.in_err-at.ensures.other) (search rules)
+
+pub read_doc-returns : goal.read_doc-returns
+read_doc-returns t c = list_given c.args.item.now c.in_ok-at.at c.in_ok-at.parts.now a_document c.read_doc_list.result c.in_ok-at.ensures.list c.read_doc_list.ensures
+
+pub read_handler-returns-in_err-at : goal.read_handler-returns-in_err-at
+read_handler-returns-in_err-at t c = rw (no_list_refused c.args.item.now c.in_err-at.field-0.0 a_handler (λ at. refl) refl refl c.in_err-at.ensures.other) (search rules)
+
+pub read_handler-returns : goal.read_handler-returns
+read_handler-returns t c = list_given c.args.item.now c.in_ok-at.at c.in_ok-at.parts.now a_handler c.read_handler_list.result c.in_ok-at.ensures.list c.read_handler_list.ensures
 
 pub read_expr-returns-in-Word : goal.read_expr-returns-in-Word
 read_expr-returns-in-Word t c = word_gives c.args.item.now c.in-Word.at c.in-Word.word c.as_bytes.result.now an_expression c.read_word.result c.in-Word.is c.as_bytes.ensures.value c.read_word.ensures
@@ -87,5 +100,5 @@ read_doc_list-read_doc_form-requires t c = (omega (arith, tail_falls c.args.item
 pub read_expr_list-read_expr_form-requires : goal.read_expr_list-read_expr_form-requires
 read_expr_list-read_expr_form-requires t c = (omega (arith, tail_falls c.args.items.now c.in-Some.parts.now c.in-Some.first.now c.in-Some.ensures.cases.0), tt)
 
-pub read_handler_list-read_handler_parts-requires : goal.read_handler_list-read_handler_parts-requires
-read_handler_list-read_handler_parts-requires t c = (omega (arith, tail_falls c.args.items.now c.in-Some.parts.now c.in-Some.first.now c.in-Some.ensures.cases.0), tt)
+pub read_handler_list-read_handler_form-requires : goal.read_handler_list-read_handler_form-requires
+read_handler_list-read_handler_form-requires t c = (omega (arith, tail_falls c.args.items.now c.in-Some.parts.now c.in-Some.first.now c.in-Some.ensures.cases.0), tt)

@@ -45,8 +45,8 @@ decreases-read_script l = 10 * goal.size-read_script l + 3
 abbrev pub decreases-read_div : goal.decreases-read_div
 decreases-read_div l = 10 * goal.size-read_div l + 3
 
-abbrev pub decreases-read_handler_parts : goal.decreases-read_handler_parts
-decreases-read_handler_parts l = 10 * goal.size-read_handler_parts l + 3
+abbrev pub decreases-read_handler_form : goal.decreases-read_handler_form
+decreases-read_handler_form l = 10 * goal.size-read_handler_form l + 3
 
 abbrev pub decreases-read_let : goal.decreases-read_let
 decreases-read_let l = 10 * goal.size-read_let l + 3
