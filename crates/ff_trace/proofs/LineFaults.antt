@@ -1,5 +1,5 @@
 -- What a line is refused for is its first fault.
-use Rattle.std.proofs.Common.{◌≡◌, ◌≢◌, ℕ, Bool, true, false, List, [], ◌∷◌, length, Option, Some, None, Result, Ok, Err, refl, sym, ap, subst, ◌∙◌, arith}
+use Rattle.std.proofs.Common.{◌≡◌, ◌≢◌, ℕ, List, [], ◌∷◌, length, Option, Some, None, Result, Ok, Err, refl, sym, ap, subst, ◌∙◌, arith}
 use Rattle.ff_lattice.specs.Order.{Order, level_named}
 use Rattle.ff_name.specs.declared.levels.Level.{Level}
 use Rattle.ff_text.specs.declared.items.Sexp.{Sexp}
