@@ -1,7 +1,7 @@
 -- The items of inputs are well spelled, and the lines of inputs and outputs hold no newline.
 use Rattle.std.specs.Prelude.{IfSome, take_while}
-use Rattle.std.proofs.Common.{◌≡◌, ◌≢◌, ◌<◌, ◌+◌, ◌^◌, ◌&&◌, ◌==◌, ℕ, suc, Bool, true, false, not, List, [], ◌∷◌, ◌++◌, length, map, get_or, Option, Some, None, refl, sym, ap, ◌∙◌, subst, arith, codes}
-use Rattle.std.specs.List.{All, AllByRecursion, list_all, join_with_byte, prefix_len}
+use Rattle.std.proofs.Common.{◌≡◌, ◌≢◌, ◌<◌, ◌+◌, ◌^◌, ◌==◌, ℕ, suc, Bool, true, false, not, List, [], ◌∷◌, ◌++◌, length, map, get_or, Option, Some, None, refl, ap, subst, arith, codes}
+use Rattle.std.specs.List.{All, AllByRecursion, list_all, prefix_len}
 use Rattle.std.specs.Str.{IsUtf8}
 use Rattle.std.proofs.lemmas.Bool.{and_parts}
 use Rattle.std.proofs.lemmas.List.{get_or_default}

@@ -2,6 +2,7 @@ pub mod Back
 pub mod Bare
 pub mod Cuts
 pub mod Fitting
+pub mod LineFaults
 pub mod Numbers
 pub mod Once
 pub mod Reread

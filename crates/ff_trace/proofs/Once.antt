@@ -1,5 +1,5 @@
 -- A line is read in one way.
-use Rattle.std.proofs.Common.{◌≡◌, ◌≢◌, ◌⊎◌, ℕ, Bool, true, false, Result, Ok, Err, List, Option, Some, None, inl, inr, refl, sym, ap, ◌∙◌, subst, IfOk, IfErr}
+use Rattle.std.proofs.Common.{◌≡◌, ◌≢◌, ◌⊎◌, ℕ, Bool, true, false, Result, Ok, Err, List, Option, None, inl, inr, refl, sym, ap, ◌∙◌, IfOk, IfErr}
 use Rattle.ff_lattice.specs.Order.{Order}
 use Rattle.ff_text.specs.Machine.{verdict}
 use Rattle.ff_text.specs.Notation.{SpellsItems}

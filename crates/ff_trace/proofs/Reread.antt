@@ -1,8 +1,7 @@
 -- What is read from the items of an input is the input.
-use Rattle.std.proofs.Common.{◌≡◌, ◌<◌, ◌^◌, ◌==◌, ℕ, Bool, true, false, List, [], ◌∷◌, ◌++◌, map, Option, Some, None, Result, Ok, Err, codes, refl, sym, ap, ◌∙◌, subst}
+use Rattle.std.proofs.Common.{◌≡◌, ◌<◌, ◌^◌, ◌==◌, ℕ, true, false, List, [], ◌∷◌, ◌++◌, map, Option, Some, None, Result, Ok, codes, refl, sym, ap, ◌∙◌, subst}
 use Rattle.std.specs.Prelude.{IfSome}
-use Rattle.std.specs.Str.{IsUtf8}
-use Rattle.ff_lattice.specs.Order.{Order, size, name, level_named, IsTag, IsOrder}
+use Rattle.ff_lattice.specs.Order.{Order, name, level_named, IsTag, IsOrder}
 use Rattle.ff_name.specs.Address.{printed, as_printed}
 use Rattle.ff_name.specs.Address as address
 use Rattle.ff_name.specs.Spelling.{IsDomain}
@@ -11,9 +10,8 @@ use Rattle.ff_name.specs.declared.urls.Url.{Url}
 use Rattle.ff_number.specs.Decimal.{nat_text}
 use Rattle.ff_text.specs.Notation.{span}
 use Rattle.ff_text.proofs.Layers.{spelled-Word}
-use Rattle.ff_text.specs.Printed.{bare, AreWellSpelled}
+use Rattle.ff_text.specs.Printed.{bare}
 use Rattle.ff_text.specs.declared.items.Sexp.{Sexp, out-Sexp}
-use Rattle.ff_text.specs.declared.items.Sexp.TheOpen.{Sexp-F}
 use Rattle.ff_value.specs.Spelled.{IsWellSpelledAct, IsWellSpelledInput, IsWellSpelledResp}
 use Rattle.ff_value.specs.declared.input.Act.{Act}
 use Rattle.ff_value.specs.declared.input.Act.TheVariants as act
@@ -34,8 +32,8 @@ use Rattle.ff_trace.specs.Parts.{number_of, domain_of, by_word, by_string, or_fa
 use Rattle.ff_trace.specs.Printed.{number, act_items, tag_items, input_items, input_text, joined}
 use Rattle.ff_trace.proofs.Back.{line_back}
 use Rattle.ff_trace.proofs.Fitting.{input_fits}
-use Rattle.ff_trace.proofs.Cuts.{Begun, act_begun}
-use Rattle.ff_trace.proofs.Bare.{IsWordOf, IsStringOf, word_from, string_from, Again, none, more, again_from}
+use Rattle.ff_trace.proofs.Cuts.{act_begun}
+use Rattle.ff_trace.proofs.Bare.{word_from, string_from, Again, none, more, again_from}
 use Rattle.ff_lattice.proofs.Named.{level_found}
 use Rattle.ff_trace.proofs.Numbers.{number_spelled}
 

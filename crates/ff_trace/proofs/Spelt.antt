@@ -1,5 +1,5 @@
 -- What reading a word as an address or a domain answers.
-use Rattle.std.proofs.Common.{◌≡◌, ◌≢◌, ◌⊎◌, ◌↔◌, ℕ, Bool, true, false, List, Option, Some, None, Result, Ok, Err, cond, inl, inr, refl, sym, ap, ◌∙◌, subst}
+use Rattle.std.proofs.Common.{◌≡◌, ◌≢◌, ◌⊎◌, ◌↔◌, ℕ, Bool, true, false, List, Option, Some, None, Result, Ok, Err, cond, inl, inr, refl, ap, subst}
 use Rattle.std.specs.Prelude.{MatchOption}
 use Rattle.ff_name.specs.Address.{Spells}
 use Rattle.ff_name.specs.Spelling.{IsDomain}

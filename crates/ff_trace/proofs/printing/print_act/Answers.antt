@@ -1,5 +1,4 @@
-use Rattle.std.proofs.Common.{◌∷◌, List, ℕ, ap, ◌∙◌, subst}
-use Rattle.ff_contract.specs.Appending.{Appends}
+use Rattle.std.proofs.Common.{◌∷◌, List, ℕ, ap, ◌∙◌}
 use Rattle.ff_contract.proofs.Sequence.{appends_same}
 use Rattle.ff_forms.specs.Canonical.{word}
 use Rattle.ff_value.specs.Kinds.{word_of}

@@ -1,4 +1,4 @@
-use Rattle.std.proofs.Common.{inl, sym, ◌∙◌, List, Err, subst}
+use Rattle.std.proofs.Common.{inl, sym, ◌∙◌, List, subst}
 use Rattle.ff_text.specs.declared.items.Sexp.{Sexp}
 use Rattle.ff_trace.specs.Lines.{Gives, input_in, silent}
 use Rattle.ff_trace.proofs.Once.{found_items, found_fault, first_of}
