@@ -47,7 +47,7 @@ lit_item (lit.Bool false) = word (codes "false")
 lit_item (lit.Num n) = word (num_text n)
 lit_item (lit.Str text) = string text
 
--- one level of an expression, where the items of its parts stand in their places
+-- one layer of an expression, where the items of its parts stand in their places
 abbrev pub expr_form : Expr-F Sexp Sexp Sexp → Sexp
 expr_form (Expr-F.Lit l) = lit_item l
 expr_form (Expr-F.Var x) = word x
@@ -96,7 +96,7 @@ resp_item (resp.Page cookies docs) = parens (word (resp_word resp_head.Page) ∷
 resp_item (resp.Script cookies e) = parens (word (resp_word resp_head.Script) ∷ cookies_item cookies ∷ expr_item e ∷ [])
 resp_item (resp.Data cookies text) = parens (word (resp_word resp_head.Data) ∷ cookies_item cookies ∷ string text ∷ [])
 
--- one level of what the user is shown, where the items of its parts stand in their places
+-- one layer of what the user is shown, where the items of its parts stand in their places
 abbrev pub seen_form : Seen-F Sexp → Sexp
 seen_form (Seen-F.Text text) = parens (word (doc_word doc_head.Text) ∷ string text ∷ [])
 seen_form (Seen-F.Link url label) = parens (word (doc_word doc_head.Link) ∷ address url ∷ string label ∷ [])

@@ -254,7 +254,7 @@ parts_in_list_as at parts one_parameter = one_parameter_as at parts
 parts_in_list_as at parts a_head = Err (fault.Head at)
 parts_in_list_as at parts _ = Err (fault.Place at)
 
--- one level of an item, where its parts are read
+-- one layer of an item, where its parts are read
 abbrev pub item_as : Sexp-F Reading → Reading
 item_as (Sexp-F.Word at word) sort = word_as at.from word sort
 item_as (Sexp-F.Str at text) sort = string_as at.from text sort

@@ -24,7 +24,7 @@ pub record ListItem (item : Sexp) (bares : List Sexp) : Type 0 where
   pub is : item ≡ sexp.List at parts
   pub same : map bare parts ≡ bares
 
--- what one level of an item with no places says of an item
+-- what one layer of an item with no places says of an item
 abbrev Content : Sexp → Sexp-F Sexp → Type 0
 Content item (Sexp-F.Word at text) = WordItem item text
 Content item (Sexp-F.Str at value) = StringItem item value

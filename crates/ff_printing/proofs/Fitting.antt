@@ -37,226 +37,226 @@ use Rattle.ff_printing.proofs.WordTexts.{name_word, url_word, number_word, opera
 
 -- the item is well spelled where it stands in so many lists
 abbrev Fits : Sexp → ℕ → Type 0
-Fits item level = fits_at item level ≡ true
+Fits item nesting = fits_at item nesting ≡ true
 
 abbrev AllFit : List Sexp → ℕ → Type 0
-AllFit items level = list_all (λ (part : ℕ → Bool). part level) (map fits_at items) ≡ true
+AllFit items nesting = list_all (λ (part : ℕ → Bool). part nesting) (map fits_at items) ≡ true
 
-and_more : (item : Sexp) (items : List Sexp) (level : ℕ) → Fits item level → AllFit items level → AllFit (item ∷ items) level
-and_more item items level one others = and_from (fits_at item level) (list_all (λ (part : ℕ → Bool). part level) (map fits_at items)) one others
+and_more : (item : Sexp) (items : List Sexp) (nesting : ℕ) → Fits item nesting → AllFit items nesting → AllFit (item ∷ items) nesting
+and_more item items nesting one others = and_from (fits_at item nesting) (list_all (λ (part : ℕ → Bool). part nesting) (map fits_at items)) one others
 
-word_fits : (text : List ℕ) (level : ℕ) → is_word text ≡ true → Fits (word text) level
-word_fits text level h = ap (λ f. f level) (fits_at-Word (span 0 0) text) ∙ h
+word_fits : (text : List ℕ) (nesting : ℕ) → is_word text ≡ true → Fits (word text) nesting
+word_fits text nesting h = ap (λ f. f nesting) (fits_at-Word (span 0 0) text) ∙ h
 
-string_fits : (value : List ℕ) (level : ℕ) → IsUtf8 value → Fits (string value) level
-string_fits value level h = ap (λ f. f level) (fits_at-Str (span 0 0) value) ∙ is_utf8-from_IsUtf8 value h
+string_fits : (value : List ℕ) (nesting : ℕ) → IsUtf8 value → Fits (string value) nesting
+string_fits value nesting h = ap (λ f. f nesting) (fits_at-Str (span 0 0) value) ∙ is_utf8-from_IsUtf8 value h
 
-parens_fit : (items : List Sexp) (level : ℕ) → level < 64 → AllFit items (suc level) → Fits (parens items) level
-parens_fit items level room all =
-    let test : nat_lt level 64 ≡ true = grind (arith, nat_tests) in
-    ap (λ f. f level) (fits_at-List (span 0 0) items) ∙ and_from (nat_lt level 64) (list_all (λ (part : ℕ → Bool). part (suc level)) (map fits_at items)) test all
+parens_fit : (items : List Sexp) (nesting : ℕ) → nesting < 64 → AllFit items (suc nesting) → Fits (parens items) nesting
+parens_fit items nesting room all =
+    let test : nat_lt nesting 64 ≡ true = grind (arith, nat_tests) in
+    ap (λ f. f nesting) (fits_at-List (span 0 0) items) ∙ and_from (nat_lt nesting 64) (list_all (λ (part : ℕ → Bool). part (suc nesting)) (map fits_at items)) test all
 
-form_fits : (head : List ℕ) (items : List Sexp) (level : ℕ) → is_word head ≡ true → level < 64 → AllFit items (suc level) → Fits (parens (word head ∷ items)) level
-form_fits head items level h room all = parens_fit (word head ∷ items) level room (and_more (word head) items (suc level) (word_fits head (suc level) h) all)
+form_fits : (head : List ℕ) (items : List Sexp) (nesting : ℕ) → is_word head ≡ true → nesting < 64 → AllFit items (suc nesting) → Fits (parens (word head ∷ items)) nesting
+form_fits head items nesting h room all = parens_fit (word head ∷ items) nesting room (and_more (word head) items (suc nesting) (word_fits head (suc nesting) h) all)
 
-named_fits : (head x : List ℕ) (items : List Sexp) (level : ℕ) → is_word head ≡ true → is_word x ≡ true → level < 64 → AllFit items (suc level) → Fits (parens (word head ∷ word x ∷ items)) level
-named_fits head x items level h name room all = form_fits head (word x ∷ items) level h room (and_more (word x) items (suc level) (word_fits x (suc level) name) all)
+named_fits : (head x : List ℕ) (items : List Sexp) (nesting : ℕ) → is_word head ≡ true → is_word x ≡ true → nesting < 64 → AllFit items (suc nesting) → Fits (parens (word head ∷ word x ∷ items)) nesting
+named_fits head x items nesting h name room all = form_fits head (word x ∷ items) nesting h room (and_more (word x) items (suc nesting) (word_fits x (suc nesting) name) all)
 
-one_fits : (item : Sexp) (level : ℕ) → Fits item level → AllFit (item ∷ []) level
-one_fits item level one = and_more item [] level one refl
+one_fits : (item : Sexp) (nesting : ℕ) → Fits item nesting → AllFit (item ∷ []) nesting
+one_fits item nesting one = and_more item [] nesting one refl
 
-words_fit : (xs : List (List ℕ)) (level : ℕ) → AllByRecursion IsVar xs → AllFit (map word xs) level
-words_fit [] level vars = refl
-words_fit (x ∷ xs) level vars = and_more (word x) (map word xs) level (word_fits x level (name_word x vars.0.name)) (words_fit xs level vars.1)
+words_fit : (xs : List (List ℕ)) (nesting : ℕ) → AllByRecursion IsVar xs → AllFit (map word xs) nesting
+words_fit [] nesting vars = refl
+words_fit (x ∷ xs) nesting vars = and_more (word x) (map word xs) nesting (word_fits x nesting (name_word x vars.0.name)) (words_fit xs nesting vars.1)
 
 rule : {A B : Type 0} → A ≡ B → A → B
 rule e a = subst (λ (T : Type 0). T) e a
 
-same_fits : (item other : Sexp) (level : ℕ) → item ≡ other → Fits other level → Fits item level
-same_fits item other level e fits = ap (λ (i : Sexp). fits_at i level) e ∙ fits
+same_fits : (item other : Sexp) (nesting : ℕ) → item ≡ other → Fits other nesting → Fits item nesting
+same_fits item other nesting e fits = ap (λ (i : Sexp). fits_at i nesting) e ∙ fits
 
 -- The claims.
 
 abbrev DocFits : Doc → Type 0
-DocFits d = IsSpelledDoc d → (level : ℕ) → level + doc_depth d ≤ 64 → Fits (doc_item d) level
+DocFits d = IsSpelledDoc d → (nesting : ℕ) → nesting + doc_depth d ≤ 64 → Fits (doc_item d) nesting
 
 abbrev ExprFits : Expr → Type 0
-ExprFits e = IsSpelledExpr e → (level : ℕ) → level + expr_depth e ≤ 64 → Fits (expr_item e) level
+ExprFits e = IsSpelledExpr e → (nesting : ℕ) → nesting + expr_depth e ≤ 64 → Fits (expr_item e) nesting
 
 abbrev HandlerFits : Handler → Type 0
-HandlerFits h = IsSpelledHandler h → (level : ℕ) → level + handler_depth h ≤ 64 → Fits (handler_item h) level
+HandlerFits h = IsSpelledHandler h → (nesting : ℕ) → nesting + handler_depth h ≤ 64 → Fits (handler_item h) nesting
 
-exprs_fit : (es : List Expr) → Each ExprFits es → AllByRecursion IsSpelledExpr es → (level : ℕ) → level + most (map expr_depth es) ≤ 64 → AllFit (map expr_item es) level
-exprs_fit [] claims spelled level room = refl
-exprs_fit (e ∷ es) claims spelled level room = and_more (expr_item e) (map expr_item es) level (claims.0 spelled.0 level (omega arith)) (exprs_fit es claims.1 spelled.1 level (omega arith))
+exprs_fit : (es : List Expr) → Each ExprFits es → AllByRecursion IsSpelledExpr es → (nesting : ℕ) → nesting + most (map expr_depth es) ≤ 64 → AllFit (map expr_item es) nesting
+exprs_fit [] claims spelled nesting room = refl
+exprs_fit (e ∷ es) claims spelled nesting room = and_more (expr_item e) (map expr_item es) nesting (claims.0 spelled.0 nesting (omega arith)) (exprs_fit es claims.1 spelled.1 nesting (omega arith))
 
-handlers_fit : (hs : List Handler) → Each HandlerFits hs → AllByRecursion IsSpelledHandler hs → (level : ℕ) → level + most (map handler_depth hs) ≤ 64 → AllFit (map handler_item hs) level
-handlers_fit [] claims spelled level room = refl
-handlers_fit (h ∷ hs) claims spelled level room = and_more (handler_item h) (map handler_item hs) level (claims.0 spelled.0 level (omega arith)) (handlers_fit hs claims.1 spelled.1 level (omega arith))
+handlers_fit : (hs : List Handler) → Each HandlerFits hs → AllByRecursion IsSpelledHandler hs → (nesting : ℕ) → nesting + most (map handler_depth hs) ≤ 64 → AllFit (map handler_item hs) nesting
+handlers_fit [] claims spelled nesting room = refl
+handlers_fit (h ∷ hs) claims spelled nesting room = and_more (handler_item h) (map handler_item hs) nesting (claims.0 spelled.0 nesting (omega arith)) (handlers_fit hs claims.1 spelled.1 nesting (omega arith))
 
-docs_fit : (ds : List Doc) → Each DocFits ds → AllByRecursion IsSpelledDoc ds → (level : ℕ) → level + most (map doc_depth ds) ≤ 64 → AllFit (map doc_item ds) level
-docs_fit [] claims spelled level room = refl
-docs_fit (d ∷ ds) claims spelled level room = and_more (doc_item d) (map doc_item ds) level (claims.0 spelled.0 level (omega arith)) (docs_fit ds claims.1 spelled.1 level (omega arith))
+docs_fit : (ds : List Doc) → Each DocFits ds → AllByRecursion IsSpelledDoc ds → (nesting : ℕ) → nesting + most (map doc_depth ds) ≤ 64 → AllFit (map doc_item ds) nesting
+docs_fit [] claims spelled nesting room = refl
+docs_fit (d ∷ ds) claims spelled nesting room = and_more (doc_item d) (map doc_item ds) nesting (claims.0 spelled.0 nesting (omega arith)) (docs_fit ds claims.1 spelled.1 nesting (omega arith))
 
-lit_fits : (l : Lit) → IsLit l → (level : ℕ) → Fits (lit_item l) level
-lit_fits lit.Null is level = word_fits (codes "null") level refl
-lit_fits (lit.Bool true) is level = word_fits (codes "true") level refl
-lit_fits (lit.Bool false) is level = word_fits (codes "false") level refl
-lit_fits (lit.Num n) is level = word_fits (num_text n) level (number_word n is)
-lit_fits (lit.Str text) is level = string_fits text level is
+lit_fits : (l : Lit) → IsLit l → (nesting : ℕ) → Fits (lit_item l) nesting
+lit_fits lit.Null is nesting = word_fits (codes "null") nesting refl
+lit_fits (lit.Bool true) is nesting = word_fits (codes "true") nesting refl
+lit_fits (lit.Bool false) is nesting = word_fits (codes "false") nesting refl
+lit_fits (lit.Num n) is nesting = word_fits (num_text n) nesting (number_word n is)
+lit_fits (lit.Str text) is nesting = string_fits text nesting is
 
 var_fits : (x : List ℕ) → ExprFits (expr.Var x)
-var_fits x spelled level room = same_fits (expr_item (expr.Var x)) (word x) level (expr_item-Var x) (word_fits x level (name_word x (rule (IsSpelledExpr-Var x) spelled).name))
+var_fits x spelled nesting room = same_fits (expr_item (expr.Var x)) (word x) nesting (expr_item-Var x) (word_fits x nesting (name_word x (rule (IsSpelledExpr-Var x) spelled).name))
 
 let_fits : (x : List ℕ) (e : Expr) → ExprFits e → ExprFits (expr.Let x e)
-let_fits x e claim spelled level room =
+let_fits x e claim spelled nesting room =
     let s = rule (IsSpelledExpr-Let x e) spelled in
-    let deep : suc level + expr_depth e ≤ 64 = omega (arith, depth.expr_depth-Let x e) in
-    ap (λ (i : Sexp). fits_at i level) (expr_item-Let x e)
-    ∙ named_fits (codes "let") x (expr_item e ∷ []) level refl (name_word x s.0.name) (omega arith) (one_fits (expr_item e) (suc level) (claim s.1 (suc level) deep))
+    let deep : suc nesting + expr_depth e ≤ 64 = omega (arith, depth.expr_depth-Let x e) in
+    ap (λ (i : Sexp). fits_at i nesting) (expr_item-Let x e)
+    ∙ named_fits (codes "let") x (expr_item e ∷ []) nesting refl (name_word x s.0.name) (omega arith) (one_fits (expr_item e) (suc nesting) (claim s.1 (suc nesting) deep))
 
 set_fits : (x : List ℕ) (e : Expr) → ExprFits e → ExprFits (expr.Set x e)
-set_fits x e claim spelled level room =
+set_fits x e claim spelled nesting room =
     let s = rule (IsSpelledExpr-Set x e) spelled in
-    let deep : suc level + expr_depth e ≤ 64 = omega (arith, depth.expr_depth-Set x e) in
-    ap (λ (i : Sexp). fits_at i level) (expr_item-Set x e)
-    ∙ named_fits (codes "set") x (expr_item e ∷ []) level refl (name_word x s.0.name) (omega arith) (one_fits (expr_item e) (suc level) (claim s.1 (suc level) deep))
+    let deep : suc nesting + expr_depth e ≤ 64 = omega (arith, depth.expr_depth-Set x e) in
+    ap (λ (i : Sexp). fits_at i nesting) (expr_item-Set x e)
+    ∙ named_fits (codes "set") x (expr_item e ∷ []) nesting refl (name_word x s.0.name) (omega arith) (one_fits (expr_item e) (suc nesting) (claim s.1 (suc nesting) deep))
 
 if_fits : (e f g : Expr) → ExprFits e → ExprFits f → ExprFits g → ExprFits (expr.If e f g)
-if_fits e f g claim_e claim_f claim_g spelled level room =
+if_fits e f g claim_e claim_f claim_g spelled nesting room =
     let s = rule (IsSpelledExpr-If e f g) spelled in
-    let deep : suc level + max (expr_depth e) (max (expr_depth f) (expr_depth g)) ≤ 64 = omega (arith, depth.expr_depth-If e f g) in
-    ap (λ (i : Sexp). fits_at i level) (expr_item-If e f g)
-    ∙ form_fits (codes "if") (expr_item e ∷ expr_item f ∷ expr_item g ∷ []) level refl (omega arith)
-    (and_more (expr_item e) (expr_item f ∷ expr_item g ∷ []) (suc level) (claim_e s.0 (suc level) (omega arith))
-    (and_more (expr_item f) (expr_item g ∷ []) (suc level) (claim_f s.1 (suc level) (omega arith)) (one_fits (expr_item g) (suc level) (claim_g s.2 (suc level) (omega arith)))))
+    let deep : suc nesting + max (expr_depth e) (max (expr_depth f) (expr_depth g)) ≤ 64 = omega (arith, depth.expr_depth-If e f g) in
+    ap (λ (i : Sexp). fits_at i nesting) (expr_item-If e f g)
+    ∙ form_fits (codes "if") (expr_item e ∷ expr_item f ∷ expr_item g ∷ []) nesting refl (omega arith)
+    (and_more (expr_item e) (expr_item f ∷ expr_item g ∷ []) (suc nesting) (claim_e s.0 (suc nesting) (omega arith))
+    (and_more (expr_item f) (expr_item g ∷ []) (suc nesting) (claim_f s.1 (suc nesting) (omega arith)) (one_fits (expr_item g) (suc nesting) (claim_g s.2 (suc nesting) (omega arith)))))
 
 while_fits : (e f : Expr) → ExprFits e → ExprFits f → ExprFits (expr.While e f)
-while_fits e f claim_e claim_f spelled level room =
+while_fits e f claim_e claim_f spelled nesting room =
     let s = rule (IsSpelledExpr-While e f) spelled in
-    let deep : suc level + max (expr_depth e) (expr_depth f) ≤ 64 = omega (arith, depth.expr_depth-While e f) in
-    ap (λ (i : Sexp). fits_at i level) (expr_item-While e f)
-    ∙ form_fits (codes "while") (expr_item e ∷ expr_item f ∷ []) level refl (omega arith)
-    (and_more (expr_item e) (expr_item f ∷ []) (suc level) (claim_e s.0 (suc level) (omega arith)) (one_fits (expr_item f) (suc level) (claim_f s.1 (suc level) (omega arith))))
+    let deep : suc nesting + max (expr_depth e) (expr_depth f) ≤ 64 = omega (arith, depth.expr_depth-While e f) in
+    ap (λ (i : Sexp). fits_at i nesting) (expr_item-While e f)
+    ∙ form_fits (codes "while") (expr_item e ∷ expr_item f ∷ []) nesting refl (omega arith)
+    (and_more (expr_item e) (expr_item f ∷ []) (suc nesting) (claim_e s.0 (suc nesting) (omega arith)) (one_fits (expr_item f) (suc nesting) (claim_f s.1 (suc nesting) (omega arith))))
 
 and_fits : (e f : Expr) → ExprFits e → ExprFits f → ExprFits (expr.And e f)
-and_fits e f claim_e claim_f spelled level room =
+and_fits e f claim_e claim_f spelled nesting room =
     let s = rule (IsSpelledExpr-And e f) spelled in
-    let deep : suc level + max (expr_depth e) (expr_depth f) ≤ 64 = omega (arith, depth.expr_depth-And e f) in
-    ap (λ (i : Sexp). fits_at i level) (expr_item-And e f)
-    ∙ form_fits (codes "and") (expr_item e ∷ expr_item f ∷ []) level refl (omega arith)
-    (and_more (expr_item e) (expr_item f ∷ []) (suc level) (claim_e s.0 (suc level) (omega arith)) (one_fits (expr_item f) (suc level) (claim_f s.1 (suc level) (omega arith))))
+    let deep : suc nesting + max (expr_depth e) (expr_depth f) ≤ 64 = omega (arith, depth.expr_depth-And e f) in
+    ap (λ (i : Sexp). fits_at i nesting) (expr_item-And e f)
+    ∙ form_fits (codes "and") (expr_item e ∷ expr_item f ∷ []) nesting refl (omega arith)
+    (and_more (expr_item e) (expr_item f ∷ []) (suc nesting) (claim_e s.0 (suc nesting) (omega arith)) (one_fits (expr_item f) (suc nesting) (claim_f s.1 (suc nesting) (omega arith))))
 
 or_fits : (e f : Expr) → ExprFits e → ExprFits f → ExprFits (expr.Or e f)
-or_fits e f claim_e claim_f spelled level room =
+or_fits e f claim_e claim_f spelled nesting room =
     let s = rule (IsSpelledExpr-Or e f) spelled in
-    let deep : suc level + max (expr_depth e) (expr_depth f) ≤ 64 = omega (arith, depth.expr_depth-Or e f) in
-    ap (λ (i : Sexp). fits_at i level) (expr_item-Or e f)
-    ∙ form_fits (codes "or") (expr_item e ∷ expr_item f ∷ []) level refl (omega arith)
-    (and_more (expr_item e) (expr_item f ∷ []) (suc level) (claim_e s.0 (suc level) (omega arith)) (one_fits (expr_item f) (suc level) (claim_f s.1 (suc level) (omega arith))))
+    let deep : suc nesting + max (expr_depth e) (expr_depth f) ≤ 64 = omega (arith, depth.expr_depth-Or e f) in
+    ap (λ (i : Sexp). fits_at i nesting) (expr_item-Or e f)
+    ∙ form_fits (codes "or") (expr_item e ∷ expr_item f ∷ []) nesting refl (omega arith)
+    (and_more (expr_item e) (expr_item f ∷ []) (suc nesting) (claim_e s.0 (suc nesting) (omega arith)) (one_fits (expr_item f) (suc nesting) (claim_f s.1 (suc nesting) (omega arith))))
 
 do_fits : (es : List Expr) → Each ExprFits es → ExprFits (expr.Do es)
-do_fits es claims spelled level room =
+do_fits es claims spelled nesting room =
     let s = rule (IsSpelledExpr-Do es) spelled in
-    let deep : suc level + most (map expr_depth es) ≤ 64 = omega (arith, depth.expr_depth-Do es) in
-    ap (λ (i : Sexp). fits_at i level) (expr_item-Do es) ∙ form_fits (codes "do") (map expr_item es) level refl (omega arith) (exprs_fit es claims s (suc level) deep)
+    let deep : suc nesting + most (map expr_depth es) ≤ 64 = omega (arith, depth.expr_depth-Do es) in
+    ap (λ (i : Sexp). fits_at i nesting) (expr_item-Do es) ∙ form_fits (codes "do") (map expr_item es) nesting refl (omega arith) (exprs_fit es claims s (suc nesting) deep)
 
 make_fits : (params : List (List ℕ)) (e : Expr) → ExprFits e → ExprFits (expr.Make params e)
-make_fits params e claim spelled level room =
+make_fits params e claim spelled nesting room =
     let s = rule (IsSpelledExpr-Make params e) spelled in
-    let deep : suc level + max 1 (expr_depth e) ≤ 64 = omega (arith, depth.expr_depth-Make params e) in
-    ap (λ (i : Sexp). fits_at i level) (expr_item-Make params e)
-    ∙ form_fits (codes "fn") (parens (map word params) ∷ expr_item e ∷ []) level refl (omega arith)
-    (and_more (parens (map word params)) (expr_item e ∷ []) (suc level) (parens_fit (map word params) (suc level) (omega arith) (words_fit params (suc (suc level)) s.0.vars))
-    (one_fits (expr_item e) (suc level) (claim s.1 (suc level) (omega arith))))
+    let deep : suc nesting + max 1 (expr_depth e) ≤ 64 = omega (arith, depth.expr_depth-Make params e) in
+    ap (λ (i : Sexp). fits_at i nesting) (expr_item-Make params e)
+    ∙ form_fits (codes "fn") (parens (map word params) ∷ expr_item e ∷ []) nesting refl (omega arith)
+    (and_more (parens (map word params)) (expr_item e ∷ []) (suc nesting) (parens_fit (map word params) (suc nesting) (omega arith) (words_fit params (suc (suc nesting)) s.0.vars))
+    (one_fits (expr_item e) (suc nesting) (claim s.1 (suc nesting) (omega arith))))
 
 apply_fits : (e : Expr) (es : List Expr) → ExprFits e → Each ExprFits es → ExprFits (expr.Apply e es)
-apply_fits e es claim claims spelled level room =
+apply_fits e es claim claims spelled nesting room =
     let s = rule (IsSpelledExpr-Apply e es) spelled in
-    let deep : suc level + max (expr_depth e) (most (map expr_depth es)) ≤ 64 = omega (arith, depth.expr_depth-Apply e es) in
-    ap (λ (i : Sexp). fits_at i level) (expr_item-Apply e es)
-    ∙ form_fits (codes "call") (expr_item e ∷ map expr_item es) level refl (omega arith)
-    (and_more (expr_item e) (map expr_item es) (suc level) (claim s.0 (suc level) (omega arith)) (exprs_fit es claims s.1 (suc level) (omega arith)))
+    let deep : suc nesting + max (expr_depth e) (most (map expr_depth es)) ≤ 64 = omega (arith, depth.expr_depth-Apply e es) in
+    ap (λ (i : Sexp). fits_at i nesting) (expr_item-Apply e es)
+    ∙ form_fits (codes "call") (expr_item e ∷ map expr_item es) nesting refl (omega arith)
+    (and_more (expr_item e) (map expr_item es) (suc nesting) (claim s.0 (suc nesting) (omega arith)) (exprs_fit es claims s.1 (suc nesting) (omega arith)))
 
 tree_fits : (d : Doc) → DocFits d → ExprFits (expr.Tree d)
-tree_fits d claim spelled level room =
+tree_fits d claim spelled nesting room =
     let s = rule (IsSpelledExpr-Tree d) spelled in
-    let deep : suc level + doc_depth d ≤ 64 = omega (arith, depth.expr_depth-Tree d) in
-    ap (λ (i : Sexp). fits_at i level) (expr_item-Tree d) ∙ form_fits (codes "new") (doc_item d ∷ []) level refl (omega arith) (one_fits (doc_item d) (suc level) (claim s (suc level) deep))
+    let deep : suc nesting + doc_depth d ≤ 64 = omega (arith, depth.expr_depth-Tree d) in
+    ap (λ (i : Sexp). fits_at i nesting) (expr_item-Tree d) ∙ form_fits (codes "new") (doc_item d ∷ []) nesting refl (omega arith) (one_fits (doc_item d) (suc nesting) (claim s (suc nesting) deep))
 
 prim_fits : (op : Op) (es : List Expr) → Each ExprFits es → ExprFits (expr.Prim op es)
-prim_fits op es claims spelled level room =
+prim_fits op es claims spelled nesting room =
     let s = rule (IsSpelledExpr-Prim op es) spelled in
-    let deep : suc level + most (map expr_depth es) ≤ 64 = omega (arith, depth.expr_depth-Prim op es) in
-    ap (λ (i : Sexp). fits_at i level) (expr_item-Prim op es) ∙ form_fits (word_of op) (map expr_item es) level (operator_word op) (omega arith) (exprs_fit es claims s.1 (suc level) deep)
+    let deep : suc nesting + most (map expr_depth es) ≤ 64 = omega (arith, depth.expr_depth-Prim op es) in
+    ap (λ (i : Sexp). fits_at i nesting) (expr_item-Prim op es) ∙ form_fits (word_of op) (map expr_item es) nesting (operator_word op) (omega arith) (exprs_fit es claims s.1 (suc nesting) deep)
 
 handler_parts : (x : List ℕ) (e : Expr) → IsSpelledHandler (handler x e) → IsVar x × IsSpelledExpr e
 handler_parts x e spelled =
     rule (IsSpelledHandler-out (handler x e) ∙ ap (handler_spelled Doc Expr Handler IsSpelledDoc IsSpelledExpr IsSpelledHandler) (out-roll-Handler (record { param = x; body = e }))) spelled
 
 handler_fits : (x : List ℕ) (e : Expr) → ExprFits e → HandlerFits (handler x e)
-handler_fits x e claim spelled level room =
+handler_fits x e claim spelled nesting room =
     let s = handler_parts x e spelled in
-    let deep : suc level + max 1 (expr_depth e) ≤ 64 = omega (arith, depth.handler_depth-handler x e) in
-    ap (λ (i : Sexp). fits_at i level) (handler_item-is x e)
-    ∙ form_fits (codes "fn") (parens (word x ∷ []) ∷ expr_item e ∷ []) level refl (omega arith)
-    (and_more (parens (word x ∷ [])) (expr_item e ∷ []) (suc level) (parens_fit (word x ∷ []) (suc level) (omega arith) (one_fits (word x) (suc (suc level)) (word_fits x (suc (suc level)) (name_word x s.0.name))))
-    (one_fits (expr_item e) (suc level) (claim s.1 (suc level) (omega arith))))
+    let deep : suc nesting + max 1 (expr_depth e) ≤ 64 = omega (arith, depth.handler_depth-handler x e) in
+    ap (λ (i : Sexp). fits_at i nesting) (handler_item-is x e)
+    ∙ form_fits (codes "fn") (parens (word x ∷ []) ∷ expr_item e ∷ []) nesting refl (omega arith)
+    (and_more (parens (word x ∷ [])) (expr_item e ∷ []) (suc nesting) (parens_fit (word x ∷ []) (suc nesting) (omega arith) (one_fits (word x) (suc (suc nesting)) (word_fits x (suc (suc nesting)) (name_word x s.0.name))))
+    (one_fits (expr_item e) (suc nesting) (claim s.1 (suc nesting) (omega arith))))
 
 text_fits : (x text : List ℕ) → DocFits (doc.Text x text)
-text_fits x text spelled level room =
+text_fits x text spelled nesting room =
     let s = rule (IsSpelledDoc-Text x text) spelled in
-    let deep : suc level ≤ 64 = omega (arith, depth.doc_depth-Text x text) in
-    ap (λ (i : Sexp). fits_at i level) (doc_item-Text x text) ∙ named_fits (codes "text") x (string text ∷ []) level refl (name_word x s.0) (omega arith) (one_fits (string text) (suc level) (string_fits text (suc level) s.1))
+    let deep : suc nesting ≤ 64 = omega (arith, depth.doc_depth-Text x text) in
+    ap (λ (i : Sexp). fits_at i nesting) (doc_item-Text x text) ∙ named_fits (codes "text") x (string text ∷ []) nesting refl (name_word x s.0) (omega arith) (one_fits (string text) (suc nesting) (string_fits text (suc nesting) s.1))
 
 link_fits : (x : List ℕ) (url : Url) (label : List ℕ) → DocFits (doc.Link x url label)
-link_fits x url label spelled level room =
+link_fits x url label spelled nesting room =
     let s = rule (IsSpelledDoc-Link x url label) spelled in
-    let deep : suc level ≤ 64 = omega (arith, depth.doc_depth-Link x url label) in
-    ap (λ (i : Sexp). fits_at i level) (doc_item-Link x url label)
-    ∙ named_fits (codes "link") x (address url ∷ string label ∷ []) level refl (name_word x s.0) (omega arith)
-    (and_more (address url) (string label ∷ []) (suc level) (word_fits (printed url) (suc level) (url_word url s.1)) (one_fits (string label) (suc level) (string_fits label (suc level) s.2)))
+    let deep : suc nesting ≤ 64 = omega (arith, depth.doc_depth-Link x url label) in
+    ap (λ (i : Sexp). fits_at i nesting) (doc_item-Link x url label)
+    ∙ named_fits (codes "link") x (address url ∷ string label ∷ []) nesting refl (name_word x s.0) (omega arith)
+    (and_more (address url) (string label ∷ []) (suc nesting) (word_fits (printed url) (suc nesting) (url_word url s.1)) (one_fits (string label) (suc nesting) (string_fits label (suc nesting) s.2)))
 
 box_fits : (x text : List ℕ) (hs : List Handler) → Each HandlerFits hs → DocFits (doc.TextBox x text hs)
-box_fits x text hs claims spelled level room =
+box_fits x text hs claims spelled nesting room =
     let s = rule (IsSpelledDoc-TextBox x text hs) spelled in
-    let deep : suc level + most (map handler_depth hs) ≤ 64 = omega (arith, depth.doc_depth-TextBox x text hs) in
-    ap (λ (i : Sexp). fits_at i level) (doc_item-TextBox x text hs)
-    ∙ named_fits (codes "box") x (string text ∷ map handler_item hs) level refl (name_word x s.0) (omega arith)
-    (and_more (string text) (map handler_item hs) (suc level) (string_fits text (suc level) s.1) (handlers_fit hs claims s.3 (suc level) deep))
+    let deep : suc nesting + most (map handler_depth hs) ≤ 64 = omega (arith, depth.doc_depth-TextBox x text hs) in
+    ap (λ (i : Sexp). fits_at i nesting) (doc_item-TextBox x text hs)
+    ∙ named_fits (codes "box") x (string text ∷ map handler_item hs) nesting refl (name_word x s.0) (omega arith)
+    (and_more (string text) (map handler_item hs) (suc nesting) (string_fits text (suc nesting) s.1) (handlers_fit hs claims s.3 (suc nesting) deep))
 
 button_fits : (x text : List ℕ) (hs : List Handler) → Each HandlerFits hs → DocFits (doc.Button x text hs)
-button_fits x text hs claims spelled level room =
+button_fits x text hs claims spelled nesting room =
     let s = rule (IsSpelledDoc-Button x text hs) spelled in
-    let deep : suc level + most (map handler_depth hs) ≤ 64 = omega (arith, depth.doc_depth-Button x text hs) in
-    ap (λ (i : Sexp). fits_at i level) (doc_item-Button x text hs)
-    ∙ named_fits (codes "button") x (string text ∷ map handler_item hs) level refl (name_word x s.0) (omega arith)
-    (and_more (string text) (map handler_item hs) (suc level) (string_fits text (suc level) s.1) (handlers_fit hs claims s.3 (suc level) deep))
+    let deep : suc nesting + most (map handler_depth hs) ≤ 64 = omega (arith, depth.doc_depth-Button x text hs) in
+    ap (λ (i : Sexp). fits_at i nesting) (doc_item-Button x text hs)
+    ∙ named_fits (codes "button") x (string text ∷ map handler_item hs) nesting refl (name_word x s.0) (omega arith)
+    (and_more (string text) (map handler_item hs) (suc nesting) (string_fits text (suc nesting) s.1) (handlers_fit hs claims s.3 (suc nesting) deep))
 
 script_fits : (x : List ℕ) (e : Expr) → ExprFits e → DocFits (doc.Script x e)
-script_fits x e claim spelled level room =
+script_fits x e claim spelled nesting room =
     let s = rule (IsSpelledDoc-Script x e) spelled in
-    let deep : suc level + expr_depth e ≤ 64 = omega (arith, depth.doc_depth-Script x e) in
-    ap (λ (i : Sexp). fits_at i level) (doc_item-Script x e)
-    ∙ named_fits (codes "script") x (expr_item e ∷ []) level refl (name_word x s.0) (omega arith) (one_fits (expr_item e) (suc level) (claim s.1 (suc level) deep))
+    let deep : suc nesting + expr_depth e ≤ 64 = omega (arith, depth.doc_depth-Script x e) in
+    ap (λ (i : Sexp). fits_at i nesting) (doc_item-Script x e)
+    ∙ named_fits (codes "script") x (expr_item e ∷ []) nesting refl (name_word x s.0) (omega arith) (one_fits (expr_item e) (suc nesting) (claim s.1 (suc nesting) deep))
 
 src_fits : (x : List ℕ) (url : Url) → DocFits (doc.Src x url)
-src_fits x url spelled level room =
+src_fits x url spelled nesting room =
     let s = rule (IsSpelledDoc-Src x url) spelled in
-    let deep : suc level ≤ 64 = omega (arith, depth.doc_depth-Src x url) in
-    ap (λ (i : Sexp). fits_at i level) (doc_item-Src x url)
-    ∙ named_fits (codes "src") x (address url ∷ []) level refl (name_word x s.0) (omega arith) (one_fits (address url) (suc level) (word_fits (printed url) (suc level) (url_word url s.1)))
+    let deep : suc nesting ≤ 64 = omega (arith, depth.doc_depth-Src x url) in
+    ap (λ (i : Sexp). fits_at i nesting) (doc_item-Src x url)
+    ∙ named_fits (codes "src") x (address url ∷ []) nesting refl (name_word x s.0) (omega arith) (one_fits (address url) (suc nesting) (word_fits (printed url) (suc nesting) (url_word url s.1)))
 
 div_fits : (x : List ℕ) (ds : List Doc) → Each DocFits ds → DocFits (doc.Div x ds)
-div_fits x ds claims spelled level room =
+div_fits x ds claims spelled nesting room =
     let s = rule (IsSpelledDoc-Div x ds) spelled in
-    let deep : suc level + most (map doc_depth ds) ≤ 64 = omega (arith, depth.doc_depth-Div x ds) in
-    ap (λ (i : Sexp). fits_at i level) (doc_item-Div x ds)
-    ∙ named_fits (codes "div") x (map doc_item ds) level refl (name_word x s.0) (omega arith) (docs_fit ds claims s.1 (suc level) deep)
+    let deep : suc nesting + most (map doc_depth ds) ≤ 64 = omega (arith, depth.doc_depth-Div x ds) in
+    ap (λ (i : Sexp). fits_at i nesting) (doc_item-Div x ds)
+    ∙ named_fits (codes "div") x (map doc_item ds) nesting refl (name_word x s.0) (omega arith) (docs_fit ds claims s.1 (suc nesting) deep)
 
 by_forms : ByForms DocFits ExprFits HandlerFits
 by_forms = record {
-  lit = λ l spelled level room. same_fits (expr_item (expr.Lit l)) (lit_item l) level (expr_item-Lit l) (lit_fits l (rule (IsSpelledExpr-Lit l) spelled) level);
+  lit = λ l spelled nesting room. same_fits (expr_item (expr.Lit l)) (lit_item l) nesting (expr_item-Lit l) (lit_fits l (rule (IsSpelledExpr-Lit l) spelled) nesting);
   var = var_fits;
   let_form = let_fits;
   set_form = set_fits;
@@ -295,15 +295,15 @@ each_doc_fits : (ds : List Doc) → Each DocFits ds
 each_doc_fits [] = tt
 each_doc_fits (d ∷ ds) = (doc_fits d, each_doc_fits ds)
 
-cookie_fits : (entry : CookieOp) → IsCookieOp entry → (level : ℕ) → level < 64 → Fits (cookie_item entry) level
-cookie_fits (cookie.Put key value) is level room =
-    form_fits (codes "set") (string key ∷ string value ∷ []) level refl room
-    (and_more (string key) (string value ∷ []) (suc level) (string_fits key (suc level) is.0) (one_fits (string value) (suc level) (string_fits value (suc level) is.1)))
-cookie_fits (cookie.Drop key) is level room = form_fits (codes "del") (string key ∷ []) level refl room (one_fits (string key) (suc level) (string_fits key (suc level) is))
+cookie_fits : (entry : CookieOp) → IsCookieOp entry → (nesting : ℕ) → nesting < 64 → Fits (cookie_item entry) nesting
+cookie_fits (cookie.Put key value) is nesting room =
+    form_fits (codes "set") (string key ∷ string value ∷ []) nesting refl room
+    (and_more (string key) (string value ∷ []) (suc nesting) (string_fits key (suc nesting) is.0) (one_fits (string value) (suc nesting) (string_fits value (suc nesting) is.1)))
+cookie_fits (cookie.Drop key) is nesting room = form_fits (codes "del") (string key ∷ []) nesting refl room (one_fits (string key) (suc nesting) (string_fits key (suc nesting) is))
 
-each_cookie_fits : (cookies : List CookieOp) → AllByRecursion IsCookieOp cookies → (level : ℕ) → level < 64 → AllFit (map cookie_item cookies) level
-each_cookie_fits [] are level room = refl
-each_cookie_fits (entry ∷ cookies) are level room = and_more (cookie_item entry) (map cookie_item cookies) level (cookie_fits entry are.0 level room) (each_cookie_fits cookies are.1 level room)
+each_cookie_fits : (cookies : List CookieOp) → AllByRecursion IsCookieOp cookies → (nesting : ℕ) → nesting < 64 → AllFit (map cookie_item cookies) nesting
+each_cookie_fits [] are nesting room = refl
+each_cookie_fits (entry ∷ cookies) are nesting room = and_more (cookie_item entry) (map cookie_item cookies) nesting (cookie_fits entry are.0 nesting room) (each_cookie_fits cookies are.1 nesting room)
 
 cookies_fit : (cookies : List CookieOp) → AllByRecursion IsCookieOp cookies → Fits (cookies_item cookies) 1
 cookies_fit cookies are = parens_fit (map cookie_item cookies) 1 (omega arith) (each_cookie_fits cookies are 2 (omega arith))

@@ -124,22 +124,22 @@ spelled_in_line = items_ind SpelledInLine
     ∙ both (join_with_byte 32 (map spelled parts)) (41 ∷ []) (parts_in_line parts each (sym (has_words-List at parts) ∙ has)) refl)
 
 abbrev WordsFit : Sexp → Type 0
-WordsFit item = (level : ℕ) → fits_at item level ≡ true → has_words item ≡ true
+WordsFit item = (nesting : ℕ) → fits_at item nesting ≡ true → has_words item ≡ true
 
-parts_fit : (parts : List Sexp) → EachItem WordsFit parts → (level : ℕ) → list_all (λ (part : ℕ → Bool). part level) (map fits_at parts) ≡ true → HaveWords parts
-parts_fit [] each level fit = refl
-parts_fit (part ∷ parts) each level fit =
-    let tests = and_parts (fits_at part level) (list_all (λ (p : ℕ → Bool). p level) (map fits_at parts)) fit in
-    and_from _ _ (each.0 level tests.0) (parts_fit parts each.1 level tests.1)
+parts_fit : (parts : List Sexp) → EachItem WordsFit parts → (nesting : ℕ) → list_all (λ (part : ℕ → Bool). part nesting) (map fits_at parts) ≡ true → HaveWords parts
+parts_fit [] each nesting fit = refl
+parts_fit (part ∷ parts) each nesting fit =
+    let tests = and_parts (fits_at part nesting) (list_all (λ (p : ℕ → Bool). p nesting) (map fits_at parts)) fit in
+    and_from _ _ (each.0 nesting tests.0) (parts_fit parts each.1 nesting tests.1)
 
 words_fit : (item : Sexp) → WordsFit item
 words_fit = items_ind WordsFit
-    (λ at text level fits. has_words-Word at text ∙ sym (ap (λ f. f level) (fits_at-Word at text)) ∙ fits)
-    (λ at value level fits. has_words-Str at value)
-    (λ at parts each level fits.
+    (λ at text nesting fits. has_words-Word at text ∙ sym (ap (λ f. f nesting) (fits_at-Word at text)) ∙ fits)
+    (λ at value nesting fits. has_words-Str at value)
+    (λ at parts each nesting fits.
     has_words-List at parts
-    ∙ parts_fit parts each (suc level)
-    (and_parts (nat_lt level 64) (list_all (λ (p : ℕ → Bool). p (suc level)) (map fits_at parts)) (sym (ap (λ f. f level) (fits_at-List at parts)) ∙ fits)).1)
+    ∙ parts_fit parts each (suc nesting)
+    (and_parts (nat_lt nesting 64) (list_all (λ (p : ℕ → Bool). p (suc nesting)) (map fits_at parts)) (sym (ap (λ f. f nesting) (fits_at-List at parts)) ∙ fits)).1)
 
 other : (b : ℕ) → is_other b ≡ true → b ≢ 10
 other b h e = let wrong : is_other 10 ≡ true = subst (λ c. is_other c ≡ true) e h in cc
@@ -187,8 +187,8 @@ IsSpelledSeen-out : (x : Seen) → IsSpelledSeen x ≡ seen_spelled Seen IsSpell
 unfolding IsSpelledSeen
 IsSpelledSeen-out x = ap IsSpelledSeen (sym (roll-out-Seen x)) ∙ rec-roll-Seen (Type 0) (λ S _. seen_spelled S) seen_of_parts (out-Seen x)
 
-level_of : (x : Seen) (level : Seen-F Seen) → out-Seen x ≡ level → IsSpelledSeen x → seen_spelled Seen IsSpelledSeen level
-level_of x level e spelled = rule (IsSpelledSeen-out x ∙ ap (seen_spelled Seen IsSpelledSeen) e) spelled
+layer_of : (x : Seen) (layer : Seen-F Seen) → out-Seen x ≡ layer → IsSpelledSeen x → seen_spelled Seen IsSpelledSeen layer
+layer_of x layer e spelled = rule (IsSpelledSeen-out x ∙ ap (seen_spelled Seen IsSpelledSeen) e) spelled
 
 abbrev SeenHas : Seen → Type 0
 SeenHas s = IsSpelledSeen s → has_words (seen_item s) ≡ true
@@ -208,14 +208,14 @@ link_has url label well =
 seen_layer : (y : Seen-F (Such the_family (claims SeenHas) member-Seen)) → SeenHas (roll-Seen (map-Seen (Such the_family (claims SeenHas) member-Seen) Seen (λ e. e.0) y))
 unfolding roll-Seen denote.Hole.Carrier.roll
 seen_layer (Seen-F.Text text) spelled = ap has_words (seen_item-Text text) ∙ label_has (codes "text") text refl
-seen_layer (Seen-F.Link url label) spelled = ap has_words (seen_item-Link url label) ∙ link_has url label (level_of (seen.Link url label) (Seen-F.Link url label) (seen.outs-Link url label) spelled).0
+seen_layer (Seen-F.Link url label) spelled = ap has_words (seen_item-Link url label) ∙ link_has url label (layer_of (seen.Link url label) (Seen-F.Link url label) (seen.outs-Link url label) spelled).0
 seen_layer (Seen-F.TextBox text) spelled = ap has_words (seen_item-TextBox text) ∙ label_has (codes "box") text refl
 seen_layer (Seen-F.Button label) spelled = ap has_words (seen_item-Button label) ∙ label_has (codes "button") label refl
 seen_layer (Seen-F.Div parts) spelled =
     let shown = map (λ e. e.0) parts in
     ap has_words (seen_item-Div shown)
     ∙ list_has (word (codes "div") ∷ map seen_item shown) (and_more (word (codes "div")) (map seen_item shown) (word_has (codes "div") refl)
-    (all_have shown (each parts) (level_of (seen.Div shown) (Seen-F.Div shown) (seen.outs-Div shown) spelled)))
+    (all_have shown (each parts) (layer_of (seen.Div shown) (Seen-F.Div shown) (seen.outs-Div shown) spelled)))
   where
     each : (entries : List (Such the_family (claims SeenHas) member-Seen)) → Each SeenHas (map (λ e. e.0) entries)
     each [] = tt
