@@ -1,7 +1,5 @@
 -- A line is put together from what is read.
-use Rattle.std.proofs.Common.{◌≡◌, ℕ, suc, ◌+◌, ◌-◌, ◌<◌, ◌≤◌, ◌⊎◌, inl, inr, Bool, true, false, cond, ◌||◌, Option, Some, None, Result, Ok, Err, List, [], ◌∷◌, ◌++◌, length, refl, sym, ap, subst, ◌∙◌, append-nil, append_assoc, arith, length-append}
-use Rattle.std.specs.Bool.{⊤}
-use Rattle.std.specs.Result.{IfOk, OnOk}
+use Rattle.std.proofs.Common.{◌≡◌, ℕ, suc, ◌+◌, ◌-◌, ◌<◌, ◌≤◌, inl, inr, Bool, true, false, cond, ◌||◌, Option, Ok, Err, List, [], ◌∷◌, ◌++◌, length, refl, sym, ap, subst, ◌∙◌, append-nil, append_assoc, arith, length-append}
 use Rattle.std.specs.Prelude.{Vec}
 use Rattle.std.specs.declared.alloc.Global.{Global}
 use Rattle.std.proofs.lemmas.List.{nil_from_length}
@@ -9,10 +7,10 @@ use Rattle.std.proofs.lemmas.Bool.{false≢true}
 use Rattle.ff_io.specs.Pieces.{Piece, got_of, has_end, is_nil}
 use Rattle.ff_io.specs.Pieces.Piece.{Got, Put}
 use Rattle.ff_io.specs.Port.{Adds, Leaves, AtEnd}
-use Rattle.ff_io.specs.Chunks.{IsChunk, chunk_pieces, IsReadFail}
+use Rattle.ff_io.specs.Chunks.{IsChunk, IsReadFail}
 use Rattle.ff_io.specs.Cutting.{has_newline, content, after_line, line_size, Fits, IsUnfinished, HasLine}
-use Rattle.ff_io.specs.Following.{LinesState, ReadsWhileNone, IsNext, IsGiven, IsOver, Nexts}
-use Rattle.ff_io.specs.Gathering.{IsSizeFault, IsCut, IsUncut, Cuts, IsGathered, IsUngathered, GathersFrom, Gathers}
+use Rattle.ff_io.specs.Following.{LinesState, ReadsWhileNone, IsNext, Nexts}
+use Rattle.ff_io.specs.Gathering.{IsSizeFault, IsCut, IsUncut, IsUngathered, Gathers}
 use Rattle.ff_io.specs.declared.chunk.TheConstants.{MOST_READ_BYTES}
 use Rattle.ff_io.specs.declared.lines.Next.TheVariants.{Line, End}
 use Rattle.ff_io.specs.declared.lines.LineFail.{LineFail}
@@ -64,12 +62,15 @@ reads_more given held ended [] bytes reads unfinished short =
     or_left : (s t : Bool) → (s || t) ≡ false → s ≡ false
     or_left true t e = e
     or_left false t e = refl
-reads_more given held ended (Got b ∷ pieces) bytes reads unfinished short =
-    (reads.0, reads.1, reads_more given (held ++ b) (is_nil b) pieces bytes reads.2 (record {
-      no_line = rw (append_assoc held b (got_of pieces)) unfinished.no_line;
-      open_yet = rw reads.0.open_yet at unfinished.open_yet;
-      fits = rw (append_assoc held b (got_of pieces)) unfinished.fits;
-    }) short)
+reads_more given held ended (Got b ∷ pieces) bytes reads unfinished short = (
+  reads.0,
+  reads.1,
+  reads_more given (held ++ b) (is_nil b) pieces bytes reads.2 (record {
+    no_line = rw (append_assoc held b (got_of pieces)) unfinished.no_line;
+    open_yet = rw reads.0.open_yet at unfinished.open_yet;
+    fits = rw (append_assoc held b (got_of pieces)) unfinished.fits;
+  }) short,
+)
 reads_more given held ended (Put b ∷ pieces) bytes reads unfinished short = absurd reads
 
 -- these pieces were read, and a line was cut off all the bytes, or what is held has none
@@ -164,6 +165,7 @@ module _ {log_before log_mid : Option (List Piece)} {rest_before rest_mid : Opti
           or_right : (s t : Bool) → (s || t) ≡ false → t ≡ false
           or_right true t e = absurd (false≢true (sym e))
           or_right false t e = e
+
       from : (f : LineFail) → IsReadFail f → IsUngathered given got (ended || has_end so_far.pieces) f
       from Read k = unfinished
       from NoMemory k = tt
