@@ -1,7 +1,5 @@
 -- A line is put together from what is read.
-use Rattle.std.proofs.Common.{◌≡◌, ℕ, suc, ◌+◌, ◌-◌, ◌<◌, ◌≤◌, ◌⊎◌, inl, inr, Bool, true, false, cond, ◌||◌, Option, Some, None, Result, Ok, Err, List, [], ◌∷◌, ◌++◌, length, refl, sym, ap, subst, ◌∙◌, append-nil, append_assoc, arith, length-append}
-use Rattle.std.specs.Bool.{⊤}
-use Rattle.std.specs.Result.{IfOk, OnOk}
+use Rattle.std.proofs.Common.{◌≡◌, ℕ, suc, ◌+◌, ◌-◌, ◌<◌, ◌≤◌, inl, inr, Bool, true, false, cond, ◌||◌, Option, Ok, Err, List, [], ◌∷◌, ◌++◌, length, refl, sym, ap, subst, ◌∙◌, append-nil, append_assoc, arith, length-append}
 use Rattle.std.specs.Prelude.{Vec}
 use Rattle.std.specs.declared.alloc.Global.{Global}
 use Rattle.std.proofs.lemmas.List.{nil_from_length}
@@ -9,10 +7,10 @@ use Rattle.std.proofs.lemmas.Bool.{false≢true}
 use Rattle.ff_io.specs.Pieces.{Piece, got_of, has_end, is_nil}
 use Rattle.ff_io.specs.Pieces.Piece.{Got, Put}
 use Rattle.ff_io.specs.Port.{Adds, Leaves, AtEnd}
-use Rattle.ff_io.specs.Chunks.{IsChunk, chunk_pieces, IsReadFail}
+use Rattle.ff_io.specs.Chunks.{IsChunk, IsReadFail}
 use Rattle.ff_io.specs.Cutting.{has_newline, content, after_line, line_size, Fits, IsUnfinished, HasLine}
-use Rattle.ff_io.specs.Following.{LinesState, ReadsWhileNone, IsNext, IsGiven, IsOver, Nexts}
-use Rattle.ff_io.specs.Gathering.{IsSizeFault, IsCut, IsUncut, Cuts, IsGathered, IsUngathered, GathersFrom, Gathers}
+use Rattle.ff_io.specs.Following.{LinesState, ReadsWhileNone, IsNext, Nexts}
+use Rattle.ff_io.specs.Gathering.{IsSizeFault, IsCut, IsUncut, IsUngathered, Gathers}
 use Rattle.ff_io.specs.declared.chunk.TheConstants.{MOST_READ_BYTES}
 use Rattle.ff_io.specs.declared.lines.Next.TheVariants.{Line, End}
 use Rattle.ff_io.specs.declared.lines.LineFail.{LineFail}
