@@ -1,5 +1,5 @@
 -- An input of a trace that the machine takes is one that the levels and the browser take.
-use Rattle.std.proofs.Common.{◌≡◌, ℕ, Option, Some, None, List, subst}
+use Rattle.std.proofs.Common.{◌≡◌, ℕ, Option, Some, None, subst}
 use Rattle.ff_lattice.specs.Order.{Order}
 use Rattle.ff_name.specs.declared.levels.Level.{Level}
 use Rattle.ff_value.specs.declared.input.Input.{Input}

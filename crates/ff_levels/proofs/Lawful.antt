@@ -1,5 +1,5 @@
 -- The levels of every policy fit the browser.
-use Rattle.std.proofs.Common.{◌≡◌, ◌≢◌, ℕ, List, [], subst, sym}
+use Rattle.std.proofs.Common.{subst, sym}
 use Rattle.std.specs.Bool.{⊤}
 use Rattle.std.specs.List.{AllByRecursion}
 use Rattle.std.specs.Str.{IsUtf8}

@@ -1,5 +1,4 @@
 -- The levels of a policy, and the inputs that they and the browser take.
-use Rattle.std.specs.Prelude.{List}
 use Rattle.ff_reactive.specs.Copies.{Levels}
 use Rattle.ff_lattice.specs.Order.{Order}
 use Rattle.ff_value.specs.declared.input.Input.{Input}
