@@ -17,7 +17,11 @@ fn a_status_has_a_number_and_a_line(rt: HostRuntime) {
     for (status, number, line) in [
         (Status::Done, 0, ""),
         (Status::ShelfFault, 7, "ffox: file fault\n"),
-        (Status::Trace(20, TraceFault::TooLong), 4, "ffox: line 20: line too long\n"),
+        (
+            Status::Trace(20, TraceFault::TooLong),
+            4,
+            "ffox: line 20: line too long\n",
+        ),
     ] {
         assert!(rt; reports(rt.alloc(), &status, number, line), "{line}");
     }

@@ -5,10 +5,10 @@ ghost use Rattle.ff_status.specs.Words.{error_line, lattice_words, line_words, p
 
 use crate::putting::{put, put_number, put_pair, put_quoted};
 use crate::status::{Status, TraceFault};
+use ff_forms::SyntaxFault;
 use ff_io::{Failed, Sink};
 use ff_lattice::LatticeFault;
 use ff_policy::PolicyFault;
-use ff_forms::SyntaxFault;
 use ff_text::TextFault;
 use ff_trace::LineFault;
 

@@ -10,5 +10,5 @@ returns c =
       some_front is_plain_byte c.args.left.now c.plain_front-n.result c.plain_front-n.ensures.longest c.requires.some c.requires.plain,
       c.plain_front-n.ensures.bound,
       takes_plain c.args.self.now c.args.left.now c.extend.new.self c.requires.mode.0 c.plain_front-n.result c.requires.mode.1 c.plain_front-n.ensures.bound c.plain_front-n.ensures.plain
-      (search rules),
+          (search rules),
     )

@@ -27,5 +27,5 @@ returns c =
       omega arith,
       omega (arith, inside),
       takes_whole_word c.args.self.now c.put_word.new.self c.args.left.now c.word_front-n.result _ c.requires.mode (c.is_empty.ensures.0 c.if-not-is_empty.false) some inside
-      c.word_front-n.ensures.word (c.word_front-n.ensures.longest inside) c.in_ok-put_word.ensures c.in_ok-take_outside.ensures,
+          c.word_front-n.ensures.word (c.word_front-n.ensures.longest inside) c.in_ok-put_word.ensures c.in_ok-take_outside.ensures,
     )
