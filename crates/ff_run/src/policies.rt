@@ -27,8 +27,8 @@ pub(crate) fn find_policy<S: Shelf>(
 ) -> Result<Policy, Status>
     ensures named { IfOk result (NamesPolicy (S.told shelf.old) name.now) }
     ensures refused { IfErr result (Refuses (S.told shelf.old) (S.told shelf.new) name.now) }
-    ensures accepts { (p : Assignment) → IsKnown (S.told shelf.old) name.now → NamesPolicy (S.told shelf.old) name.now p → (result ≡ Ok p) ⊎ IsOutside result }
-    ensures only { (fault : PolicyFault) → IsKnown (S.told shelf.old) name.now → NamesFault (S.told shelf.old) name.now fault → (result ≡ Err (Status.Policy fault)) ⊎ IsOutside result }
+    ensures only { (p : Assignment) → IsKnown (S.told shelf.old) name.now → NamesPolicy (S.told shelf.old) name.now p → (result ≡ Ok p) ⊎ IsOutside result }
+    ensures exact { (fault : PolicyFault) → IsKnown (S.told shelf.old) name.now → NamesFault (S.told shelf.old) name.now fault → (result ≡ Err (Status.Policy fault)) ⊎ IsOutside result }
     ensures untouched { name.now ≡ dash → shelf.new ≡ shelf.old }
 {
     if name == "-" {
@@ -47,8 +47,8 @@ fn fetch_policy<S: Shelf>(alloc: Global, shelf: &mut S, name: &str) -> Result<Po
     requires { name.now ≢ dash }
     ensures named { IfOk result (NamesPolicy (S.told shelf.old) name.now) }
     ensures refused { IfErr result (Refuses (S.told shelf.old) (S.told shelf.new) name.now) }
-    ensures accepts { (p : Assignment) → IsKnown (S.told shelf.old) name.now → NamesPolicy (S.told shelf.old) name.now p → (result ≡ Ok p) ⊎ IsOutside result }
-    ensures only { (fault : PolicyFault) → IsKnown (S.told shelf.old) name.now → NamesFault (S.told shelf.old) name.now fault → (result ≡ Err (Status.Policy fault)) ⊎ IsOutside result }
+    ensures only { (p : Assignment) → IsKnown (S.told shelf.old) name.now → NamesPolicy (S.told shelf.old) name.now p → (result ≡ Ok p) ⊎ IsOutside result }
+    ensures exact { (fault : PolicyFault) → IsKnown (S.told shelf.old) name.now → NamesFault (S.told shelf.old) name.now fault → (result ≡ Err (Status.Policy fault)) ⊎ IsOutside result }
 {
     match fetch_front(alloc, shelf, name, MOST_FETCHED) {
         Ok(bytes) => read_policy(alloc, bytes.as_slice()),
@@ -62,8 +62,8 @@ fn fetch_policy<S: Shelf>(alloc: Global, shelf: &mut S, name: &str) -> Result<Po
 fn read_policy(alloc: Global, bytes: &[u8]) -> Result<Policy, Status>
     ensures named { IfOk result (IsPolicyOf bytes.now) }
     ensures refused { IfErr result (RefusesBytes bytes.now) }
-    ensures accepts { (p : Assignment) → IsPolicyOf bytes.now p → (result ≡ Ok p) ⊎ (result ≡ Err Status.NoMemory) }
-    ensures only { (fault : PolicyFault) → IsFault bytes.now fault → (result ≡ Err (Status.Policy fault)) ⊎ (result ≡ Err Status.NoMemory) }
+    ensures only { (p : Assignment) → IsPolicyOf bytes.now p → (result ≡ Ok p) ⊎ (result ≡ Err Status.NoMemory) }
+    ensures exact { (fault : PolicyFault) → IsFault bytes.now fault → (result ≡ Err (Status.Policy fault)) ⊎ (result ≡ Err Status.NoMemory) }
 {
     match Policy::read(alloc, bytes) {
         Ok(policy) => Ok(policy),

@@ -18,15 +18,15 @@ returns-in-Ok-clause-refused g c =
     let fetched = subst (λ files. IsFetched files c.args.name.now MOST_FETCHED c.in-Ok.bytes.items) (sym (ap (λ s. s.files) (g.met.S.Shelf.tells c.args.shelf.now))) c.in-Ok.ensures.bytes in
     refused_in_file _ _ c.in-Ok.bytes.items c.requires fetched c.read_policy.result _ (subst (λ b. IfErr c.read_policy.result (RefusesBytes b)) c.as_slice.ensures.value c.read_policy.ensures.refused)
 
-pub returns-in-Ok-clause-accepts : goal.returns-in-Ok-clause-accepts
-returns-in-Ok-clause-accepts g c =
-    let fetched = subst (λ files. IsFetched files c.args.name.now MOST_FETCHED c.in-Ok.bytes.items) (sym (ap (λ s. s.files) (g.met.S.Shelf.tells c.args.shelf.now))) c.in-Ok.ensures.bytes in
-    accepts_in_file _ _ c.in-Ok.bytes.items c.requires fetched c.read_policy.result (λ p is. c.read_policy.ensures.accepts p (subst (λ b. IsPolicyOf b p) (sym c.as_slice.ensures.value) is))
-
 pub returns-in-Ok-clause-only : goal.returns-in-Ok-clause-only
 returns-in-Ok-clause-only g c =
     let fetched = subst (λ files. IsFetched files c.args.name.now MOST_FETCHED c.in-Ok.bytes.items) (sym (ap (λ s. s.files) (g.met.S.Shelf.tells c.args.shelf.now))) c.in-Ok.ensures.bytes in
-    only_in_file _ _ c.in-Ok.bytes.items c.requires fetched c.read_policy.result (λ fault is. c.read_policy.ensures.only fault (subst (λ b. IsFault b fault) (sym c.as_slice.ensures.value) is))
+    accepts_in_file _ _ c.in-Ok.bytes.items c.requires fetched c.read_policy.result (λ p is. c.read_policy.ensures.only p (subst (λ b. IsPolicyOf b p) (sym c.as_slice.ensures.value) is))
+
+pub returns-in-Ok-clause-exact : goal.returns-in-Ok-clause-exact
+returns-in-Ok-clause-exact g c =
+    let fetched = subst (λ files. IsFetched files c.args.name.now MOST_FETCHED c.in-Ok.bytes.items) (sym (ap (λ s. s.files) (g.met.S.Shelf.tells c.args.shelf.now))) c.in-Ok.ensures.bytes in
+    only_in_file _ _ c.in-Ok.bytes.items c.requires fetched c.read_policy.result (λ fault is. c.read_policy.ensures.exact fault (subst (λ b. IsFault b fault) (sym c.as_slice.ensures.value) is))
 
 pub returns-in-Err-Fetch-clause-refused : goal.returns-in-Err-Fetch-clause-refused
 returns-in-Err-Fetch-clause-refused g c =
