@@ -5,8 +5,8 @@ ghost use Rattle.ff_cow.specs.Push.{returned, is_full};
 
 use crate::branch::Branch;
 use crate::cell::{Cell, NoMemory};
-use crate::leaf::Leaf;
 use crate::layer::{Layer, Writable};
+use crate::leaf::Leaf;
 use ff_steps::Steps;
 use std::alloc::Global;
 use std::marker::Model;

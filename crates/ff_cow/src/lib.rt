@@ -16,8 +16,8 @@
 mod branch;
 mod cell;
 mod cow_vec;
-mod leaf;
 mod layer;
+mod leaf;
 
 pub use cell::{Cell, NoMemory};
 pub use cow_vec::{CowVec, MOST_CELLS, PushFail};
