@@ -1,4 +1,4 @@
-// One height of the tree. A node of a level is seen as the list of the cells below it.
+// One layer of the tree. A node of it is seen as the list of the cells below it.
 ghost use Rattle.std.specs.Prelude.{◌≡◌, ℕ, ◌+◌, ◌<◌, ◌≤◌, [], ◌∷◌, ◌++◌, List, length, IfOk, IfErr, OnOk, OnErr, slice_get, slice_set};
 
 use crate::cell::{Cell, NoMemory};
@@ -9,9 +9,9 @@ use std::sync::ledger::Ledger;
 /// How many cells a leaf has room for, and how many nodes a branch has room for.
 pub(crate) const WIDTH: usize = 16;
 
-/// A node that can be read. `capacity` is how many cells a full node of this level has; a caller passes it
+/// A node that can be read. `capacity` is how many cells a full node of this layer has; a caller passes it
 /// down as `room`.
-pub(crate) trait Level<V>: Sized {
+pub(crate) trait Layer<V>: Sized {
     ghost capacity: { ℕ };
 
     ghost cells: { Self → List V };
@@ -32,7 +32,7 @@ pub(crate) trait Level<V>: Sized {
 }
 
 /// A node that can be written. `copied` is how many cells a copy of a node with these cells copies.
-pub(crate) trait Writable<V>: Level<V> + Drop {
+pub(crate) trait Writable<V>: Layer<V> + Drop {
     ghost copied: { List V → ℕ };
 
     /// A node with equal cells.

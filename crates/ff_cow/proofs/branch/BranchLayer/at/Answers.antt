@@ -1,6 +1,6 @@
 use Rattle.ff_cow.proofs.Shared.{some_kid_room, below, valid, within_kid, reads}
 use Rattle.std.proofs.Common.{◌∙◌}
-use Rattle.ff_cow.proofs.branch.BranchLevel.at.Goals as goal
+use Rattle.ff_cow.proofs.branch.BranchLayer.at.Goals as goal
 
 pub nonzero_div-i : goal.nonzero_div-i
 nonzero_div-i g c = some_kid_room _ _ _ _ c.args.self.now.kids.items c.requires.valid c.args.room c.args.i c.requires.room c.requires.within
