@@ -15,7 +15,7 @@ returns-then-left-n-eq32 c =
       omega arith,
       omega (arith, inside),
       takes_whole_word c.args.self.now c.put_word.new.self c.args.left.now c.word_front-n.result _ c.requires.mode (c.is_empty.ensures.0 c.if-not-is_empty.false) some inside
-      c.word_front-n.ensures.word (c.word_front-n.ensures.longest inside) c.in_ok-put_word.ensures (blank_on c.put_word.new.self _ c.if-left-n-eq32.true),
+          c.word_front-n.ensures.word (c.word_front-n.ensures.longest inside) c.in_ok-put_word.ensures (blank_on c.put_word.new.self _ c.if-left-n-eq32.true),
     )
 
 pub returns-in_err-take_outside : goal.returns-in_err-take_outside
