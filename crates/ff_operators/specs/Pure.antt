@@ -1,5 +1,5 @@
 -- The operators on numbers, truth values and texts: what each gives for its operands and the mass, or why it fails.
-use Rattle.std.specs.Prelude.{◌≡◌, ℕ, ◌+◌, ◌-◌, ◌^◌, Bool, true, false, cond, not, ◌==◌, ◌&&◌, ◌||◌, nat_lt, nat_le, ℤ, pos, neg_ℤ, ◌+ℤ◌, ◌-ℤ◌, ◌*ℤ◌, nat_abs, int_lt, int_le, int_div, int_rem, Option, Some, None, Result, Ok, Err, List, [], ◌∷◌, ◌++◌, length, take, drop, slice_index, slice_get, bytes_eq}
+use Rattle.std.specs.Prelude.{◌≡◌, ℕ, ◌+◌, ◌-◌, ◌^◌, Bool, true, false, cond, not, ◌==◌, ◌&&◌, ◌||◌, nat_lt, nat_le, ℤ, pos, neg_ℤ, ◌+ℤ◌, ◌-ℤ◌, ◌*ℤ◌, nat_abs, int_lt, int_le, int_div, int_rem, Option, Some, None, Result, Ok, Err, List, [], ◌∷◌, ◌++◌, length, take, drop, slice_index, slice_get, slice_range, bytes_eq}
 use Rattle.std.specs.Ordering.{int_eq, is_lt, is_le, nat_cmp}
 use Rattle.std.specs.Cmp.Lexicographic.{slice_cmp}
 use Rattle.ff_number.specs.Decimal.{num_text}
@@ -92,7 +92,7 @@ is_place text n =
 abbrev pub part_of : List ℕ → ℤ → ℤ → Option (List ℕ)
 part_of text from to =
     cond (is_place text from && is_place text to && nat_le (nat_abs from) (nat_abs to))
-    (Some (drop (nat_abs from) (take (nat_abs to) text)))
+    (Some (slice_range text (nat_abs from) (nat_abs to)))
     None
 
 -- the part of a text, which is made; where there is none, a place is out of range

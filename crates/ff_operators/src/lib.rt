@@ -7,6 +7,7 @@
 mod answer;
 mod arithmetic;
 mod comparisons;
+mod limits;
 pub mod operands;
 mod operators;
 #[cfg(test)]
@@ -14,5 +15,5 @@ mod tests;
 mod texts;
 
 pub use answer::{Applied, Fail};
+pub use limits::{MOST_MADE_BYTES, MOST_MASS};
 pub use operators::apply;
-pub use texts::{MOST_MADE_BYTES, MOST_MASS};

@@ -6,16 +6,11 @@ ghost use Rattle.ff_operators.specs.Pure as pure;
 ghost use Rattle.ff_tree.specs.declared.op.Op.TheVariants as op;
 
 use crate::answer::{Applied, Fail};
+use crate::limits::{MOST_MADE_BYTES, MOST_MASS};
 use crate::operands::{one_num, one_str, str_num, str_nums, two_strs};
 use ff_number::{Digits, read_num};
 use ff_value::{Fault, Text, Val, Vals};
 use std::alloc::Global;
-
-/// The most bytes of a text that an operator makes.
-pub const MOST_MADE_BYTES: usize = 65_536;
-
-/// The greatest mass of one copy of the browser, in bytes.
-pub const MOST_MASS: u64 = 67_108_864;
 
 /// The two texts joined.
 pub(crate) fn cat(alloc: Global, args: &Vals, mass: u64) -> Result<Applied, Fail>
@@ -92,7 +87,11 @@ fn part_of(text: &[u8], from: i64, to: i64) -> Option<&[u8]>
 {
     let from = place_of(text, from)?;
     let to = place_of(text, to)?;
-    text.get(from..to)
+    if from <= to {
+        Some(&text[from..to])
+    } else {
+        None
+    }
 }
 
 /// The place that the number is, in the text or its end. `None` where it is none or a character goes over it.

@@ -11,8 +11,7 @@ use ff_status::{Status, TraceFault};
 use ff_text::TextFault;
 use ff_trace::LineFault;
 use std::alloc::{AllocError, Global};
-use std::io;
-use std::str;
+use std::{io, str};
 
 /// Prints the number of the status, and its line as a literal.
 fn show(rt: &HostRuntime, status: &Status) -> io::Result<()> {
@@ -67,7 +66,10 @@ fn show_text_faults(rt: &HostRuntime) -> io::Result<()> {
         TextFault::TooDeep(u32::MAX),
         TextFault::NoMemory,
     ] {
-        show(rt, &Status::Trace(7, TraceFault::Line(LineFault::Text(fault))))?;
+        show(
+            rt,
+            &Status::Trace(7, TraceFault::Line(LineFault::Text(fault))),
+        )?;
     }
     Ok(())
 }
@@ -82,7 +84,10 @@ fn show_syntax_faults(rt: &HostRuntime) -> io::Result<()> {
         SyntaxFault::Place(10),
         SyntaxFault::NoMemory,
     ] {
-        show(rt, &Status::Trace(7, TraceFault::Line(LineFault::Syntax(fault))))?;
+        show(
+            rt,
+            &Status::Trace(7, TraceFault::Line(LineFault::Syntax(fault))),
+        )?;
     }
     Ok(())
 }

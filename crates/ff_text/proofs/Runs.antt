@@ -18,7 +18,7 @@ use Rattle.ff_text.specs.declared.reader.Mode.{Mode}
 use Rattle.ff_text.specs.declared.reader.Mode.TheVariants as mode
 use Rattle.ff_text.specs.Bytes.{is_word_byte, is_plain_byte}
 use Rattle.ff_text.specs.Classes.{class_of, in_str_of}
-use Rattle.ff_text.specs.Machine.{HasDigit, MakesSome, advance, step, start, outside, word_run, word_put, word_ended, span, value_run, verdict, verdict_of, finish}
+use Rattle.ff_text.specs.Machine.{HasDigit, MakesSome, advance, step, step_in, start, outside, word_run, word_put, word_ended, span, value_run, verdict, verdict_of, finish}
 use Rattle.ff_text.proofs.ClassLemmas.{class_of-word}
 use Rattle.ff_text.proofs.Room.{Grows, step_grows}
 use Rattle.ff_text.proofs.Standing.{advance-append, advance-err, advance-none, advance-one}
@@ -39,6 +39,15 @@ stops_some left n old which e =
 
 pub stops_one : (left : List ℕ) (old : Reader) (which : TextFault) → 0 < length left → step old (get_or left 0 0) ≡ Err which → advance left (Ok old) ≡ Err which
 stops_one left old which some e = stops_some left 1 old which (takes_one left old some ∙ e)
+
+-- a blank
+pub blank_on : (r : Reader) (b : ℕ) → b ≡ 32 → outside r b ≡ Ok (record r { at = r.at + 1 })
+unfolding class_of
+blank_on r b e = rw e refl
+
+pub takes_blank : (left : List ℕ) (old : Reader) → old.mode ≡ mode.Between → 0 < length left → get_or left 0 0 ≡ 32 → advance (take 1 left) (Ok old) ≡ Ok (record old { at = old.at + 1 })
+unfolding step
+takes_blank left old between some e = takes_one left old some ∙ ap (λ m. step_in m old (get_or left 0 0)) between ∙ blank_on old (get_or left 0 0) e
 
 -- a word that goes on
 goes_on : (opened : List Opened) (items : List Sexp) (at from : ℕ) (word value more : List ℕ) → list_all is_word_byte more ≡ true

@@ -30,26 +30,26 @@ pub enum Sexp {
 #[derive(Clone, Copy, Debug, PartialEq, Eq, Error)]
 pub enum TextFault {
     /// One item was wanted, and there is none.
-    #[error("no item")]
+    #[error("text empty")]
     Empty,
     /// The text ends inside the string whose opening mark is at this place, or else inside lists of
     /// which the innermost opens here.
-    #[error("unclosed at {0}")]
+    #[error("text unclosed at {0}")]
     Unclosed(u32),
     /// A `)` at this place closes no list, or, where one item was wanted, the second begins here.
-    #[error("extra at {0}")]
+    #[error("text extra at {0}")]
     Extra(u32),
     /// The byte at this place may not stand there.
-    #[error("a bad byte at {0}")]
+    #[error("text bad-byte at {0}")]
     BadByte(u32),
     /// The backslash at this place begins no escape.
-    #[error("a bad escape at {0}")]
+    #[error("text bad-escape at {0}")]
     BadEscape(u32),
     /// The value of the string whose opening mark is at this place is not UTF-8.
-    #[error("bad UTF-8 at {0}")]
+    #[error("text bad-utf8 at {0}")]
     BadUtf8(u32),
     /// The `(` at this place would open one list more than may stand in one another.
-    #[error("too deep at {0}")]
+    #[error("text too-deep at {0}")]
     TooDeep(u32),
     /// There was no memory for the items.
     #[error("out of memory")]

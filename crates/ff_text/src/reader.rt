@@ -68,8 +68,8 @@ impl Reader {
         }
     }
 
-    /// Reads some bytes from the front: a run of a word or of a string's plain bytes in one, or else
-    /// one byte. Answers how many.
+    /// Reads some bytes from the front: a word with the byte after it, a run of a string's plain bytes,
+    /// or else one byte. Answers how many.
     pub(crate) fn take_some(&mut self, alloc: Global, left: &[u8]) -> Result<usize, TextFault>
         requires some { 0 < length left.now }
         requires at { self.old.at + length left.now < 2 ^ 32 }
@@ -77,6 +77,10 @@ impl Reader {
         ensures { MakesSome result self.old self.new left.now }
     {
         match self.mode {
+            Mode::Between if left[0] == b' ' => {
+                self.at += 1;
+                Ok(1)
+            }
             Mode::Between if is_word_byte(left[0]) => self.take_word(alloc, left),
             Mode::Str(_) if is_plain(left[0]) => self.take_plain(left),
             _ => {
@@ -100,6 +104,10 @@ impl Reader {
             return Ok(n);
         }
         self.put_word(alloc, &left[..n])?;
+        if left[n] == b' ' {
+            self.at += 1;
+            return Ok(n + 1);
+        }
         self.take_outside(alloc, left[n])?;
         Ok(n + 1)
     }

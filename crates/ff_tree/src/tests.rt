@@ -119,60 +119,82 @@ fn names(alloc: Global) -> Result<Names, NoMemory> {
     SharedList::from_vec(alloc, names)
 }
 
-/// An expression of each sort.
-fn expr(alloc: Global, place: u8) -> Result<Expr, NoMemory> {
+/// An expression of each sort that has a body or two.
+fn expr_of_bodies(alloc: Global, place: u8) -> Result<Expr, NoMemory> {
     let body = sets_text(alloc)?;
+    let other = sets_text(alloc)?;
     match place {
-        0 => string(alloc, b"hi"),
-        1 => Ok(Expr::Var(name(alloc, b"x")?)),
-        2 => Ok(Expr::Let(name(alloc, b"x")?, body)),
-        3 => Ok(Expr::Set(name(alloc, b"x")?, body)),
-        4 => Ok(Expr::If(body.copy()?, body.copy()?, body)),
-        5 => Ok(Expr::While(body.copy()?, body)),
-        6 => Ok(Expr::Do(parts(alloc)?)),
-        7 => Ok(Expr::And(body.copy()?, body)),
-        8 => Ok(Expr::Or(body.copy()?, body)),
-        9 => Ok(Expr::Make(names(alloc)?, body)),
-        10 => Ok(Expr::Apply(body, parts(alloc)?)),
-        11 => Ok(Expr::Tree(button(alloc)?)),
-        _ => Ok(Expr::Prim(Op::Add, parts(alloc)?)),
+        0 => Ok(Expr::While(body, other)),
+        1 => Ok(Expr::And(body, other)),
+        _ => Ok(Expr::Or(body, other)),
     }
 }
 
-/// A document of each sort.
-fn doc(alloc: Global, place: u8) -> Result<Doc, NoMemory> {
-    let name = name(alloc, b"n")?;
+/// An expression of each other sort.
+fn expr(alloc: Global, place: u8) -> Result<Expr, NoMemory> {
     match place {
-        0 => Ok(Doc::Text(name, text(alloc, b"hi")?)),
-        1 => Ok(Doc::Link(name, Url::Blank, text(alloc, b"hi")?)),
-        2 => Ok(Doc::TextBox(name, text(alloc, b"hi")?, handlers(alloc)?)),
-        3 => Ok(Doc::Button(name, text(alloc, b"hi")?, handlers(alloc)?)),
-        4 => Ok(Doc::Script(name, sets_text(alloc)?)),
-        5 => Ok(Doc::Src(name, Url::Blank)),
-        _ => nested(alloc, 4),
+        0 => string(alloc, b"hi"),
+        1 => Ok(Expr::Var(name(alloc, b"x")?)),
+        2 => Ok(Expr::Let(name(alloc, b"x")?, sets_text(alloc)?)),
+        3 => Ok(Expr::Set(name(alloc, b"x")?, sets_text(alloc)?)),
+        4 => Ok(Expr::If(sets_text(alloc)?, sets_text(alloc)?, sets_text(alloc)?)),
+        5 => Ok(Expr::Do(parts(alloc)?)),
+        6 => Ok(Expr::Make(names(alloc)?, sets_text(alloc)?)),
+        7 => Ok(Expr::Apply(sets_text(alloc)?, parts(alloc)?)),
+        8 => Ok(Expr::Tree(button(alloc)?)),
+        9 => Ok(Expr::Prim(Op::Add, parts(alloc)?)),
+        10 => expr_of_bodies(alloc, 0),
+        11 => expr_of_bodies(alloc, 1),
+        _ => expr_of_bodies(alloc, 2),
     }
+}
+
+/// A document of each sort but the button and the division.
+fn doc(alloc: Global, place: u8) -> Result<Doc, NoMemory> {
+    match place {
+        0 => Ok(Doc::Text(name(alloc, b"n")?, text(alloc, b"hi")?)),
+        1 => Ok(Doc::Link(name(alloc, b"n")?, Url::Blank, text(alloc, b"hi")?)),
+        2 => Ok(Doc::TextBox(name(alloc, b"n")?, text(alloc, b"hi")?, handlers(alloc)?)),
+        _ => Ok(Doc::Src(name(alloc, b"n")?, Url::Blank)),
+    }
+}
+
+fn lit_is_copied(alloc: Global, place: u8) -> Result<bool, NoMemory> {
+    let lit = lit(alloc, place)?;
+    Ok(lit.copy()? == lit)
+}
+
+fn expr_is_copied(alloc: Global, place: u8) -> Result<bool, NoMemory> {
+    let expr = expr(alloc, place)?;
+    Ok(expr.copy()? == expr)
+}
+
+fn doc_is_copied(alloc: Global, place: u8) -> Result<bool, NoMemory> {
+    let doc = doc(alloc, place)?;
+    Ok(doc.copy()? == doc)
+}
+
+fn handler_is_copied(alloc: Global) -> Result<bool, NoMemory> {
+    let handler = handler(alloc)?;
+    Ok(handler.copy()? == handler)
 }
 
 #[test]
 fn each_literal_handler_and_document_equals_its_copy(rt: HostRuntime) -> Result<(), NoMemory> {
-    let handler = handler(rt.alloc())?;
-    assert!(rt; handler.copy()? == handler);
+    let mut all = handler_is_copied(rt.alloc())?;
     for place in 0..4 {
-        let lit = lit(rt.alloc(), place)?;
-        assert!(rt; lit.copy()? == lit, "literal {place}");
+        all &= lit_is_copied(rt.alloc(), place)? & doc_is_copied(rt.alloc(), place)?;
     }
-    for place in 0..7 {
-        let doc = doc(rt.alloc(), place)?;
-        assert!(rt; doc.copy()? == doc, "document {place}");
-    }
+    assert!(rt; all);
     Ok(())
 }
 
 #[test]
 fn each_expression_equals_its_copy(rt: HostRuntime) -> Result<(), NoMemory> {
+    let mut all = true;
     for place in 0..13 {
-        let expr = expr(rt.alloc(), place)?;
-        assert!(rt; expr.copy()? == expr, "expression {place}");
+        all &= expr_is_copied(rt.alloc(), place)?;
     }
+    assert!(rt; all);
     Ok(())
 }

@@ -140,10 +140,15 @@ fn cookie(alloc: Global, place: u8) -> Result<CookieOp, NoMemory> {
 
 /// A response of each sort.
 fn resp(alloc: Global, place: u8) -> Result<Resp, NoMemory> {
-    let cookies = SharedList::from_vec(alloc, Vec::new(alloc))?;
     match place {
-        0 => Ok(Resp::Page(cookies, SharedList::from_vec(alloc, Vec::new(alloc))?)),
-        1 => Ok(Resp::Script(cookies, Shared::new(alloc, Expr::Lit(Lit::Null))?)),
+        0 => {
+            let cookies = SharedList::from_vec(alloc, Vec::new(alloc))?;
+            Ok(Resp::Page(cookies, SharedList::from_vec(alloc, Vec::new(alloc))?))
+        }
+        1 => {
+            let cookies = SharedList::from_vec(alloc, Vec::new(alloc))?;
+            Ok(Resp::Script(cookies, Shared::new(alloc, Expr::Lit(Lit::Null))?))
+        }
         _ => data(alloc),
     }
 }
@@ -174,12 +179,11 @@ fn seen(alloc: Global, place: u8) -> Result<Seen, NoMemory> {
 
 /// An output of each sort.
 fn out(alloc: Global, place: u8) -> Result<Out, NoMemory> {
-    let shown = SharedList::from_vec(alloc, Vec::new(alloc))?;
     match place {
         0 => Ok(Out::Opened),
         1 => Ok(Out::Closed(1)),
-        2 => Ok(Out::Loaded(1, Url::Blank, shown)),
-        3 => Ok(Out::Updated(1, shown)),
+        2 => Ok(Out::Loaded(1, Url::Blank, SharedList::from_vec(alloc, Vec::new(alloc))?)),
+        3 => Ok(Out::Updated(1, SharedList::from_vec(alloc, Vec::new(alloc))?)),
         4 => Ok(Out::Error(1, Fault::Dead)),
         5 => Ok(Out::Stopped),
         _ => sent(alloc, b"x"),
@@ -199,35 +203,73 @@ fn val(alloc: Global, place: u8) -> Result<Val, NoMemory> {
     }
 }
 
+fn cookie_is_copied(alloc: Global, place: u8) -> Result<bool, NoMemory> {
+    let cookie = cookie(alloc, place)?;
+    Ok(cookie.copy()? == cookie)
+}
+
+fn resp_is_copied(alloc: Global, place: u8) -> Result<bool, NoMemory> {
+    let resp = resp(alloc, place)?;
+    Ok(resp.copy()? == resp)
+}
+
+fn act_is_copied(alloc: Global, place: u8) -> Result<bool, NoMemory> {
+    let act = act(alloc, place)?;
+    Ok(act.copy()? == act)
+}
+
+fn seen_is_copied(alloc: Global, place: u8) -> Result<bool, NoMemory> {
+    let seen = seen(alloc, place)?;
+    Ok(seen.copy()? == seen)
+}
+
+fn out_is_copied(alloc: Global, place: u8) -> Result<bool, NoMemory> {
+    let out = out(alloc, place)?;
+    Ok(out.copy()? == out)
+}
+
+fn val_is_copied(alloc: Global, place: u8) -> Result<bool, NoMemory> {
+    let val = val(alloc, place)?;
+    Ok(val.copy()? == val)
+}
+
 #[test]
-fn each_act_and_response_equals_its_copy(rt: HostRuntime) -> Result<(), NoMemory> {
-    for place in 0..2 {
-        let cookie = cookie(rt.alloc(), place)?;
-        assert!(rt; cookie.copy()? == cookie, "cookie entry {place}");
-    }
-    for place in 0..3 {
-        let resp = resp(rt.alloc(), place)?;
-        assert!(rt; resp.copy()? == resp, "response {place}");
-    }
+fn each_act_equals_its_copy(rt: HostRuntime) -> Result<(), NoMemory> {
+    let mut all = true;
     for place in 0..7 {
-        let act = act(rt.alloc(), place)?;
-        assert!(rt; act.copy()? == act, "act {place}");
+        all &= act_is_copied(rt.alloc(), place)?;
     }
+    assert!(rt; all);
     Ok(())
 }
 
 #[test]
-fn each_output_and_value_equals_its_copy(rt: HostRuntime) -> Result<(), NoMemory> {
-    for place in 0..5 {
-        let seen = seen(rt.alloc(), place)?;
-        assert!(rt; seen.copy()? == seen, "view {place}");
+fn each_cookie_entry_and_response_equals_its_copy(rt: HostRuntime) -> Result<(), NoMemory> {
+    let mut all = true;
+    for place in 0..3 {
+        all &= cookie_is_copied(rt.alloc(), place)? & resp_is_copied(rt.alloc(), place)?;
     }
+    assert!(rt; all);
+    Ok(())
+}
+
+#[test]
+fn each_output_equals_its_copy(rt: HostRuntime) -> Result<(), NoMemory> {
+    let mut all = true;
     for place in 0..7 {
-        let out = out(rt.alloc(), place)?;
-        assert!(rt; out.copy()? == out, "output {place}");
-        let val = val(rt.alloc(), place)?;
-        assert!(rt; val.copy()? == val, "value {place}");
+        all &= out_is_copied(rt.alloc(), place)? & seen_is_copied(rt.alloc(), place)?;
     }
+    assert!(rt; all);
+    Ok(())
+}
+
+#[test]
+fn each_value_equals_its_copy(rt: HostRuntime) -> Result<(), NoMemory> {
+    let mut all = true;
+    for place in 0..7 {
+        all &= val_is_copied(rt.alloc(), place)?;
+    }
+    assert!(rt; all);
     Ok(())
 }
 

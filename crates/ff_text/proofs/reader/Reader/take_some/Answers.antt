@@ -1,6 +1,9 @@
 use Rattle.std.proofs.Common.{◌∙◌, arith, inl, inr}
-use Rattle.ff_text.proofs.Runs.{some_err, takes_one, stops_one}
+use Rattle.ff_text.proofs.Runs.{some_err, takes_one, takes_blank, stops_one}
 use Rattle.ff_text.proofs.reader.Reader.take_some.Goals as goal
+
+pub returns-in-Between : goal.returns-in-Between
+returns-in-Between c = (omega arith, omega (arith, c.requires.some), takes_blank c.args.left.now c.args.self.now c.in-Between.is c.requires.some c.if-left-eq32.true)
 
 pub returns-in_err-take-in_default : goal.returns-in_err-take-in_default
 returns-in_err-take-in_default c =
