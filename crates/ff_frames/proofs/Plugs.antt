@@ -8,6 +8,8 @@ use Rattle.ff_value.specs.declared.ids.ActId.{ActId}
 use Rattle.ff_value.specs.declared.value.Val.{Val}
 use Rattle.ff_term.specs.Running.{Running, Runnings, Done, Apply, Prim, more, is_value, are_values, redex, redex_among, rewritten, rewritten_among, innermost, innermost_among, insides, insides_among}
 use Rattle.ff_term.specs.Whole.{wholes}
+use Rattle.ff_term.specs.Calls.{calls_around, calls_around_among}
+use Rattle.ff_term.proofs.Calls.{wholes-around}
 use Rattle.ff_term.proofs.Sources.{source, sources_of}
 use Rattle.ff_frames.specs.declared.frame.Frame.{Frame}
 use Rattle.ff_frames.specs.declared.frame.Frame.TheVariants as frame
@@ -61,11 +63,13 @@ module _ (x : Running) (h : is_value x ≡ false) where
       rw (after_values vs x (wholes (drop (suc (length vs)) es)) h) (ap (Prim op) (after_rewritten g vs x (wholes (drop (suc (length vs)) es)) h))
   around_rewritten g _ vs = rw h
 
+  -- the redex of what stands in a frame is that of the whole
   pub wrap_redex : (f : Frame) (a : ActId) → redex (wrap f a x) ≡ redex x
   wrap_redex (frame.Part e vs) a = around_redex (out-Expr e) vs
   wrap_redex (frame.Do es n) a = rw h
   wrap_redex (frame.Inside b) a = rw h
 
+  -- it is rewritten in its frame
   pub wrap_rewritten : (g : Running → Running) (f : Frame) (a : ActId) → rewritten g (wrap f a x) ≡ wrap f a (rewritten g x)
   wrap_rewritten g (frame.Part e vs) a = around_rewritten g (out-Expr e) vs
   wrap_rewritten g (frame.Do es n) a = rw h
@@ -76,6 +80,7 @@ around_value (Expr-F.Apply e es) [] x = refl
 around_value (Expr-F.Apply e es) (v ∷ vs) x = refl
 around_value _ vs x = refl
 
+-- what stands in a frame is no value
 pub wrap_value : (f : Frame) (a : ActId) (x : Running) → is_value (wrap f a x) ≡ false
 wrap_value (frame.Part e vs) a x = around_value (out-Expr e) vs x
 wrap_value (frame.Do es n) a x = refl
@@ -92,6 +97,7 @@ around_innermost (Expr-F.Prim op es) vs a x = after_innermost a vs x (drop (suc 
 around_innermost _ vs a (Done v) = refl
 around_innermost _ vs a x = refl
 
+-- the innermost activation is that of what stands in the frame
 pub wrap_innermost : (f : Frame) (a : ActId) (x : Running) → innermost (outside f a) (wrap f a x) ≡ innermost a x
 wrap_innermost (frame.Part e vs) a x = around_innermost (out-Expr e) vs a x
 wrap_innermost (frame.Do es n) a (Done v) = refl
@@ -107,48 +113,85 @@ around_insides (Expr-F.Apply e es) (v ∷ vs) x = let p = after_insides vs x (dr
 around_insides (Expr-F.Prim op es) vs x = after_insides vs x (drop (suc (length vs)) es)
 around_insides _ vs x = omega arith
 
+-- a frame adds the call that it is
 pub wrap_insides : (f : Frame) (a : ActId) (x : Running) → insides (wrap f a x) ≡ is_call f + insides x
 wrap_insides (frame.Part e vs) a x = let p = around_insides (out-Expr e) vs x in omega arith
 wrap_insides (frame.Do es n) a x = let p = (sources_of (drop n es)).insides in omega arith
 wrap_insides (frame.Inside b) a x = refl
 
+after_around : (vs : List Val) (x : Running) (es : List Expr) → calls_around_among (after vs x (wholes es)) ≡ calls_around x
+after_around [] (Done v) es = wholes-around es
+after_around [] x es = refl
+after_around (v ∷ vs) x es = after_around vs x es
+
+around_around : (e : Expr-F Doc Expr Handler) (vs : List Val) (x : Running) → calls_around (around e vs x) ≡ calls_around x
+around_around (Expr-F.Let n e) vs x = refl
+around_around (Expr-F.Set n e) vs x = refl
+around_around (Expr-F.If e f g) vs x = refl
+around_around (Expr-F.Apply e es) [] (Done v) = wholes-around es
+around_around (Expr-F.Apply e es) [] x = refl
+around_around (Expr-F.Apply e es) (v ∷ vs) x = after_around vs x (drop (suc (length vs)) es)
+around_around (Expr-F.Prim op es) vs x = after_around vs x (drop (suc (length vs)) es)
+around_around _ vs (Done v) = refl
+around_around _ vs x = refl
+
+wrap_around : (f : Frame) (a : ActId) (x : Running) → calls_around (wrap f a x) ≡ is_call f + calls_around x
+wrap_around (frame.Part e vs) a x = let p = around_around (out-Expr e) vs x in omega arith
+wrap_around (frame.Do es n) a (Done v) = refl
+wrap_around (frame.Do es n) a x = omega arith
+wrap_around (frame.Inside b) a x = refl
+
 -- ---- all frames around x
 
+-- the same of all frames
 pub plug_value : (fs : List Frame) (a : ActId) (x : Running) → is_value x ≡ false → is_value (plug fs a x) ≡ false
 plug_value [] a x h = h
 plug_value (f ∷ fs) a x h = wrap_value f (base_of fs a) (plug fs a x)
 
+-- the redex is that of the part at hand
 pub plug_redex : (fs : List Frame) (a : ActId) (x : Running) → is_value x ≡ false → redex (plug fs a x) ≡ redex x
 plug_redex [] a x h = refl
 plug_redex (f ∷ fs) a x h = wrap_redex (plug fs a x) (plug_value fs a x h) f (base_of fs a) ∙ plug_redex fs a x h
 
+-- it is rewritten where it stands
 pub plug_rewritten : (g : Running → Running) (fs : List Frame) (a : ActId) (x : Running) → is_value x ≡ false
     → rewritten g (plug fs a x) ≡ plug fs a (rewritten g x)
 plug_rewritten g [] a x h = refl
 plug_rewritten g (f ∷ fs) a x h =
     wrap_rewritten (plug fs a x) (plug_value fs a x h) g f (base_of fs a) ∙ ap (wrap f (base_of fs a)) (plug_rewritten g fs a x h)
 
+-- the innermost activation is that of the part at hand
 pub plug_innermost : (fs : List Frame) (a : ActId) (x : Running) → innermost (base_of fs a) (plug fs a x) ≡ innermost a x
 plug_innermost [] a x = refl
 plug_innermost (f ∷ fs) a x = wrap_innermost f (base_of fs a) (plug fs a x) ∙ plug_innermost fs a x
 
+-- the calls are the frames that are calls, and those of the part
 pub plug_insides : (fs : List Frame) (a : ActId) (x : Running) → insides (plug fs a x) ≡ calls fs + insides x
 plug_insides [] a x = omega arith
 plug_insides (f ∷ fs) a x =
     let p = wrap_insides f (base_of fs a) (plug fs a x) in let q = plug_insides fs a x in omega arith
 
+-- each of those stands around the redex
+pub plug_around : (fs : List Frame) (a : ActId) (x : Running) → calls_around (plug fs a x) ≡ calls fs + calls_around x
+plug_around [] a x = omega arith
+plug_around (f ∷ fs) a x =
+    let p = wrap_around f (base_of fs a) (plug fs a x) in let q = plug_around fs a x in omega arith
+
 -- ---- the innermost frame
 
+-- a frame more is one inside of the others
 pub base-snoc : (fs : List Frame) (f : Frame) (a : ActId) → base_of (fs ++ f ∷ []) a ≡ base_of fs (outside f a)
 base-snoc [] f a = refl
 base-snoc (g ∷ fs) f a = ap (outside g) (base-snoc fs f a)
 
+-- the part at hand in its innermost frame
 pub plug-snoc : (fs : List Frame) (f : Frame) (a : ActId) (x : Running) → plug (fs ++ f ∷ []) a x ≡ plug fs (outside f a) (wrap f a x)
 plug-snoc [] f a x = refl
 plug-snoc (g ∷ fs) f a x =
     let p = base-snoc fs f a in let q = plug-snoc fs f a x in
     ap (λ b. wrap g b (plug (fs ++ f ∷ []) a x)) p ∙ ap (wrap g (base_of fs (outside f a))) q
 
+-- its call is counted
 pub calls-snoc : (fs : List Frame) (f : Frame) → calls (fs ++ f ∷ []) ≡ calls fs + is_call f
 calls-snoc [] f = omega arith
 calls-snoc (g ∷ fs) f = let p = calls-snoc fs f in omega arith
@@ -157,6 +200,7 @@ top-snoc : (g : Frame) (fs : List Frame) (f : Frame) → top_or g (fs ++ f ∷ [
 top-snoc g [] f = refl
 top-snoc g (h ∷ fs) f = top-snoc h fs f
 
+-- the innermost frame is the last
 pub full-snoc : (fs : List Frame) (f : Frame) → IsTopFull (fs ++ f ∷ []) ≡ IsFull f
 full-snoc [] f = refl
 full-snoc (g ∷ fs) f = ap IsFull (top-snoc g fs f)

@@ -17,14 +17,17 @@ use Rattle.ff_frames.specs.Frames.{operands, after, around, shown}
 use Rattle.ff_frames.specs.Loads.{total, size, doc_size, handler_size, load, one_more, inner}
 use Rattle.ff_frames.specs.Seeking.{IsSettled, Opens, Feeds}
 
+-- an expression is met, and what is in it
 pub size-out : (e : Expr) → size e ≡ suc (inner (out-Expr e))
 unfolding size doc_size handler_size inner
 size-out e = fold_out-Expr ℕ ℕ ℕ (λ _. 0) one_more (λ _. 0) e
 
+-- nothing is left in a literal
 pub inner-Lit : (e : Expr) (l : Lit) → e ≡ expr.Lit l → 0 ≡ inner (out-Expr e)
 unfolding inner
 inner-Lit e l h = rw (h, expr.outs-Lit l) refl
 
+-- a literal at hand is its value
 pub shown-Lit : (e : Expr) (l : Lit) (v : Val) → e ≡ expr.Lit l → v ≡ literal l → Done v ≡ whole e
 shown-Lit e l v h k = rw (h, k) (sym (whole-Lit l))
 
@@ -68,6 +71,7 @@ pub left-drop : (es : List Expr) (n : ℕ) (e : Expr) → slice_get es n ≡ Som
     → total (map size (drop (suc n) es)) + inner (out-Expr e) < total (map size (drop n es))
 left-drop es n e h = let p = size-out e in rw (drop-get es n e h) (omega arith)
 
+-- less is left once the first operand is at hand
 pub left-opened : (l : Expr-F Doc Expr Handler) (e : Expr) → slice_get (operands l) zero ≡ Some e
     → total (map size (drop 1 (operands l))) + inner (out-Expr e) < inner l
 unfolding inner
@@ -78,6 +82,7 @@ left-opened (Expr-F.Apply f es) e h = let p : f ≡ e = cc in let q = size-out e
 left-opened (Expr-F.Prim op es) e h = left-drop es zero e h
 left-opened _ e h = cc
 
+-- the first operand at hand, in a frame
 pub opens : (e f : Expr) (l : Expr-F Doc Expr Handler) (vs : List Val) (part : Expr) (x : Focus)
     → out-Expr e ≡ l → f ≡ e → vs ≡ [] → slice_get (operands l) zero ≡ Some part
     → shown x ≡ whole part → load x ≡ inner (out-Expr part) → IsSettled x → Opens e (frame.Part f vs) x

@@ -46,14 +46,17 @@ level-redex (Expr-F.Prim op []) h = refl
 level-redex (Expr-F.Prim op (e ∷ es)) h = absurd h
 level-redex _ h = refl
 
+-- it is no value
 pub form-open : (e : Expr) → IsRow (out-Expr e) → is_value (whole e) ≡ false
 form-open e h = rw (whole-level e) (level-open (out-Expr e) h)
 
+-- it is rewritten where it stands
 pub form-rewritten : (g : Running → Running) (fs : List Frame) (a : ActId) (e : Expr) → IsRow (out-Expr e)
     → rewritten g (plug fs a (whole e)) ≡ plug fs a (g (whole e))
 form-rewritten g fs a e h =
     plug_rewritten g fs a (whole e) (form-open e h) ∙ ap (plug fs a) (let p = level-rewritten g (out-Expr e) h in rw (whole-level e) p)
 
+-- it is the redex of the whole
 pub form-redex : (fs : List Frame) (a : ActId) (e : Expr) → IsRow (out-Expr e) → redex (plug fs a (whole e)) ≡ whole e
 form-redex fs a e h = plug_redex fs a (whole e) (form-open e h) ∙ (let p = level-redex (out-Expr e) h in rw (whole-level e) p)
 
@@ -91,12 +94,14 @@ module _ (fs rest : List Frame) (f : Frame) (was : fs ≡ rest ++ f ∷ []) wher
   pub frame-base : (a : ActId) → base_of rest (outside f a) ≡ base_of fs a
   frame-base a = rw was (sym (base-snoc rest f a))
 
+  -- the innermost frame has all its operands
   pub frame-full : IsTopFull fs → IsFull f
   frame-full h = rw (was, full-snoc rest f) at h
 
   pub frame-calls : calls fs ≡ calls rest + is_call f
   frame-calls = rw was (calls-snoc rest f)
 
+  -- the frame with its value is rewritten where it stands
   pub frame-rewritten : (g : Running → Running) (a : ActId) (v : Val) → IsTopFull fs
       → rewritten g (plug fs a (Done v)) ≡ plug rest (outside f a) (g (wrap f a (Done v)))
   frame-rewritten g a v h =

@@ -1,4 +1,4 @@
--- What the frames of a stack stand for: each is what stands around the part at hand, the outermost first.
+-- What the frames of a stack stand for: what is around the part at hand, the outermost first.
 use Rattle.std.specs.Prelude.{◌+◌, ℕ, List, [], ◌∷◌, length, drop}
 use Rattle.std.proofs.Common.{suc}
 use Rattle.ff_tree.specs.declared.tree.Doc.{Doc}
@@ -14,7 +14,8 @@ use Rattle.ff_frames.specs.declared.frame.Frame.TheVariants as frame
 use Rattle.ff_frames.specs.declared.frame.Focus.{Focus}
 use Rattle.ff_frames.specs.declared.frame.Focus.TheVariants as focus
 
--- the parts that are evaluated one after another before the form is reduced; those of a `do` are not among them
+-- the parts that are evaluated one after another before the form is reduced; those of a `do`
+-- are not among them
 abbrev pub operands : Expr-F Doc Expr Handler → List Expr
 operands (Expr-F.Let x e) = e ∷ []
 operands (Expr-F.Set x e) = e ∷ []
@@ -28,11 +29,13 @@ abbrev pub after : List Val → Running → Runnings → Runnings
 after [] x rest = more x rest
 after (v ∷ vs) x rest = more (Done v) (after vs x rest)
 
+-- the first part called with the others; no part stands for an empty `do`
 abbrev pub applied : Runnings → Running
 applied none = Do none
 applied (more e es) = Apply e es
 
--- the form with the values for its first operands and x for the next; a form without operands stands for a `do` of x
+-- the form with the values for its first operands and x for the next; a form without operands
+-- stands for a `do` of x
 abbrev pub around : Expr-F Doc Expr Handler → List Val → Running → Running
 around (Expr-F.Let n e) vs x = Let n x
 around (Expr-F.Set n e) vs x = Set n x
@@ -52,6 +55,7 @@ abbrev pub outside : Frame → ActId → ActId
 outside (frame.Inside b) a = b
 outside _ a = a
 
+-- the activation outside of all frames, where a is the one inside
 abbrev pub base_of : List Frame → ActId → ActId
 base_of [] a = a
 base_of (f ∷ fs) a = outside f (base_of fs a)
@@ -61,10 +65,12 @@ abbrev pub plug : List Frame → ActId → Running → Running
 plug [] a x = x
 plug (f ∷ fs) a x = wrap f (base_of fs a) (plug fs a x)
 
+-- the expression at hand
 abbrev pub shown : Focus → Running
 shown (focus.Value v) = Done v
 shown (focus.Part e) = whole e
 
+-- one for a call, else none
 abbrev pub is_call : Frame → ℕ
 is_call (frame.Inside b) = 1
 is_call _ = 0

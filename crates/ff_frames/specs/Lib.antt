@@ -1,3 +1,4 @@
+pub mod Places
 pub mod Frames
 pub mod Loads
 pub mod Seeking

@@ -18,10 +18,12 @@ abbrev pub in_do : Option (List Expr × ℕ) → Running → Running
 in_do None x = x
 in_do (Some p) x = Do (more x (wholes (drop p.1 p.0)))
 
+-- an `if`
 abbrev pub IsIf : Expr-F Doc Expr Handler → Type 0
 IsIf (Expr-F.If e f g) = Unit {0}
 IsIf _ = ⊥
 
+-- around the test of an `if`
 abbrev pub IsIfFrame : Frame → Type 0
 IsIfFrame (frame.Part e vs) = IsIf (out-Expr e)
 IsIfFrame _ = ⊥

@@ -17,6 +17,7 @@ use Rattle.ff_frames.specs.declared.frame.Frame.TheVariants as frame
 use Rattle.ff_frames.specs.declared.frame.Focus.{Focus}
 use Rattle.ff_frames.specs.declared.frame.Focus.TheVariants as focus
 
+-- no part
 abbrev pub IsEmpty : List Expr → Type 0
 IsEmpty [] = Unit {0}
 IsEmpty (e ∷ es) = ⊥
@@ -57,6 +58,7 @@ abbrev pub top_or : Frame → List Frame → Frame
 top_or f [] = f
 top_or f (g ∷ gs) = top_or g gs
 
+-- no operand is left in the innermost frame
 abbrev pub IsTopFull : List Frame → Type 0
 IsTopFull [] = Unit {0}
 IsTopFull (f ∷ fs) = IsFull (top_or f fs)
@@ -88,14 +90,17 @@ pub record Feeds (f : Frame) (v : Val) (g : Frame) (x : Focus) : Type 0 where
   pub settled : IsSettled x
   pub less : frame_load g + load x < frame_load f
 
+-- the answer for an expression: what is evaluated first, or none where it is a redex
 abbrev pub IsOpening : Expr → Option (Frame × Focus) → Type 0
 IsOpening e None = IsRow (out-Expr e)
 IsOpening e (Some p) = Opens e p.0 p.1
 
+-- the same for the parts of a `do`
 abbrev pub IsOpeningDo : List Expr → Option (Frame × Focus) → Type 0
 IsOpeningDo es None = IsEmpty es
 IsOpeningDo es (Some p) = Opens (expr.Do es) p.0 p.1
 
+-- the answer for a value: the next operand, or none where the frame has all
 abbrev pub IsFeeding : Frame → Val → Frame → Option Focus → Type 0
 IsFeeding f v g None = (g ≡ f) × IsFull f
 IsFeeding f v g (Some x) = Feeds f v g x

@@ -1,5 +1,6 @@
 -- What a stack stands for, and which stacks are valid.
 use Rattle.std.specs.Prelude.{◌≡◌, ◌≤◌, ◌-◌}
+use Rattle.ff_term.specs.declared.TheConstants.{MOST_CALLS}
 use Rattle.ff_term.specs.Running.{Running, Evaluation, rewritten_in}
 use Rattle.ff_frames.specs.declared.frame.Frame.{Frame}
 use Rattle.ff_frames.specs.Frames.{plug, base_of, calls, shown, outside, is_call}
@@ -10,6 +11,7 @@ use Rattle.ff_frames.specs.declared.stack.Stack.{Stack}
 abbrev pub with_part : Stack → Running → Evaluation
 with_part s x = record { base = base_of s.frames.items s.act; expr = plug s.frames.items s.act x }
 
+-- what the stack stands for
 abbrev pub evaluation : Stack → Evaluation
 evaluation s = with_part s (shown s.focus)
 
@@ -17,10 +19,10 @@ evaluation s = with_part s (shown s.focus)
 abbrev pub out_of : Frame → Stack → Stack
 out_of f s = record s { act = outside f s.act; depth = s.depth - is_call f }
 
--- the depth is counted, and at most 1,000
+-- the depth is counted, and no greater than the limit
 pub record IsCounted (s : Stack) : Type 0 where
   pub depth : s.depth ≡ calls s.frames.items
-  pub small : s.depth ≤ 1000
+  pub small : s.depth ≤ MOST_CALLS
 
 -- a stack whose part at hand is or completes the redex
 pub record IsValid (s : Stack) : Type 0 where

@@ -4,18 +4,20 @@ ghost use Rattle.ff_term.specs.Running.{Done, Inside, call_of, innermost, inside
 ghost use Rattle.ff_term.specs.Rows.{IsLocal, IsTest, branch, local_row};
 ghost use Rattle.ff_term.specs.Whole.{whole};
 ghost use Rattle.ff_term.specs.Redexes.{IsRedexOf};
+ghost use Rattle.ff_term.specs.Calls.{calls_around};
 
 use crate::stack::Stack;
-use ff_term::Redex;
+use ff_term::{MOST_CALLS, Redex};
 use ff_tree::Body;
 use ff_value::{ActId, Code, NoMemory, Val};
 use std::alloc::Global;
 use std::marker::Model;
 use std::mem;
 
-/// A script's control: contracts see a runtime expression, and the activation in which it runs where no call stands around.
+/// A script's control: contracts see a runtime expression, and the activation in which it runs
+/// where no call stands around.
 ///
-/// After want of memory a control is that of `null`.
+/// After want of memory a control can go on being used; which expression it is then isn't stated.
 #[derive(Drop)]
 pub struct Control {
     stack: Stack,
@@ -84,10 +86,12 @@ impl Control {
         self.stack.value()
     }
 
-    /// How many calls the expression stands in.
+    /// How many calls the expression has, at most [`MOST_CALLS`]. Each stands around the redex, or
+    /// is it.
     pub fn depth(&self) -> u32
         ensures count { result ≡ insides self.now.expr }
-        ensures small { result ≤ 1000 }
+        ensures around { result ≡ calls_around self.now.expr }
+        ensures small { result ≤ MOST_CALLS }
     {
         self.stack.depth
     }
@@ -143,7 +147,7 @@ impl Control {
     /// Puts a call for the redex, which runs in an activation of its own.
     pub fn enter(&mut self, alloc: Global, act: ActId, body: &Body) -> Result<(), NoMemory>
         requires unfinished { is_value self.old.expr ≡ false }
-        requires shallow { insides self.old.expr < 1000 }
+        requires shallow { insides self.old.expr < MOST_CALLS }
         ensures { OnOk result (self.new ≡ rewritten_in (λ _. Inside act (whole body.now)) self.old) }
     {
         let stack = mem::replace(&mut self.stack, Stack::empty(alloc));

@@ -1,20 +1,19 @@
-ghost use Rattle.std.specs.Prelude.{◌≡◌, IfOk, slice_get};
-ghost use Rattle.std.specs.Option.{option_copied};
+ghost use Rattle.std.specs.Prelude.{◌≡◌, ◌∷◌, [], IfOk, slice_get};
 ghost use Rattle.ff_tree.specs.declared.tree.Expr.{out-Expr};
 ghost use Rattle.ff_term.specs.Whole.{whole, literal as the_literal};
 ghost use Rattle.ff_frames.specs.Frames.{operands, shown};
 ghost use Rattle.ff_frames.specs.Seeking.{IsSettled};
 
+use crate::source::Source;
 use crate::values::Values;
 use ff_tree::{Body, Expr, Exprs, Lit};
 use ff_value::{ActId, NoMemory, Val};
-use std::alloc::Global;
 
 /// What stands around the part at hand.
 #[derive(Drop)]
 pub enum Frame {
     /// A form with the values of its first operands.
-    Part(Body, Values),
+    Part(Source, Values),
     /// A `do`: its parts, and the place of the next.
     Do(Exprs, usize),
     /// A call, and the activation outside of it.
@@ -25,7 +24,7 @@ pub enum Frame {
 #[derive(Drop)]
 pub enum Focus {
     Value(Val),
-    Part(Body),
+    Part(Source),
 }
 
 /// The value of a literal.
@@ -40,23 +39,33 @@ pub fn literal(lit: &Lit) -> Result<Val, NoMemory>
     }
 }
 
-/// The operand at a place, or `None` past the last.
-pub fn operand(expr: &Expr, at: usize) -> Option<&Expr>
-    ensures { option_copied result ≡ slice_get (operands (out-Expr expr.now)) at }
+/// The operand at a place, or `None` past the last. Its one refusal is a count of owners that is
+/// full.
+pub fn operand(expr: &Expr, at: usize) -> Result<Option<Source>, NoMemory>
+    ensures { IfOk result (λ s. s ≡ slice_get (operands (out-Expr expr.now)) at) }
 {
     match expr {
-        Expr::Let(_, part) | Expr::Set(_, part) | Expr::If(part, _, _) => {
-            if at == 0 { Some(part.get()) } else { None }
-        }
+        Expr::Let(_, part) | Expr::Set(_, part) | Expr::If(part, _, _) => only(part, at),
         Expr::Apply(function, args) => {
             if at == 0 {
-                Some(function.get())
+                only(function, at)
             } else {
-                args.get(at - 1)
+                Source::item(args, at - 1)
             }
         }
-        Expr::Prim(_, args) => args.get(at),
-        _ => None,
+        Expr::Prim(_, args) => Source::item(args, at),
+        _ => Ok(None),
+    }
+}
+
+/// The first operand.
+fn only(part: &Body, at: usize) -> Result<Option<Source>, NoMemory>
+    ensures { IfOk result (λ s. s ≡ slice_get (part.now ∷ []) at) }
+{
+    if at == 0 {
+        Ok(Some(Source::of(part)?))
+    } else {
+        Ok(None)
     }
 }
 
@@ -81,14 +90,11 @@ impl Focus {
 
 impl Frame {
     /// An equal frame.
-    pub fn copy(&self, alloc: Global) -> Result<Frame, NoMemory>
+    pub fn copy(&self) -> Result<Frame, NoMemory>
         ensures { IfOk result (λ f. f ≡ self.now) }
     {
         match self {
-            Frame::Part(form, values) => {
-                let values = Values::of(alloc, values.as_slice())?;
-                Ok(Frame::Part(form.copy()?, values))
-            }
+            Frame::Part(form, values) => Ok(Frame::Part(form.copy()?, values.copy()?)),
             Frame::Do(parts, at) => Ok(Frame::Do(parts.copy()?, *at)),
             Frame::Inside(outer) => Ok(Frame::Inside(*outer)),
         }

@@ -13,6 +13,7 @@ ghost use Rattle.ff_frames.specs.Rewrites.{in_do, IsIf, IsIfFrame};
 
 use crate::frame::{Focus, Frame};
 use crate::seek::focus_on;
+use crate::source::Source;
 use ff_shared::{Shared, SharedList};
 use ff_tree::{Body, Expr, Exprs, Lit};
 use ff_value::{NoMemory, Val};
@@ -70,25 +71,21 @@ pub fn local_form(alloc: Global, form: &Expr) -> Result<Focus, NoMemory>
     ensures settled { IfOk result IsSettled }
 {
     let next = local_expr(alloc, form)?;
-    focus_on(alloc, &next)
+    focus_on(Source::made(alloc, next)?)
 }
 
-/// What is put for a value and the frame around it, where no store decides: the part at hand, and the parts of a `do` that come
-/// after it, with the place of the next.
-pub fn local_frame(
-    alloc: Global,
-    frame: &Frame,
-    value: &Val,
-) -> Result<(Option<(Exprs, usize)>, Focus), NoMemory>
+/// What is put for a value and the frame around it, where no store decides: the part at hand, and
+/// the parts of a `do` that come after it, with the place of the next.
+pub fn local_frame(frame: &Frame, value: &Val) -> Result<(Option<(Exprs, usize)>, Focus), NoMemory>
     requires { (a : ActId) → IsLocal (wrap frame.now a (Done value.now)) }
     ensures same { IfOk result (λ p. (a : ActId) → in_do p.0 (shown p.1) ≡ local_row (wrap frame.now a (Done value.now))) }
     ensures settled { IfOk result (λ p. IsSettled p.1) }
 {
     match frame {
-        Frame::Do(parts, at) => match parts.get(*at) {
+        Frame::Do(parts, at) => match Source::item(parts, *at)? {
             None => Ok((None, Focus::Value(value.copy()?))),
             Some(part) => {
-                let next = focus_on(alloc, part)?;
+                let next = focus_on(part)?;
                 Ok((Some((parts.copy()?, *at + 1)), next))
             }
         },
@@ -98,25 +95,25 @@ pub fn local_frame(
 }
 
 /// The branch of an `if` whose test is evaluated.
-pub fn branch_of(alloc: Global, frame: &Frame, yes: bool) -> Result<Focus, NoMemory>
+pub fn branch_of(frame: &Frame, yes: bool) -> Result<Focus, NoMemory>
     requires { IsIfFrame frame.now }
     ensures same { IfOk result (λ x. (a : ActId) (v : Val) → shown x ≡ branch yes (wrap frame.now a (Done v))) }
     ensures settled { IfOk result IsSettled }
 {
     match frame {
-        Frame::Part(form, _) => branch_in(alloc, form.get(), yes),
+        Frame::Part(form, _) => branch_in(form.get(), yes),
         _ => unreachable!(),
     }
 }
 
 /// The same of the form.
-fn branch_in(alloc: Global, form: &Expr, yes: bool) -> Result<Focus, NoMemory>
+fn branch_in(form: &Expr, yes: bool) -> Result<Focus, NoMemory>
     requires { IsIf (out-Expr form.now) }
     ensures same { IfOk result (λ x. (vs : List Val) (v : Val) → shown x ≡ branch yes (around (out-Expr form.now) vs (Done v))) }
     ensures settled { IfOk result IsSettled }
 {
     match form {
-        Expr::If(_, left, right) => focus_on(alloc, if yes { left.get() } else { right.get() }),
+        Expr::If(_, left, right) => focus_on(Source::of(if yes { left } else { right })?),
         _ => unreachable!(),
     }
 }

@@ -15,15 +15,16 @@ use crate::frame::{Focus, Frame, put};
 use crate::redex::{read_form, read_frame};
 use crate::row::{branch_of, local_form, local_frame};
 use crate::seek::{focus_on, seek};
+use crate::source::Source;
 use crate::values::Values;
-use ff_shared::{Shared, SharedList};
-use ff_term::Redex;
+use ff_shared::SharedList;
+use ff_term::{MOST_CALLS, Redex};
 use ff_tree::{Body, Expr, Exprs};
 use ff_value::{ActId, Code, NoMemory, Val};
 use std::alloc::Global;
 
-/// A runtime expression as what stands around the part at hand, that part, the innermost activation, and how many calls stand
-/// around.
+/// A runtime expression as what stands around the part at hand, that part, the innermost
+/// activation, and how many calls stand around.
 #[derive(Drop)]
 pub struct Stack {
     pub frames: Vec<Frame>,
@@ -32,12 +33,13 @@ pub struct Stack {
     pub depth: u32,
 }
 
-/// The frame around the one argument of a function.
+/// The frame around the one argument of a function. Its form gives only its kind: the function's
+/// value stands for its one part.
 fn call_frame(alloc: Global, code: &Code) -> Result<Frame, NoMemory>
     ensures { IfOk result (λ f. IsCallFrame code.now f) }
 {
     let no_args = SharedList::from_vec(alloc, Vec::new(alloc))?;
-    let form = Shared::new(alloc, Expr::Apply(code.body.copy()?, no_args))?;
+    let form = Source::made(alloc, Expr::Apply(code.body.copy()?, no_args))?;
     let mut values = Values::new(alloc);
     values.push(Val::Code(code.copy()?))?;
     Ok(Frame::Part(form, values))
@@ -62,7 +64,7 @@ impl Stack {
         ensures is { IfOk result (λ s. evaluation s ≡ record { base = act; expr = whole body.now }) }
         ensures valid { IfOk result IsValid }
     {
-        let focus = focus_on(alloc, body.get())?;
+        let focus = focus_on(Source::of(body)?)?;
         let stack = Stack {
             frames: Vec::new(alloc),
             focus,
@@ -72,8 +74,7 @@ impl Stack {
         stack.sought(alloc)
     }
 
-    /// The stack of a call of a function with one argument. The frame's form gives only its kind: a value stands for its one
-    /// part.
+    /// The stack of a call of a function with one argument.
     pub fn called(alloc: Global, code: &Code, arg: &Val, act: ActId) -> Result<Stack, NoMemory>
         ensures is { IfOk result (λ s. evaluation s ≡ record { base = act; expr = Apply (Done (val.Code code.now)) (more (Done arg.now) none) }) }
         ensures valid { IfOk result IsValid }
@@ -98,7 +99,7 @@ impl Stack {
     {
         let mut frames = Vec::new(alloc);
         for frame in &self.frames {
-            frames.push(frame.copy(alloc)?)?;
+            frames.push(frame.copy()?)?;
         }
         Ok(Stack {
             frames,
@@ -177,11 +178,11 @@ impl Stack {
     pub fn entered(self, alloc: Global, act: ActId, body: &Body) -> Result<Stack, NoMemory>
         requires valid { IsValid self }
         requires open { is_value (evaluation self).expr ≡ false }
-        requires shallow { insides (evaluation self).expr < 1000 }
+        requires shallow { insides (evaluation self).expr < MOST_CALLS }
         ensures rewrites { IfOk result (λ s. evaluation s ≡ rewritten_in (λ _. Inside act (whole body.now)) (evaluation self)) }
         ensures valid { IfOk result IsValid }
     {
-        let part = focus_on(alloc, body.get())?;
+        let part = focus_on(Source::of(body)?)?;
         let mut stack = self.without_redex();
         stack.frames.push(Frame::Inside(stack.act))?;
         stack.act = act;
@@ -251,7 +252,8 @@ impl Stack {
         }
     }
 
-    /// What is put for a redex that no store decides: the part at hand, and the parts of a `do` that come after it.
+    /// What is put for a redex that no store decides: the part at hand, and the parts of a `do`
+    /// that come after it.
     fn local_part(&self, alloc: Global) -> Result<(Option<(Exprs, usize)>, Focus), NoMemory>
         requires valid { IsValid self.now }
         requires open { is_value (evaluation self.now).expr ≡ false }
@@ -266,7 +268,7 @@ impl Stack {
             }
             Focus::Value(value) => match self.top() {
                 None => unreachable!(),
-                Some(frame) => local_frame(alloc, frame, value),
+                Some(frame) => local_frame(frame, value),
             },
         }
     }
@@ -279,12 +281,12 @@ impl Stack {
         ensures rewrites { IfOk result (λ s. evaluation s ≡ rewritten_in (λ _. branch yes (redex (evaluation self).expr)) (evaluation self)) }
         ensures valid { IfOk result IsValid }
     {
-        let part = self.branch(alloc, yes)?;
+        let part = self.branch(yes)?;
         self.replaced(alloc, part)
     }
 
     /// The branch.
-    fn branch(&self, alloc: Global, yes: bool) -> Result<Focus, NoMemory>
+    fn branch(&self, yes: bool) -> Result<Focus, NoMemory>
         requires valid { IsValid self.now }
         requires open { is_value (evaluation self.now).expr ≡ false }
         requires test { IsTest (redex (evaluation self.now).expr) }
@@ -295,7 +297,7 @@ impl Stack {
             Focus::Part(_) => unreachable!(),
             Focus::Value(_) => match self.top() {
                 None => unreachable!(),
-                Some(frame) => branch_of(alloc, frame, yes),
+                Some(frame) => branch_of(frame, yes),
             },
         }
     }

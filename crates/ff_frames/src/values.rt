@@ -3,11 +3,21 @@ ghost use Rattle.std.specs.Prelude.{◌≡◌, ◌++◌, ◌∷◌, [], IfOk, On
 use ff_value::{NoMemory, Val};
 use std::alloc::Global;
 use std::marker::Model;
+use std::{mem, slice};
+
+/// As many values as there are; one takes no memory of its own.
+#[derive(Drop)]
+pub enum Few {
+    None,
+    One(Val),
+    Many(Vec<Val>),
+}
 
 /// The values of some operands, in their order.
 #[derive(Drop)]
 pub struct Values {
-    items: Vec<Val>,
+    alloc: Global,
+    items: Few,
 }
 
 impl Model for Values {
@@ -15,12 +25,13 @@ impl Model for Values {
     ghost use Rattle.ff_value.specs.declared.value.Val.{Val};
     ghost use Rattle.std.specs.Coded.{coded_list};
     ghost use Rattle.ff_value.specs.contracts.value.Val as val;
+    ghost use Rattle.ff_frames.specs.Places.{all_of};
 
     ghost Value = { List Val };
 
     ghost coded = { coded_list val.the_row.coded };
 
-    ghost view = { λ s. s.items.items };
+    ghost view = { λ s. all_of s.items };
 }
 
 impl Values {
@@ -29,21 +40,39 @@ impl Values {
         ensures { result ≡ [] }
     {
         Values {
-            items: Vec::new(alloc),
+            alloc,
+            items: Few::None,
         }
     }
 
+    /// The values, lent in their order.
     pub fn as_slice(&self) -> &[Val]
         ensures { result.now ≡ self.now }
     {
-        self.items.as_slice()
+        match &self.items {
+            Few::None => &[],
+            Few::One(value) => slice::from_ref(value),
+            Few::Many(values) => values.as_slice(),
+        }
     }
 
     /// Puts a value last.
     pub fn push(&mut self, value: Val) -> Result<(), NoMemory>
         ensures { OnOk result (self.new ≡ self.old ++ value ∷ []) }
     {
-        self.items.push(value)?;
+        self.items = match mem::replace(&mut self.items, Few::None) {
+            Few::None => Few::One(value),
+            Few::One(first) => {
+                let mut values = Vec::with_capacity(self.alloc, 2)?;
+                values.push(first)?;
+                values.push(value)?;
+                Few::Many(values)
+            }
+            Few::Many(mut values) => {
+                values.push(value)?;
+                Few::Many(values)
+            }
+        };
         Ok(())
     }
 
@@ -51,19 +80,22 @@ impl Values {
     pub fn and(alloc: Global, values: &[Val], last: &Val) -> Result<Vec<Val>, NoMemory>
         ensures { IfOk result (λ all. all.items ≡ values.now ++ last.now ∷ []) }
     {
-        let mut all = Values::of(alloc, values)?;
+        let mut all = Vec::with_capacity(alloc, values.len() + 1)?;
+        for value in values {
+            all.push(value.copy()?)?;
+        }
         all.push(last.copy()?)?;
-        Ok(all.items)
+        Ok(all)
     }
 
     /// Equal values.
-    pub fn of(alloc: Global, values: &[Val]) -> Result<Values, NoMemory>
-        ensures { IfOk result (λ all. all ≡ values.now) }
+    pub fn copy(&self) -> Result<Values, NoMemory>
+        ensures { IfOk result (λ all. all ≡ self.now) }
     {
-        let mut items = Vec::new(alloc);
-        for value in values {
-            items.push(value.copy()?)?;
+        let mut all = Values::new(self.alloc);
+        for value in self.as_slice() {
+            all.push(value.copy()?)?;
         }
-        Ok(Values { items })
+        Ok(all)
     }
 }

@@ -4,11 +4,11 @@ use Rattle.ff_frames.proofs.row.local_frame.Goals as goal
 
 pub returns-in_ok-copy-in-None-clause-same : goal.returns-in_ok-copy-in-None-clause-same
 returns-in_ok-copy-in-None-clause-same c = λ a.
-    rw c.in-Do.is (do-last c.in-Do.parts c.in-Do.at c.args.value.now _ (sym c.in-None.ensures.value) c.in_ok-copy-in-None.ensures)
+    rw c.in-Do.is (do-last c.in-Do.parts c.in-Do.at c.args.value.now _ (sym (rw c.in-None.is at c.in_ok-item-in-Do.ensures)) c.in_ok-copy-in-None.ensures)
 
 pub returns-in_ok-copy-in-Some-clause-same : goal.returns-in_ok-copy-in-Some-clause-same
 returns-in_ok-copy-in-Some-clause-same c = λ a.
-    rw c.in-Do.is (do-next c.in-Do.parts _ c.in-Do.at c.in-Some.part.now _ c.args.value.now (sym c.in-Some.ensures.value) c.in_ok-copy-in-Some.ensures c.in_ok-next-in-Some.ensures.same)
+    rw c.in-Do.is (do-next c.in-Do.parts _ c.in-Do.at c.in-Some.part _ c.args.value.now (sym (rw c.in-Some.is at c.in_ok-item-in-Do.ensures)) c.in_ok-copy-in-Some.ensures c.in_ok-next-in-Some.ensures.same)
 
 pub returns-in_ok-copy-in-Part-clause-same : goal.returns-in_ok-copy-in-Part-clause-same
 returns-in_ok-copy-in-Part-clause-same c = λ a.

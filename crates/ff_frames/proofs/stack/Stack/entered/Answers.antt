@@ -15,5 +15,5 @@ returns-clause-rewrites c =
     let t = c.without_redex-stack.result in
     IfOk-weaker c.sought.result _ _
     (λ s e. called c.args.self t (record { frames = c.push.new.self; focus = c.put.new.focus; act = c.args.act; depth = t.depth + 1 }) s _
-    c.without_redex-stack.ensures c.in_ok-push.ensures.items (ap shown c.put.ensures ∙ c.in_ok-part.ensures.same ∙ ap whole c.get.ensures) e)
+    c.without_redex-stack.ensures c.in_ok-push.ensures.items (ap shown c.put.ensures ∙ c.in_ok-part.ensures.same ∙ ap whole c.in_ok-of.ensures) e)
     c.sought.ensures.same
