@@ -49,10 +49,10 @@ unfolding read_num
 read_num_is bytes None spelled within =
     let n = signed_digits_value 10 bytes in
     none_where (bytes_eq (num_text n) bytes && fits n) n (λ (t : bytes_eq (num_text n) bytes && fits n ≡ true).
-      let parts : (bytes_eq (num_text n) bytes ≡ true) × (fits n ≡ true) = both _ _ t in
-      let same : num_text n ≡ bytes = (bytes_eq-Decides (num_text n) bytes).0 parts.0 in
-      let wrong : None ≡ Some n = (spelled n (FitsSigned-from_fits n parts.1)).1 (sym same) in
-      cc)
+    let parts : (bytes_eq (num_text n) bytes ≡ true) × (fits n ≡ true) = both _ _ t in
+    let same : num_text n ≡ bytes = (bytes_eq-Decides (num_text n) bytes).0 parts.0 in
+    let wrong : None ≡ Some n = (spelled n (FitsSigned-from_fits n parts.1)).1 (sym same) in
+    cc)
 read_num_is bytes (Some n) spelled small =
     let same : bytes ≡ num_text n = (spelled n small).0 refl in
     let value : signed_digits_value 10 bytes ≡ n = ap (signed_digits_value 10) same ∙ signed_digits_value-num_text n small in

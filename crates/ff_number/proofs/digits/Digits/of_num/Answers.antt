@@ -36,4 +36,4 @@ returns c =
     let size : c.unsigned_abs.result ≡ unsigned_abs c.args.n = c.unsigned_abs.ensures.value ∙ ap unsigned_abs (to_z-of_z w64 c.args.n c.ranges.n) in
     let negative : c.args.n <ℤ pos 0 = omega (arith, ints) in
     put_before c.write_digits-start.new.buf (decimal c.unsigned_abs.result) c.write_digits-start.result some within written
-        ∙ sym (num_text-after_minus c.args.n c.unsigned_abs.result size negative)
+    ∙ sym (num_text-after_minus c.args.n c.unsigned_abs.result size negative)
