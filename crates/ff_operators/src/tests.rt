@@ -12,12 +12,18 @@ fn texts(alloc: Global, front: &[u8], back: &[u8]) -> Result<Vals, NoMemory> {
     SharedList::from_vec(alloc, args)
 }
 
+fn is_text(value: &Val, bytes: &[u8]) -> bool {
+    match value {
+        Val::Str(text) => text.as_bytes() == bytes,
+        _ => false,
+    }
+}
+
 #[test]
 fn two_texts_are_joined(rt: HostRuntime) -> Result<(), Fail> {
     let args = texts(rt.alloc(), b"a", b"b")?;
     let Applied { value, mass } = apply(rt.alloc(), Op::Cat, &args, 0)?;
     let copy = value.copy()?;
-    let joined = matches!(&copy, Val::Str(text) if text.as_bytes() == b"ab");
-    assert!(rt; joined && copy == value && mass == 2);
+    assert!(rt; is_text(&copy, b"ab") && copy == value && mass == 2);
     Ok(())
 }
