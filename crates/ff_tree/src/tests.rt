@@ -85,11 +85,16 @@ fn an_expression_weighs_its_items_and_strings(rt: HostRuntime) -> Result<(), NoM
 
 #[test]
 fn the_deepest_document_is_copied_and_compared(rt: HostRuntime) -> Result<(), NoMemory> {
-    let copied = nested(rt.alloc(), 64)?.copy()?;
-    for (lists, same) in [(64, true), (63, false)] {
-        assert_eq!(rt; nested(rt.alloc(), lists)? == copied, same, "{lists} lists");
-    }
+    let deepest = nested(rt.alloc(), 64)?;
+    let same = doc_is_copied(&deepest)?;
+    assert!(rt; same && !is_nested(rt.alloc(), 63, &deepest)?);
     Ok(())
+}
+
+/// Whether a document is the one of so many lists.
+fn is_nested(alloc: Global, lists: usize, doc: &Doc) -> Result<bool, NoMemory> {
+    let other = nested(alloc, lists)?;
+    Ok(other == *doc)
 }
 
 #[test]
@@ -149,43 +154,80 @@ fn expr(alloc: Global, place: u8) -> Result<Expr, NoMemory> {
     }
 }
 
-/// A document of each sort but the button and the division.
+/// A document of each sort.
 fn doc(alloc: Global, place: u8) -> Result<Doc, NoMemory> {
     match place {
         0 => Ok(Doc::Text(name(alloc, b"n")?, text(alloc, b"hi")?)),
         1 => Ok(Doc::Link(name(alloc, b"n")?, Url::Blank, text(alloc, b"hi")?)),
         2 => Ok(Doc::TextBox(name(alloc, b"n")?, text(alloc, b"hi")?, handlers(alloc)?)),
-        _ => Ok(Doc::Src(name(alloc, b"n")?, Url::Blank)),
+        3 => Ok(Doc::Src(name(alloc, b"n")?, Url::Blank)),
+        4 => Ok(Doc::Script(name(alloc, b"n")?, sets_text(alloc)?)),
+        5 => button(alloc),
+        _ => nested(alloc, 4),
     }
 }
 
-fn lit_is_copied(alloc: Global, place: u8) -> Result<bool, NoMemory> {
+/// Whether a literal equals its copy.
+fn lit_is_copied(lit: &Lit) -> Result<bool, NoMemory> {
+    let copy = lit.copy()?;
+    Ok(copy == *lit)
+}
+
+fn expr_is_copied(expr: &Expr) -> Result<bool, NoMemory> {
+    let copy = expr.copy()?;
+    Ok(copy == *expr)
+}
+
+fn doc_is_copied(doc: &Doc) -> Result<bool, NoMemory> {
+    let copy = doc.copy()?;
+    Ok(copy == *doc)
+}
+
+fn handler_is_copied(handler: &Handler) -> Result<bool, NoMemory> {
+    let copy = handler.copy()?;
+    Ok(copy == *handler)
+}
+
+fn lit_at_is_copied(alloc: Global, place: u8) -> Result<bool, NoMemory> {
     let lit = lit(alloc, place)?;
-    Ok(lit.copy()? == lit)
+    lit_is_copied(&lit)
 }
 
-fn expr_is_copied(alloc: Global, place: u8) -> Result<bool, NoMemory> {
+fn expr_at_is_copied(alloc: Global, place: u8) -> Result<bool, NoMemory> {
     let expr = expr(alloc, place)?;
-    Ok(expr.copy()? == expr)
+    expr_is_copied(&expr)
 }
 
-fn doc_is_copied(alloc: Global, place: u8) -> Result<bool, NoMemory> {
+fn doc_at_is_copied(alloc: Global, place: u8) -> Result<bool, NoMemory> {
     let doc = doc(alloc, place)?;
-    Ok(doc.copy()? == doc)
-}
-
-fn handler_is_copied(alloc: Global) -> Result<bool, NoMemory> {
-    let handler = handler(alloc)?;
-    Ok(handler.copy()? == handler)
+    doc_is_copied(&doc)
 }
 
 #[test]
-fn each_literal_handler_and_document_equals_its_copy(rt: HostRuntime) -> Result<(), NoMemory> {
-    let mut all = handler_is_copied(rt.alloc())?;
+fn each_literal_equals_its_copy(rt: HostRuntime) -> Result<(), NoMemory> {
+    let mut all = true;
     for place in 0..4 {
-        all &= lit_is_copied(rt.alloc(), place)? & doc_is_copied(rt.alloc(), place)?;
+        all &= lit_at_is_copied(rt.alloc(), place)?;
     }
     assert!(rt; all);
+    Ok(())
+}
+
+#[test]
+fn each_document_equals_its_copy(rt: HostRuntime) -> Result<(), NoMemory> {
+    let mut all = true;
+    for place in 0..7 {
+        all &= doc_at_is_copied(rt.alloc(), place)?;
+    }
+    assert!(rt; all);
+    Ok(())
+}
+
+#[test]
+fn a_handler_equals_its_copy(rt: HostRuntime) -> Result<(), NoMemory> {
+    let handler = handler(rt.alloc())?;
+    let same = handler_is_copied(&handler)?;
+    assert!(rt; same);
     Ok(())
 }
 
@@ -193,7 +235,7 @@ fn each_literal_handler_and_document_equals_its_copy(rt: HostRuntime) -> Result<
 fn each_expression_equals_its_copy(rt: HostRuntime) -> Result<(), NoMemory> {
     let mut all = true;
     for place in 0..13 {
-        all &= expr_is_copied(rt.alloc(), place)?;
+        all &= expr_at_is_copied(rt.alloc(), place)?;
     }
     assert!(rt; all);
     Ok(())
