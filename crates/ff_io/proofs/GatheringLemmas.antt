@@ -1,7 +1,5 @@
 -- A line is put together from what is read.
-use Rattle.std.proofs.Common.{◌≡◌, ℕ, suc, ◌+◌, ◌-◌, ◌<◌, ◌≤◌, ◌⊎◌, inl, inr, Bool, true, false, cond, ◌||◌, Option, Some, None, Result, Ok, Err, List, [], ◌∷◌, ◌++◌, length, refl, sym, ap, subst, ◌∙◌, append-nil, append_assoc, arith, length-append}
-use Rattle.std.specs.Bool.{⊤}
-use Rattle.std.specs.Result.{IfOk, OnOk}
+use Rattle.std.proofs.Common.{◌≡◌, ℕ, suc, ◌+◌, ◌-◌, ◌<◌, ◌≤◌, inl, inr, Bool, true, false, cond, ◌||◌, Option, Ok, Err, List, [], ◌∷◌, ◌++◌, length, refl, sym, ap, subst, ◌∙◌, append-nil, append_assoc, arith, length-append}
 use Rattle.std.specs.Prelude.{Vec}
 use Rattle.std.specs.declared.alloc.Global.{Global}
 use Rattle.std.proofs.lemmas.List.{nil_from_length}
@@ -9,10 +7,10 @@ use Rattle.std.proofs.lemmas.Bool.{false≢true}
 use Rattle.ff_io.specs.Pieces.{Piece, got_of, has_end, is_nil}
 use Rattle.ff_io.specs.Pieces.Piece.{Got, Put}
 use Rattle.ff_io.specs.Port.{Adds, Leaves, AtEnd}
-use Rattle.ff_io.specs.Chunks.{IsChunk, chunk_pieces, IsReadFail}
+use Rattle.ff_io.specs.Chunks.{IsChunk, IsReadFail}
 use Rattle.ff_io.specs.Cutting.{has_newline, content, after_line, line_size, Fits, IsUnfinished, HasLine}
-use Rattle.ff_io.specs.Following.{LinesState, ReadsWhileNone, IsNext, IsGiven, IsOver, Nexts}
-use Rattle.ff_io.specs.Gathering.{IsSizeFault, IsCut, IsUncut, Cuts, IsGathered, IsUngathered, GathersFrom, Gathers}
+use Rattle.ff_io.specs.Following.{LinesState, ReadsWhileNone, IsNext, Nexts}
+use Rattle.ff_io.specs.Gathering.{IsSizeFault, IsCut, IsUncut, IsUngathered, Gathers}
 use Rattle.ff_io.specs.declared.chunk.TheConstants.{MOST_READ_BYTES}
 use Rattle.ff_io.specs.declared.lines.Next.TheVariants.{Line, End}
 use Rattle.ff_io.specs.declared.lines.LineFail.{LineFail}
@@ -33,6 +31,7 @@ module _ (given : ℕ) (line chunk line_now chunk_now : List ℕ) (whole : Bool)
   end_is : given + (length line_now + cond whole 1 0) ≡ given + line_size (line ++ chunk)
   end_is = ap (λ bs. given + (length bs + cond whole 1 0)) content_is ∙ ap (λ t. given + (length (content (line ++ chunk)) + cond t 1 0)) newline_is
 
+  -- a line of a fitting size was cut off
   pub cut_fits : Fits (length line_now) (given + (length line_now + cond whole 1 0)) → IsCut given (line ++ chunk) line_now chunk_now whole
   cut_fits fits = record {
     line_is = content_is;
@@ -41,6 +40,7 @@ module _ (given : ℕ) (line chunk line_now chunk_now : List ℕ) (whole : Bool)
     fits = subst (λ n. Fits (length (content (line ++ chunk))) n) end_is (subst (λ bs. Fits (length bs) (given + (length line_now + cond whole 1 0))) content_is fits);
   }
 
+  -- a line has no fitting size
   pub cut_fault : (fail : LineFail) → IsSizeFault given (length line_now) (given + (length line_now + cond whole 1 0)) fail → IsUncut given (line ++ chunk) fail
   cut_fault fail fault = from fail (subst (λ n. IsSizeFault given (length (content (line ++ chunk))) n fail) end_is (subst (λ bs. IsSizeFault given (length bs) (given + (length line_now + cond whole 1 0)) fail) content_is fault))
     where
@@ -62,12 +62,15 @@ reads_more given held ended [] bytes reads unfinished short =
     or_left : (s t : Bool) → (s || t) ≡ false → s ≡ false
     or_left true t e = e
     or_left false t e = refl
-reads_more given held ended (Got b ∷ pieces) bytes reads unfinished short =
-    (reads.0, reads.1, reads_more given (held ++ b) (is_nil b) pieces bytes reads.2 (record {
-      no_line = rw (append_assoc held b (got_of pieces)) unfinished.no_line;
-      open_yet = rw reads.0.open_yet at unfinished.open_yet;
-      fits = rw (append_assoc held b (got_of pieces)) unfinished.fits;
-    }) short)
+reads_more given held ended (Got b ∷ pieces) bytes reads unfinished short = (
+  reads.0,
+  reads.1,
+  reads_more given (held ++ b) (is_nil b) pieces bytes reads.2 (record {
+    no_line = rw (append_assoc held b (got_of pieces)) unfinished.no_line;
+    open_yet = rw reads.0.open_yet at unfinished.open_yet;
+    fits = rw (append_assoc held b (got_of pieces)) unfinished.fits;
+  }) short,
+)
 reads_more given held ended (Put b ∷ pieces) bytes reads unfinished short = absurd reads
 
 -- these pieces were read, and a line was cut off all the bytes, or what is held has none
@@ -84,6 +87,7 @@ or_false : (b : Bool) → b ≡ (b || false)
 or_false true = refl
 or_false false = refl
 
+-- the first cut, before any read
 pub gathering_start : (log : Option (List Piece)) (rest : Option (List ℕ)) (given : ℕ) (bytes : List ℕ) (ended : Bool) (line chunk : List ℕ) (whole : Bool) → IsCut given bytes line chunk whole
     → IsGathering log log rest rest given bytes ended line chunk ended whole
 gathering_start log rest given bytes ended line chunk whole cut = record {
@@ -126,6 +130,7 @@ module _ {log_before log_mid : Option (List Piece)} {rest_before rest_mid : Opti
   none : has_newline got ≡ false
   none = sym so_far.cut.whole_is ∙ no_line
 
+  -- what was put together has no newline yet
   pub line_none : has_newline line ≡ false
   line_none = ap has_newline (so_far.cut.line_is ∙ content-none got none) ∙ none
 
@@ -160,6 +165,7 @@ module _ {log_before log_mid : Option (List Piece)} {rest_before rest_mid : Opti
           or_right : (s t : Bool) → (s || t) ≡ false → t ≡ false
           or_right true t e = absurd (false≢true (sym e))
           or_right false t e = e
+
       from : (f : LineFail) → IsReadFail f → IsUngathered given got (ended || has_end so_far.pieces) f
       from Read k = unfinished
       from NoMemory k = tt
@@ -298,6 +304,7 @@ module _ {log_before log_now : Option (List Piece)} {rest_before rest_now : Opti
           let no_more : size ≡ length line + 0 = size_is ∙ ap (λ t. length line + cond t 1 0) e in
           inr (gathers.answer.0.stopped e, omega arith)
 
+  -- no byte is left at the end
   pub end_given : (size : ℕ) → size ≡ length line + cond whole 1 0 → size ≡ 0
       → Nexts log_before log_now rest_before rest_now (state bytes given ended false) (state (line ++ chunk) given ended_now false) (Ok End)
   end_given size size_is none = record {
@@ -338,6 +345,7 @@ module _ {log_before log_now : Option (List Piece)} {rest_before rest_now : Opti
       held_none : line ++ chunk ≡ []
       held_none = ap (λ bs. bs ++ chunk) no_line ∙ gathers.answer.0.cut.rest_is ∙ after_line-none all plain
 
+-- no line was put together
 pub none_given : {log_before log_now : Option (List Piece)} {rest_before rest_now : Option (List ℕ)} {given : ℕ} {bytes : List ℕ} {ended : Bool} {line chunk : List ℕ} {ended_now : Bool} (fail : LineFail) (now : LinesState)
     → Gathers log_before log_now rest_before rest_now given bytes ended line chunk ended_now (Err fail) → now.failed ≡ true → Nexts log_before log_now rest_before rest_now (state bytes given ended false) now (Err fail)
 none_given {log_before} {log_now} {rest_before} {rest_now} {given} {bytes} {ended} fail now gathers failed = record {

@@ -5,6 +5,7 @@
 //! failure comes only where the count for that kind of call rose.
 #![tactic(auto)]
 
+mod buffer;
 mod chunk;
 mod counts;
 mod dir_shelf;

@@ -135,7 +135,13 @@ impl Lines {
             → Rose (P.read_faults port.old) (P.read_faults port.new) }
         ensures others { P.write_faults port.new ≡ P.write_faults port.old }
     {
-        match gather(self.given, &mut self.line, &mut self.chunk, &mut self.ended, port) {
+        match gather(
+            self.given,
+            &mut self.line,
+            &mut self.chunk,
+            &mut self.ended,
+            port,
+        ) {
             Ok(whole) => {
                 let size = size_with_newline(&self.line, whole);
                 if size == 0 {

@@ -4,6 +4,7 @@ ghost use Rattle.ff_io.specs.Counts.{HasCause, Rose};
 ghost use Rattle.ff_io.specs.Whole.{Puts, Reads, IsPiece};
 ghost use Rattle.ff_io.specs.declared.whole.AllFail.TheVariants.{Read, NoMemory};
 
+use super::buffer::buffer_of;
 use super::outside::{Failed, Port};
 use std::alloc::{AllocError, Global};
 use thiserror::Error;
@@ -87,13 +88,6 @@ pub fn read_all<P: Port>(alloc: Global, port: &mut P, limit: u64) -> Result<All,
         ended = read_piece(port, &mut buffer[..size], &mut bytes)?;
     }
     Ok(All { bytes, ended })
-}
-
-// A vector of `size` zeros.
-pub(crate) fn buffer_of(alloc: Global, size: usize) -> Result<Vec<u8>, AllocError>
-    ensures { IfOk result (λ buffer. vec_len buffer ≡ size) }
-{
-    vec![in alloc; 0u8; size]
 }
 
 // How many bytes to ask for, once `had` of `limit` were got: up to the byte past the limit.

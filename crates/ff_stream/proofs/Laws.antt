@@ -1,5 +1,5 @@
 -- A trace is read in one way; what follows for how going through it ends.
-use Rattle.std.proofs.Common.{◌≡◌, ◌≢◌, ℕ, ◌+◌, ◌<◌, ◌≤◌, ◌⊎◌, inl, inr, Bool, true, false, cond, Option, Some, None, Result, Ok, Err, List, [], ◌∷◌, ◌++◌, length, All, refl, sym, ap, subst, ◌∙◌, append-nil, arith, length-append}
+use Rattle.std.proofs.Common.{◌≡◌, ℕ, ◌+◌, ◌<◌, ◌≤◌, ◌⊎◌, inl, inr, Bool, true, false, cond, Option, Some, None, Result, Ok, Err, List, [], ◌++◌, length, All, refl, sym, ap, subst, ◌∙◌, arith, length-append}
 use Rattle.std.specs.Bool.{⊤}
 use Rattle.std.specs.Option.{IfSome}
 use Rattle.std.proofs.lemmas.List.Elements.{All-nil, All-cons}
@@ -9,20 +9,17 @@ use Rattle.std.proofs.lemmas.Option.{none-some, same_Some}
 use Rattle.ff_io.specs.declared.lines.TheConstants.{MOST_LINE_BYTES, MOST_TRACE_BYTES}
 use Rattle.ff_io.specs.Pieces.{Piece, got_of, put_of, has_end}
 use Rattle.ff_io.specs.Port.{Leaves}
-use Rattle.ff_io.specs.Fronts.{IsFront, IsProperFront}
 use Rattle.ff_io.specs.Cutting.{has_newline, content, after_line, line_size, HasLine, IsTooLong, IsTooMuch, Fits, IsUnfinished}
 use Rattle.ff_io.proofs.CuttingLemmas.{content-none, content-after, content-more, line_size-more}
 use Rattle.ff_io.proofs.Joins.{rest_was_got}
-
 use Rattle.ff_stream.specs.Traces.{Reads, IsTrace, onto}
-use Rattle.ff_stream.specs.Owed.{text_from, text_of, turns_of, Begins, Owes, OwesMore, Streams, IsStreamed}
-use Rattle.ff_stream.specs.Streaming.{MayFollow}
+use Rattle.ff_stream.specs.Owed.{text_from, text_of, turns_of, Owes, OwesMore, Streams, IsStreamed}
 use Rattle.ff_stream.specs.declared.end.BadLine.{BadLine}
 use Rattle.ff_stream.specs.declared.end.End as declared
 use Rattle.ff_stream.specs.declared.end.End.TheVariants.{Done, Bad, ReadFault, WriteFault, NoMemory}
 use Rattle.ff_stream.specs.declared.end.Fault.TheVariants as fault
 use Rattle.ff_stream.proofs.Owing.{text_from-append, turns_from-append}
-use Rattle.ff_stream.proofs.Standing.{fault_of, value_or, ReadsAfter, reads_after, IsSameLine, same_line}
+use Rattle.ff_stream.proofs.Standing.{fault_of, reads_after, same_line}
 
 -- ---- cases apart
 
@@ -130,6 +127,7 @@ module _ {X F : Type 0} {Gives : List ℕ → Result (Option X) F → Type 0} (o
       from (Reads.too_long n2 s2 bs2 long) = absurd (much.first long)
       from (Reads.too_much n2 s2 bs2 much2) = (refl, refl)
 
+  -- a trace gives one list of items, and has one first bad line or none
   pub trace_once : (ended : Bool) (bytes : List ℕ) (items others : List X) (bad other : Option (BadLine F)) → IsTrace Gives ended bytes items bad → IsTrace Gives ended bytes others other → (items ≡ others) × (bad ≡ other)
   trace_once ended bytes items others bad other = reads_once ended 1 0 bytes items others bad other (omega arith)
 
@@ -225,6 +223,7 @@ onto_each : {X : Type 0} (P : X → Type 0) (item : Option X) (items : List X) �
 onto_each P None items is all = all
 onto_each P (Some x) items is all = All-cons P x items (is x refl) all
 
+-- what holds of each item that a line gives holds of all items of a trace
 pub reads_each : {X F : Type 0} {Gives : List ℕ → Result (Option X) F → Type 0} (P : X → Type 0) → ((line : List ℕ) (x : X) → Gives line (Ok (Some x)) → P x) → (ended : Bool) (number start : ℕ) (bytes : List ℕ) (items : List X) (bad : Option (BadLine F))
     → Reads Gives ended number start bytes items bad → All P items
 reads_each P each ended number start bytes items bad (Reads.at_end n s bs over none) = All-nil P
@@ -235,7 +234,7 @@ reads_each P each ended number start bytes items bad (Reads.bad_line n s bs f th
 reads_each P each ended number start bytes items bad (Reads.too_long n s bs long) = All-nil P
 reads_each P each ended number start bytes items bad (Reads.too_much n s bs much) = All-nil P
 
--- where the taker is may be left out
+-- the state of the taker left out
 module _ {X F : Type 0} (Gives : List ℕ → Result (Option X) F → Type 0) (entry : List X → X → List ℕ) (turns : List X → X → ℕ) (IsAt : List X → Type 0) (turns_before turns_now : ℕ) where
   forget : (got put : List ℕ) (ended : Bool) (bad : Option (BadLine F)) → Owes Gives entry turns IsAt got put ended bad turns_before turns_now → Owes Gives entry turns (λ is. ⊤) got put ended bad turns_before turns_now
   forget got put ended bad owes = record { items = owes.items; read = owes.read; text_is = owes.text_is; counted = owes.counted; at = tt }
@@ -247,6 +246,7 @@ module _ {X F : Type 0} (Gives : List ℕ → Result (Option X) F → Type 0) (e
   forget_held WriteFault got put ended held = held
   forget_held NoMemory got put ended held = held
 
+-- what is said of the state of the taker may be left out
 pub streams_anywhere : {X F : Type 0} {Gives : List ℕ → Result (Option X) F → Type 0} {entry : List X → X → List ℕ} {turns : List X → X → ℕ} {IsAt : List X → Type 0} {log_before log_now : Option (List Piece)} {rest_before rest_now : Option (List ℕ)} {turns_before turns_now : ℕ}
     → (end : declared.End F) → Streams Gives entry turns IsAt log_before log_now rest_before rest_now turns_before turns_now end → Streams Gives entry turns (λ is. ⊤) log_before log_now rest_before rest_now turns_before turns_now end
 streams_anywhere {X} {F} {Gives} {entry} {turns} {IsAt} {log_before} {log_now} {rest_before} {rest_now} {turns_before} {turns_now} end streams = record {

@@ -3,7 +3,7 @@ ghost use Rattle.std.specs.Prelude.{◌≡◌, ◌≢◌, ◌≤◌, ℕ, List, 
 ghost use Rattle.std.specs.Option.{ForSome};
 ghost use Rattle.ff_io.specs.Counts.{Rose};
 ghost use Rattle.ff_stream.specs.Owed.{Streams};
-ghost use Rattle.ff_stream.specs.Streaming.{ReadsItem, TakesItem, end_by};
+ghost use Rattle.ff_stream.specs.Items.{ReadsItem, TakesItem, end_by};
 
 use crate::end::{BadLine, End, Fault};
 use crate::reader::Reader;

@@ -1,5 +1,4 @@
-use Rattle.std.proofs.Common.{◌≡◌}
-use Rattle.ff_stream.specs.Streaming.{read_lines}
+use Rattle.ff_stream.specs.Items.{read_lines}
 use Rattle.ff_stream.proofs.Onwards.{reads_item, item_refused, item_over, item_by}
 use Rattle.ff_stream.proofs.line_loop.read_item.Goals as goal
 

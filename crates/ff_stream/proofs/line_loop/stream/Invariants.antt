@@ -1,6 +1,6 @@
-use Rattle.std.proofs.Common.{◌≡◌, ◌+◌, ◌-◌, ◌≤◌}
+use Rattle.std.proofs.Common.{◌+◌, ◌-◌, ◌≤◌}
 use Rattle.ff_io.specs.declared.lines.TheConstants.{MOST_TRACE_BYTES}
-use Rattle.ff_stream.specs.Streaming.{IsStreaming}
+use Rattle.ff_stream.proofs.Onwards.{IsStreaming}
 use Rattle.ff_stream.proofs.line_loop.stream.Given as goal
 
 abbrev pub invariant-loop-item : goal.invariant-loop-item

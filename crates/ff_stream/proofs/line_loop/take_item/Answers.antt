@@ -1,4 +1,4 @@
-use Rattle.std.proofs.Common.{◌≡◌, None, [], refl}
+use Rattle.std.proofs.Common.{[], refl}
 use Rattle.ff_io.proofs.Joins.{Adds-nil}
 use Rattle.ff_stream.proofs.Onwards.{takes_nothing}
 use Rattle.ff_stream.proofs.line_loop.take_item.Goals as goal
