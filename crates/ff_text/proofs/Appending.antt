@@ -1,34 +1,11 @@
 -- What is appended part by part, and what was after a refusal.
-use Rattle.std.proofs.Common.{◌≡◌, ◌<◌, ◌≤◌, ◌+◌, ◌==◌, ℕ, suc, zero, Bool, true, false, Result, Ok, Err, List, [], ◌∷◌, ◌++◌, length, map, take, drop, get_or, refl, sym, ◌∙◌, ap, subst, arith, append_assoc, append-nil}
-use Rattle.std.specs.Prelude.{IsErr}
+use Rattle.std.proofs.Common.{◌≡◌, ◌<◌, ◌≤◌, ◌+◌, ℕ, suc, zero, List, [], ◌∷◌, ◌++◌, length, map, take, drop, get_or, refl, sym, ◌∙◌, ap, arith, append_assoc, append-nil}
 use Rattle.std.specs.List.{join_with_byte, flat_map}
 use Rattle.std.proofs.lemmas.List.{take_more, take_all, take-append-drop}
 use Rattle.std.proofs.lemmas.Bool.Decides.{nat_tests}
 use Rattle.std.proofs.lemmas.List.Concat.{flat_map-append}
-use Rattle.ff_name.specs.Output.{AppendsFront}
 use Rattle.ff_text.specs.declared.items.Sexp.{Sexp}
-use Rattle.ff_text.specs.Printed.{Appends, AppendsAll, quoted, spelled, spelled_byte, blank_before}
-
-pub front_done : (old new all done rest : List ℕ) → new ≡ old ++ done → all ≡ done ++ rest → AppendsFront old new all
-front_done old new all done rest e cut = record { front = done; rest = rest; cut = cut; appended = e }
-
--- a front of what comes after what was appended
-pub front_after : (old mid new all done item rest : List ℕ) → mid ≡ old ++ done → all ≡ done ++ (item ++ rest) → AppendsFront mid new item → AppendsFront old new all
-front_after old mid new all done item rest e cut front = record {
-  front = done ++ front.front;
-  rest = front.rest ++ rest;
-  cut = cut ∙ ap (λ bs. done ++ (bs ++ rest)) front.cut ∙ ap (λ bs. done ++ bs) (append_assoc front.front front.rest rest) ∙ sym (append_assoc done front.front (front.rest ++ rest));
-  appended = front.appended ∙ ap (λ bs. bs ++ front.front) e ∙ append_assoc old done front.front;
-}
-
-pub appends_err : {X E : Type 0} (answer : Result X E) (old new all : List ℕ) → IsErr answer → AppendsFront old new all → Appends answer old new all
-appends_err (Ok done) old new all err front = cc
-appends_err (Err refused) old new all err front = front
-
--- the last part
-pub appends_last : {X E : Type 0} (answer : Result X E) (old mid new all done last : List ℕ) → AppendsAll answer mid new last → mid ≡ old ++ done → all ≡ done ++ last → Appends answer old new all
-appends_last (Ok it) old mid new all done last e before cut = e ∙ ap (λ bs. bs ++ last) before ∙ append_assoc old done last ∙ ap (λ bs. old ++ bs) (sym cut)
-appends_last (Err refused) old mid new all done last e before cut = front_done old new all done last (e ∙ before) cut
+use Rattle.ff_text.specs.Printed.{quoted, spelled, spelled_byte, blank_before}
 
 -- two parts
 pub append_two : (old mid new done more all : List ℕ) → new ≡ mid ++ more → mid ≡ old ++ done → all ≡ done ++ more → new ≡ old ++ all

@@ -3,7 +3,7 @@ pub mod Ascii
 pub mod Back
 pub mod Complete
 pub mod Escapes
-pub mod KindLemmas
+pub mod ClassLemmas
 pub mod Layers
 pub mod Meeting
 pub mod NoEscape

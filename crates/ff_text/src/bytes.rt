@@ -1,10 +1,10 @@
 ghost use Rattle.std.specs.Prelude.{◌≡◌, ◌<◌, IsTrue, IfSome};
 ghost use Rattle.ff_text.specs.Bytes.{is_word_byte};
-ghost use Rattle.ff_text.specs.Kinds as kinds;
+ghost use Rattle.ff_text.specs.Classes as classes;
 
 /// What a byte outside strings is.
 #[derive(Clone, Copy)]
-pub(crate) enum Kind {
+pub(crate) enum Class {
     Blank,
     Open,
     Close,
@@ -13,23 +13,23 @@ pub(crate) enum Kind {
     Stray,
 }
 
-#[tactic(auto, unfolding(crate::specs::Kinds::kind_of))]
-pub(crate) fn kind_of(b: u8) -> Kind
-    ensures kind { result ≡ kinds.kind_of b }
-    ensures word { kinds.kind_of b ≡ Kind.InWord → IsTrue (is_word_byte b) }
+#[tactic(auto, unfolding(crate::specs::Classes::class_of))]
+pub(crate) fn class_of(b: u8) -> Class
+    ensures class { result ≡ classes.class_of b }
+    ensures word { classes.class_of b ≡ Class.InWord → IsTrue (is_word_byte b) }
 {
     if b == b' ' {
-        Kind::Blank
+        Class::Blank
     } else if b == b'(' {
-        Kind::Open
+        Class::Open
     } else if b == b')' {
-        Kind::Close
+        Class::Close
     } else if b == b'"' {
-        Kind::Quote
+        Class::Quote
     } else if b.is_ascii_graphic() {
-        Kind::InWord
+        Class::InWord
     } else {
-        Kind::Stray
+        Class::Stray
     }
 }
 
@@ -42,9 +42,9 @@ pub(crate) enum InStr {
     Plain,
 }
 
-#[tactic(auto, unfolding(crate::specs::Kinds::in_str_of))]
+#[tactic(auto, unfolding(crate::specs::Classes::in_str_of))]
 pub(crate) fn in_str_of(b: u8) -> InStr
-    ensures { result ≡ kinds.in_str_of b }
+    ensures { result ≡ classes.in_str_of b }
 {
     if b == b'"' {
         InStr::Mark
@@ -65,9 +65,9 @@ pub(crate) enum Slashed {
     Wrong,
 }
 
-#[tactic(auto, unfolding(crate::specs::Kinds::slashed_of))]
+#[tactic(auto, unfolding(crate::specs::Classes::slashed_of))]
 pub(crate) fn slashed_of(b: u8) -> Slashed
-    ensures { result ≡ kinds.slashed_of b }
+    ensures { result ≡ classes.slashed_of b }
 {
     if b == b'"' || b == b'\\' {
         Slashed::Short(b)
@@ -83,9 +83,9 @@ pub(crate) fn slashed_of(b: u8) -> Slashed
 }
 
 /// The value of the first digit after `\x`, which is one of 0 to 7, or `None` for another byte.
-#[tactic(auto, unfolding(crate::specs::Kinds::high_digit))]
+#[tactic(auto, unfolding(crate::specs::Classes::high_digit))]
 pub(crate) fn high_digit(b: u8) -> Option<u8>
-    ensures { result ≡ kinds.high_digit b }
+    ensures { result ≡ classes.high_digit b }
 {
     if (b'0'..=b'7').contains(&b) {
         Some(b - b'0')
@@ -95,9 +95,9 @@ pub(crate) fn high_digit(b: u8) -> Option<u8>
 }
 
 /// The value of the second digit after `\x`.
-#[tactic(auto, unfolding(crate::specs::Kinds::low_digit))]
+#[tactic(auto, unfolding(crate::specs::Classes::low_digit))]
 pub(crate) fn low_digit(b: u8) -> Option<u8>
-    ensures digit { result ≡ kinds.low_digit b }
+    ensures digit { result ≡ classes.low_digit b }
     ensures low { IfSome result (λ digit. digit < 16) }
 {
     if b.is_ascii_digit() {

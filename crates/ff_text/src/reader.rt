@@ -1,16 +1,17 @@
 ghost use Rattle.std.specs.Prelude.{◌≡◌, ◌<◌, ◌+◌, ◌-◌, ◌^◌, IsTrue};
+ghost use Rattle.ff_contract.specs.Answering.{Answers};
 ghost use Rattle.ff_text.specs.Bytes.{is_word_byte};
 ghost use Rattle.ff_text.specs.Machine as machine;
-ghost use Rattle.ff_text.specs.Machine.{Makes, Answers, HasDigit};
+ghost use Rattle.ff_text.specs.Machine.{Makes, HasDigit};
 
-use crate::bytes::{InStr, Kind, Slashed, high_digit, in_str_of, kind_of, low_digit, slashed_of};
+use crate::bytes::{InStr, Class, Slashed, high_digit, in_str_of, class_of, low_digit, slashed_of};
 use crate::items::{Items, Sexp, Span, TextFault};
 use crate::rows::{Row, Stack, WordBytes};
 use ff_name::Text;
 use std::alloc::Global;
 
-/// How many lists may stand in one another.
-const MOST_LEVELS: usize = 64;
+/// The most lists that may stand in one another.
+pub const MOST_DEPTH: usize = 64;
 
 /// A list that is open: where it begins, and the items that stand before it.
 #[derive(Drop)]
@@ -84,20 +85,20 @@ impl Reader {
         requires { self.old.at < 2 ^ 32 - 1 }
         ensures { Makes result self.new (machine.outside self.old b) }
     {
-        match kind_of(b) {
-            Kind::Blank => {
+        match class_of(b) {
+            Class::Blank => {
                 self.at += 1;
                 Ok(())
             }
-            Kind::Open => self.open(alloc),
-            Kind::Close => self.close(alloc),
-            Kind::Quote => {
+            Class::Open => self.open(alloc),
+            Class::Close => self.close(alloc),
+            Class::Quote => {
                 self.mode = Mode::Str(self.at);
                 self.at += 1;
                 Ok(())
             }
-            Kind::InWord => self.begin_word(b),
-            Kind::Stray => Err(TextFault::BadByte(self.at)),
+            Class::InWord => self.begin_word(b),
+            Class::Stray => Err(TextFault::BadByte(self.at)),
         }
     }
 
@@ -118,7 +119,7 @@ impl Reader {
         requires { self.old.at < 2 ^ 32 - 1 }
         ensures { Makes result self.new (machine.open_list self.old) }
     {
-        if self.opened.len() >= MOST_LEVELS {
+        if self.opened.len() >= MOST_DEPTH {
             return Err(TextFault::TooDeep(self.at));
         }
         let before = self.items.take(alloc);
@@ -145,9 +146,7 @@ impl Reader {
             from,
             to: self.at + 1,
         };
-        let Ok(parts) = self.items.take(alloc).share(alloc) else {
-            return Err(TextFault::NoMemory);
-        };
+        let parts = self.items.take(alloc).list();
         self.items = before;
         self.at += 1;
         self.put(Sexp::List(span, parts))
@@ -167,8 +166,8 @@ impl Reader {
         requires { self.old.at < 2 ^ 32 - 1 }
         ensures { Makes result self.new (machine.in_word self.old from b) }
     {
-        match kind_of(b) {
-            Kind::InWord => self.lengthen_word(b),
+        match class_of(b) {
+            Class::InWord => self.lengthen_word(b),
             _ => {
                 self.end_word(alloc, from)?;
                 self.take_outside(alloc, b)
@@ -219,12 +218,12 @@ impl Reader {
         requires { self.old.at < 2 ^ 32 - 1 }
         ensures { Makes result self.new (machine.end_str self.old from) }
     {
-        let value = self.value.take(alloc);
-        let text = match Text::of(alloc, value.as_slice()) {
+        let text = match Text::of(alloc, self.value.as_slice()) {
             Ok(Some(text)) => text,
             Ok(None) => return Err(TextFault::BadUtf8(from)),
             Err(_) => return Err(TextFault::NoMemory),
         };
+        self.value.clear();
         self.mode = Mode::Between;
         self.at += 1;
         let span = Span { from, to: self.at };
@@ -287,28 +286,25 @@ impl Reader {
     /// The items, where the text ends here.
     #[tactic(auto, unfolding(crate::specs::Machine::finish))]
     pub(crate) fn end(mut self, alloc: Global) -> Result<Items, TextFault>
-        ensures { Answers result (machine.finish self) }
+        ensures { Answers result (machine.finish self) (Err TextFault.NoMemory) }
     {
         match self.mode {
-            Mode::Between => self.end_items(alloc),
+            Mode::Between => self.end_items(),
             Mode::Word(from) => {
                 self.end_word(alloc, from)?;
-                self.end_items(alloc)
+                self.end_items()
             }
             Mode::Str(from) | Mode::Slash(from, _) | Mode::Hex(from, _) | Mode::Digit(from, _, _) =>
                 { Err(TextFault::Unclosed(from)) }
         }
     }
 
-    fn end_items(self, alloc: Global) -> Result<Items, TextFault>
-        ensures { Answers result (machine.end_items self) }
+    fn end_items(self) -> Result<Items, TextFault>
+        ensures { Answers result (machine.end_items self) (Err TextFault.NoMemory) }
     {
         if let Some(opened) = self.opened.top() {
             return Err(TextFault::Unclosed(opened.from));
         }
-        match self.items.share(alloc) {
-            Ok(items) => Ok(items),
-            Err(_) => Err(TextFault::NoMemory),
-        }
+        Ok(self.items.list())
     }
 }

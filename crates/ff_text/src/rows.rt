@@ -4,7 +4,7 @@ ghost use Rattle.ff_text.specs.Bytes.{is_word_byte};
 
 use crate::NoMemory;
 use ff_name::Text;
-use ff_shared::SharedList;
+use ff_shared::OwnedList;
 use std::alloc::Global;
 use std::marker::Model;
 use std::mem;
@@ -50,16 +50,24 @@ impl<T: Drop> Row<T> {
         mem::replace(self, Row::new(alloc))
     }
 
+    /// Leaves no items, and keeps the room for them.
+    pub(crate) fn clear(&mut self)
+        ensures { self.new ≡ [] }
+    {
+        self.items.clear();
+    }
+
     pub(crate) fn as_slice(&self) -> &[T]
         ensures { result.now ≡ self.now }
     {
         self.items.as_slice()
     }
 
-    pub(crate) fn share(self, alloc: Global) -> Result<SharedList<T>, NoMemory>
-        ensures { IfOk result (λ items. items ≡ self) }
+    /// The items as a list.
+    pub(crate) fn list(self) -> OwnedList<T>
+        ensures { result ≡ self }
     {
-        SharedList::from_vec(alloc, self.items)
+        OwnedList::from_vec(self.items)
     }
 }
 

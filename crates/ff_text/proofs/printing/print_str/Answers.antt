@@ -1,12 +1,13 @@
 use Rattle.std.proofs.Common.{◌∙◌, ◌∷◌, ◌++◌, [], take, drop}
 use Rattle.std.specs.List.{flat_map}
 use Rattle.ff_text.specs.Printed.{quoted, spelled_byte}
-use Rattle.ff_text.proofs.Appending.{front_done, appends_err, appends_last, quoted_cut, quoted_all}
+use Rattle.ff_contract.proofs.Sequence.{front_done, appends_front, appends_last}
+use Rattle.ff_text.proofs.Appending.{quoted_cut, quoted_all}
 use Rattle.ff_text.proofs.printing.print_str.Goals as goal
 
 pub returns-in_err-put_byte : goal.returns-in_err-put_byte
 returns-in_err-put_byte c =
-    appends_err c.from_residual-in_err-put_byte.result c.args.out.now.items c.put_byte.new.out.items (quoted c.args.value.now)
+    appends_front c.from_residual-in_err-put_byte.result c.args.out.now.items c.put_byte.new.out.items (quoted c.args.value.now)
     c.from_residual-in_err-put_byte.ensures.0
     (front_done c.args.out.now.items c.put_byte.new.out.items (quoted c.args.value.now)
     (34 ∷ flat_map spelled_byte (take c.loop-b.b-index c.args.value.now))
