@@ -1,5 +1,5 @@
 //! Fetching the front of a file.
-ghost use Rattle.std.specs.Prelude.{◌≡◌, ◌+◌, ◌-◌, ◌<◌, ◌≤◌, length, IfOk, IsErrOf, min, vec_len};
+ghost use Rattle.std.specs.Prelude.{◌≡◌, ◌-◌, ◌<◌, ◌≤◌, length, IfOk, IsErrOf, min, vec_len};
 ghost use Rattle.ff_io.specs.Counts.{Rose};
 ghost use Rattle.ff_io.specs.Fetched.{IsFetched, IsFetchedPiece};
 ghost use Rattle.ff_io.specs.declared.fetch.FetchFail.TheVariants.{Fetch, NoMemory};

@@ -1,5 +1,5 @@
 //! The edge to the outside: ports that are read and written, sinks that are
-//! written, shelves of named files, and reading or writing a port as a whole.
+//! written, shelves of named files, the lines of a port one at a time, and writing a whole text.
 //!
 //! Every call of the outside may fail. Each object counts its faults, and a
 //! failure comes only where the count for that kind of call rose.
@@ -32,7 +32,7 @@ pub use mem_sink::MemSink;
 pub use outside::{Failed, Port, Shelf, Sink};
 pub use std_err::StdErr;
 pub use std_port::StdPort;
-pub use whole::{All, AllFail, put_all, read_all};
+pub use whole::put_all;
 
 #[cfg(test)]
 mod tests;

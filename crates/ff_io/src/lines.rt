@@ -1,7 +1,7 @@
 //! The lines of the bytes that come from a port, one at a time.
-ghost use Rattle.std.specs.Prelude.{◌≡◌, ◌≤◌, ◌<◌, ◌+◌, ◌^◌, ◌++◌, false, true, length, cond, IsErrOf, IfOk, OnErr, MatchOption, IsTrue, ◌↔◌};
+ghost use Rattle.std.specs.Prelude.{◌≡◌, ◌≤◌, ◌<◌, ◌+◌, ◌^◌, ◌++◌, false, true, length, cond, IsErrOf, MatchOption};
 ghost use Rattle.ff_io.specs.Counts.{Rose};
-ghost use Rattle.ff_io.specs.Cutting.{has_newline, Fits, IsTooLong, IsTooMuch};
+ghost use Rattle.ff_io.specs.Cutting.{has_newline, Fits};
 ghost use Rattle.ff_io.specs.Following.{no_lines, Nexts};
 ghost use Rattle.ff_io.specs.Gathering.{Gathers, Cuts, IsSizeFault};
 ghost use Rattle.ff_io.specs.declared.lines.LineFail.TheVariants.{Read, NoMemory};

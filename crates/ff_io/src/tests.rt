@@ -24,7 +24,10 @@ fn port_of(alloc: Global, texts: &[&[u8]], bad_reads: &[u64]) -> Result<MemPort,
 }
 
 // The lines of a port, a `|` after each, and why there is no further one.
-fn lines_of(alloc: Global, port: &mut MemPort) -> Result<(Vec<u8>, Option<LineFail>), AllocError> {
+fn lines_of<P: Port>(
+    alloc: Global,
+    port: &mut P,
+) -> Result<(Vec<u8>, Option<LineFail>), AllocError> {
     let mut lines = Lines::new(alloc);
     let mut text = Vec::new(alloc);
     for _ in 0..9 {
@@ -66,35 +69,6 @@ fn writes_of_a_port_in_memory(rt: HostRuntime) -> Result<(), Fail> {
         assert_eq!(rt; port.write(b"xyz"), want);
     }
     assert_eq!(rt; port.put_bytes(), b"xyxy".as_slice());
-    Ok(())
-}
-
-#[test]
-fn a_port_is_read_to_its_end_or_past_the_limit(rt: HostRuntime) -> Result<(), Fail> {
-    for (limit, length, ended) in [(4, 4, true), (3, 4, false), (2, 3, false)] {
-        let pieces = pieces_of(rt.alloc(), &[b"ab", b"cd"])?;
-        let mut port = MemPort::new(
-            rt.alloc(),
-            pieces,
-            Vec::new(rt.alloc()),
-            Vec::new(rt.alloc()),
-            1,
-        );
-        let all = read_all(rt.alloc(), &mut port, limit)?;
-        assert_eq!(rt;
-            (all.bytes.len(), all.ended),
-            (length, ended),
-            "limit {limit}"
-        );
-    }
-    Ok(())
-}
-
-#[test]
-fn a_failing_read_ends_the_reading(rt: HostRuntime) -> Result<(), Fail> {
-    let mut port = failing_port(rt.alloc())?;
-    let failed = read_all(rt.alloc(), &mut port, 9).err();
-    assert_eq!(rt; failed, Some(AllFail::Read));
     Ok(())
 }
 
@@ -258,9 +232,9 @@ impl Print for Fake {
 }
 
 #[test]
-fn standard_input_is_read_whole(rt: HostRuntime) -> Result<(), Fail> {
-    let all = read_all(rt.alloc(), &mut StdPort::new(&Fake), 9)?;
-    assert_eq!(rt; all.bytes.as_slice(), b"hi".as_slice());
+fn the_lines_of_standard_input(rt: HostRuntime) -> Result<(), Fail> {
+    let (text, fail) = lines_of(rt.alloc(), &mut StdPort::new(&Fake))?;
+    assert_eq!(rt; (text.as_slice(), fail), (b"hi|".as_slice(), None));
     Ok(())
 }
 
