@@ -6,12 +6,12 @@ ghost use Rattle.ff_run.specs.Policies.{NamesPolicy, NamesFault, IsKnown, Refuse
 ghost use Rattle.ff_run.specs.Words.{dash};
 
 use ff_io::{FetchFail, Shelf, fetch_front};
-use ff_policy::{Policy, PolicyFault};
+use ff_policy::{MOST_POLICY_BYTES, Policy, PolicyFault};
 use ff_status::Status;
 use std::alloc::Global;
 
 /// How many bytes of a policy's file count: one more than a policy may have.
-const MOST_FETCHED: usize = 65_537;
+const MOST_FETCHED: usize = MOST_POLICY_BYTES + 1;
 
 /// The policy of this name: the built-in one where it is `-`, and else that of the file on the shelf. The shelf isn't called
 /// for `-`.

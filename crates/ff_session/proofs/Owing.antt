@@ -26,7 +26,8 @@ use Rattle.ff_stream.proofs.Owing.{text_by_steps, turns_by_steps}
 use Rattle.ff_stream.proofs.Laws as laws
 use Rattle.ff_session.specs.Giving.{Gives}
 use Rattle.ff_session.specs.Once.{gives_once}
-use Rattle.ff_session.specs.Formatting.{input_line, format_entry, no_turns}
+use Rattle.ff_trace.specs.Printed.{input_line}
+use Rattle.ff_session.specs.Formatting.{format_entry, no_turns}
 use Rattle.ff_session.specs.Plain.{plain_entry, plain_turns}
 use Rattle.ff_session.specs.Multi.{copies_entry, copies_turns, multi_turns}
 use Rattle.ff_session.specs.Works.{built_only, text_for, turns_for, entry_for, entry_turns, IsOwed, IsOwedMore, IsWritten, Exchanged, status_as}

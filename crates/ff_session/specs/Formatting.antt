@@ -1,12 +1,8 @@
 -- Formatting: each input in its canonical form, as a line.
-use Rattle.std.specs.Prelude.{ℕ, List, [], ◌∷◌, ◌++◌, flat_map}
+use Rattle.std.specs.Prelude.{ℕ, List, flat_map}
 use Rattle.ff_lattice.specs.Order.{Order}
 use Rattle.ff_value.specs.declared.input.Input.{Input}
-use Rattle.ff_trace.specs.Printed.{input_text}
-
--- the line of an input
-abbrev pub input_line : Order → Input → List ℕ
-input_line order i = input_text order i ++ 10 ∷ []
+use Rattle.ff_trace.specs.Printed.{input_line}
 
 -- the text for inputs
 abbrev pub format_text : Order → List Input → List ℕ

@@ -39,6 +39,7 @@ impl Taker for Formatting<'_> {
 
     ghost is_at = { λ taker state inputs. ⊤ };
 
+    #[tactic(auto, using(crate::proofs::Texts::formatted))]
     fn take<L: Ledger>(
         &self,
         _alloc: Global,

@@ -1,11 +1,10 @@
 ghost use Rattle.std.specs.Prelude.{◌≡◌, ◌<◌};
 
 use super::{Work, walk};
-use ff_io::{Failed, MemPort, Port};
+use ff_io::{MemPort, Port};
 use ff_policy::Policy;
 use ff_steps::Steps;
 use std::alloc::{AllocError, Global};
-use std::cmp::min;
 use std::marker::Brand;
 use std::sync::ledger::{Blank, Ledger};
 use std::test::Fail;
@@ -110,71 +109,5 @@ fn a_read_that_fails_leaves_the_text_of_the_whole_lines(rt: HostRuntime) -> Resu
     let texts = ["open about:blank\nopen about:bl", "ank\n"];
     let (end, put) = ends(rt.alloc(), Work::Multi, &texts, &[2])?;
     assert!(rt; end == 5 && put.as_slice() == b"H opened\n".as_slice());
-    Ok(())
-}
-
-/// A port that notes, at each read, how many bytes were put before it, and whether each read asks for 65,536 bytes.
-#[derive(Debug, Drop)]
-struct Watched {
-    pieces: Vec<Vec<u8>>,
-    put: usize,
-    put_before: Vec<usize>,
-    whole_reads: bool,
-    faults: u64,
-}
-
-impl Port for Watched {
-    ghost use Rattle.std.specs.Prelude.{None, refl};
-
-    ghost log = { λ _. None };
-
-    ghost rest = { λ _. None };
-
-    ghost read_faults = { λ port. port.faults };
-
-    ghost write_faults = { λ port. 0 };
-
-    ghost told = { λ port. record { log = None; rest = None; read_faults = port.faults; write_faults = 0 } };
-
-    ghost tells = { λ port. refl };
-
-    fn read(&mut self, into: &mut [u8]) -> Result<usize, Failed> {
-        if into.len() != 65_536 {
-            self.whole_reads = false;
-        }
-        if self.put_before.push(self.put).is_err() {
-            self.faults = self.faults.saturating_add(1);
-            return Err(Failed);
-        }
-        match self.pieces.pop() {
-            Some(piece) => {
-                let size = min(piece.len(), into.len());
-                into[..size].copy_from_slice(&piece[..size]);
-                Ok(size)
-            }
-            None => Ok(0),
-        }
-    }
-
-    fn write(&mut self, piece: &[u8]) -> Result<usize, Failed> {
-        self.put = self.put.saturating_add(piece.len());
-        Ok(piece.len())
-    }
-}
-
-#[test]
-fn no_read_comes_before_the_text_of_the_whole_lines(rt: HostRuntime) -> Result<(), Fail> {
-    let alloc = rt.alloc();
-    let mut port = Watched {
-        pieces: pieces_of(alloc, &["ank\n", "open about:blank\nopen about:bl"])?,
-        put: 0,
-        put_before: Vec::new(alloc),
-        whole_reads: true,
-        faults: 0,
-    };
-    let end = start::<Brand, Watched>(alloc, Work::Multi, &mut port, Blank::new(1))?;
-    assert!(rt;
-        end == 0 && port.whole_reads && port.put_before.as_slice() == [0, 9, 18].as_slice()
-    );
     Ok(())
 }

@@ -79,7 +79,7 @@ struct Noting {
 }
 
 impl Port for Noting {
-    ghost use Rattle.std.specs.Prelude.{None};
+    ghost use Rattle.std.specs.Prelude.{None, refl};
 
     ghost log = { λ noting. None };
 
@@ -88,6 +88,10 @@ impl Port for Noting {
     ghost read_faults = { λ noting. noting.port.read_faults };
 
     ghost write_faults = { λ noting. noting.port.write_faults };
+
+    ghost told = { λ noting. record { log = None; rest = None; read_faults = noting.port.read_faults; write_faults = noting.port.write_faults } };
+
+    ghost tells = { λ noting. refl };
 
     fn read(&mut self, into: &mut [u8]) -> Result<usize, Failed> {
         let read = (into.len(), self.port.put_bytes().len());
