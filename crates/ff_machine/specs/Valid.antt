@@ -82,7 +82,8 @@ pub record IsStores (s : Stores) : Type 0 where
 
 -- States.
 
--- a task of a page: it runs in the page's activation, and each call in it stands around its redex, a thousand at most
+-- a task of a page: it runs in the page's activation, and each call in it stands around its redex,
+-- a thousand at most
 pub record IsTask (s : Stores) (task : Task) : Type 0 where
   pub page : task.page.0 < length s.windows.pages
   pub act : task.running.base ≡ (page_at s.windows task.page).act

@@ -1,4 +1,5 @@
-//! The limits of one copy of the browser. The mass, and the longest text that an operator makes, have theirs in `ff_operators`.
+//! The limits of one copy of the browser. The mass, and the longest text that an operator makes,
+//! have theirs in `ff_operators`.
 
 /// Open windows.
 pub const MOST_WINDOWS: usize = 64;
