@@ -6,11 +6,11 @@ root=$(cd "$(dirname "$0")/.." && pwd)
 work=$(mktemp -d)
 trap 'rm -rf "$work"' EXIT
 mkdir -p "$work/crates/text_bench/src"
-for crate in ff_name ff_shared ff_text; do
+for crate in ff_contract ff_name ff_shared ff_text; do
     mkdir "$work/crates/$crate"
     (cd "$root/crates/$crate" && tar cf - --exclude=./out --exclude=./must-fail .) | (cd "$work/crates/$crate" && tar xf -)
 done
-grep -E '^(ff_name|ff_shared|ff_text):' "$root/crates.txt" > "$work/crates.txt"
+grep -E '^(ff_contract|ff_name|ff_shared|ff_text):' "$root/crates.txt" > "$work/crates.txt"
 echo 'text_bench: ff_text' >> "$work/crates.txt"
 cp "$root/HANDLES" "$work/HANDLES"
 cat > "$work/crates/text_bench/src/main.rt" <<'PROGRAM'

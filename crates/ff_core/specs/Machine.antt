@@ -1,6 +1,7 @@
 -- One browser as a reactor: what it makes of an input, and what one of its turns is.
 use Rattle.std.specs.Prelude.{◌≡◌, ℕ, true, false, cond, List, [], ◌∷◌, ⊤}
-use Rattle.ff_reactive.specs.Turns.{Stepped, Reactor}
+use Rattle.ff_reactive.specs.Runs.{Machine}
+use Rattle.ff_reactive.specs.Turns.{Stepped, Reactor, machine_of}
 use Rattle.ff_value.specs.declared.input.Act.{Act}
 use Rattle.ff_value.specs.declared.input.Act.TheVariants.{Opens}
 use Rattle.ff_value.specs.declared.input.Input.{Input}
@@ -62,3 +63,11 @@ turn s = record { outputs = []; after = record s { quiet = true } }
 -- the browser as a reactor
 abbrev pub reactor : Reactor Input Out State
 reactor = record { start = empty; begin = begin; turn = turn; quiet = λ s. s.quiet }
+
+-- what holds of a browser between inputs
+abbrev pub IsQuiet : State → Type 0
+IsQuiet s = s.quiet ≡ true
+
+-- the browser as a machine: each input takes one turn
+abbrev pub machine : Machine Input Out State
+machine = machine_of reactor 1

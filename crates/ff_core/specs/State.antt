@@ -2,6 +2,7 @@
 use Rattle.std.specs.Prelude.{ℕ, Bool, true, ◌&&◌, nat_lt, List, [], ◌∷◌, ◌++◌, length, count_by, bytes_eq}
 use Rattle.ff_value.specs.declared.ids.WinId.{WinId}
 use Rattle.ff_core.specs.declared.browser.Pending.{Pending}
+use Rattle.ff_core.specs.declared.browser.TheConstants.{MOST_WAITING, MOST_WAITING_AT_ONE, MOST_WINDOWS}
 
 pub record State : Type 0 where
   -- the open windows, in the order in which they were opened
@@ -15,17 +16,17 @@ pub record State : Type 0 where
 abbrev pub empty : State
 empty = record { windows = []; pending = []; quiet = true }
 
--- fewer than 64 windows are open
+-- fewer windows are open than may be
 abbrev pub has_window_room : State → Bool
-has_window_room s = nat_lt (length s.windows) 64
+has_window_room s = nat_lt (length s.windows) MOST_WINDOWS
 
 -- how many of the requests are to the domain
 abbrev pub waiting : List Pending → List ℕ → ℕ
 waiting pending domain = count_by (λ p. bytes_eq p.domain domain) pending
 
--- fewer than 4,096 requests wait in all, and fewer than 256 of them for the domain
+-- fewer requests wait than may in all, and fewer for the domain than may for one
 abbrev pub have_room : List Pending → List ℕ → Bool
-have_room pending domain = nat_lt (length pending) 4096 && nat_lt (waiting pending domain) 256
+have_room pending domain = nat_lt (length pending) MOST_WAITING && nat_lt (waiting pending domain) MOST_WAITING_AT_ONE
 
 -- the number of the next window: as many were opened before it
 abbrev pub next_window : State → WinId

@@ -1,5 +1,5 @@
 ghost use Rattle.std.specs.Prelude.{◌≡◌, ◌+◌, ◌<◌, ◌≤◌, ◌++◌, [], ◌∷◌, true, false, length, count_by, bytes_eq, IsTrue, IfOk, OnOk, OnErr};
-ghost use Rattle.ff_name.specs.Output.{AppendsFront};
+ghost use Rattle.ff_contract.specs.Appending.{Appends, AppendsAll};
 ghost use Rattle.ff_core.specs.State as state;
 ghost use Rattle.ff_core.specs.Machine as machine;
 ghost use Rattle.ff_core.specs.Machine.{IsBuilt, reactor};
@@ -14,14 +14,14 @@ use std::sync::ledger::Ledger;
 /// The answer of a call that found no memory.
 pub type NoMemory = AllocError;
 
-/// How many windows may be open at once.
-pub const WINDOW_LIMIT: usize = 64;
+/// The most windows that may be open at once.
+pub const MOST_WINDOWS: usize = 64;
 
-/// How many requests to one domain may wait for their replies.
-pub const DOMAIN_LIMIT: usize = 256;
+/// The most requests to one domain that may wait for their replies.
+pub const MOST_WAITING_AT_ONE: usize = 256;
 
-/// How many requests to all domains together may wait for their replies.
-pub const PENDING_LIMIT: usize = 4096;
+/// The most requests to all domains together that may wait for their replies.
+pub const MOST_WAITING: usize = 4096;
 
 /// A request whose reply hasn't come, and the window that it was sent for.
 #[derive(Debug, Drop)]
@@ -47,12 +47,13 @@ pub struct Browser {
 impl Model for Browser {
     ghost use Rattle.std.specs.Prelude.{◌≤◌, length};
     ghost use Rattle.ff_core.specs.State.{State};
+    ghost use Rattle.ff_core.specs.declared.browser.TheConstants.{MOST_WINDOWS};
 
     ghost Value = { State };
 
     ghost view = { λ b. record { windows = b.windows.items; pending = b.pending.items; quiet = b.quiet } };
 
-    ghost invariant = { λ b. length b.windows.items ≤ 64 };
+    ghost invariant = { λ b. length b.windows.items ≤ MOST_WINDOWS };
 }
 
 impl Browser {
@@ -75,16 +76,15 @@ impl Browser {
         self.quiet
     }
 
-    #[tactic(auto, unfolding(crate::specs::Machine::begin))]
     /// Takes an input, which may put outputs. The browser is then not quiet. Where memory is refused, `outs` has gained
     /// some of the outputs from the front, and what the browser holds isn't stated.
+    #[tactic(auto, unfolding(crate::specs::Machine::begin))]
     pub fn accept(&mut self, input: &Input, outs: &mut Vec<Out>) -> Result<(), NoMemory>
         requires quiet { IsTrue self.old.quiet }
         requires built { IsBuilt input.now }
         ensures state { OnOk result (self.new ≡ (reactor.begin self.old input.now).after) }
         ensures busy { OnOk result (self.new.quiet ≡ false) }
-        ensures outputs { OnOk result (outs.new.items ≡ outs.old.items ++ (reactor.begin self.old input.now).outputs) }
-        ensures refused { OnErr result (AppendsFront outs.old.items outs.new.items (reactor.begin self.old input.now).outputs) }
+        ensures outputs { Appends result outs.old.items outs.new.items (reactor.begin self.old input.now).outputs }
     {
         self.quiet = false;
         match &input.act {
@@ -93,8 +93,8 @@ impl Browser {
         }
     }
 
-    #[tactic(auto, unfolding(crate::specs::Machine::turn))]
     /// One turn. There are no scripts at this stage, so it settles the browser: nothing is put, and it is quiet.
+    #[tactic(auto, unfolding(crate::specs::Machine::turn))]
     pub fn turn<L: Ledger>(&mut self, turns: &mut Steps<L>)
         requires { self.old.quiet ≡ false }
         ensures state { self.new ≡ (reactor.turn self.old).after }
@@ -106,13 +106,12 @@ impl Browser {
         self.quiet = true;
     }
 
-    // Opens a window at an address, where there is room for it.
+    /// Opens a window at an address, where there is room for it.
     fn open_window(&mut self, url: &Url, outs: &mut Vec<Out>) -> Result<(), NoMemory>
         ensures state { OnOk result (self.new ≡ (machine.open_window self.old url.now).after) }
-        ensures outputs { OnOk result (outs.new.items ≡ outs.old.items ++ (machine.open_window self.old url.now).outputs) }
-        ensures refused { OnErr result (AppendsFront outs.old.items outs.new.items (machine.open_window self.old url.now).outputs) }
+        ensures outputs { Appends result outs.old.items outs.new.items (machine.open_window self.old url.now).outputs }
     {
-        if self.windows.len() >= WINDOW_LIMIT {
+        if self.windows.len() >= MOST_WINDOWS {
             return Ok(());
         }
         let window = WinId(self.windows.len() as u32);
@@ -124,8 +123,8 @@ impl Browser {
         }
     }
 
-    #[tactic(auto, using(crate::proofs::Appending::appends_nothing))]
-    // Sends a request for a window, where there is room for it.
+    /// Sends a request for a window, where there is room for it.
+    #[tactic(auto, using(ff_contract::proofs::Sequence::front_none))]
     fn send(
         &mut self,
         domain: &Domain,
@@ -134,8 +133,7 @@ impl Browser {
         outs: &mut Vec<Out>,
     ) -> Result<(), NoMemory>
         ensures state { OnOk result (self.new ≡ (machine.send self.old domain.now uri.now window).after) }
-        ensures outputs { OnOk result (outs.new.items ≡ outs.old.items ++ (machine.send self.old domain.now uri.now window).outputs) }
-        ensures refused { OnErr result (AppendsFront outs.old.items outs.new.items (machine.send self.old domain.now uri.now window).outputs) }
+        ensures outputs { Appends result outs.old.items outs.new.items (machine.send self.old domain.now uri.now window).outputs }
     {
         if !has_room(self.pending.as_slice(), domain) {
             return Ok(());
@@ -152,8 +150,7 @@ impl Browser {
 
 /// Puts an output after the others.
 fn put(outs: &mut Vec<Out>, out: Out) -> Result<(), NoMemory>
-    ensures ok { OnOk result (outs.new.items ≡ outs.old.items ++ out ∷ []) }
-    ensures err { OnErr result (outs.new.items ≡ outs.old.items) }
+    ensures { AppendsAll result outs.old.items outs.new.items (out ∷ []) }
 {
     outs.push(out)?;
     Ok(())
@@ -163,7 +160,7 @@ fn put(outs: &mut Vec<Out>, out: Out) -> Result<(), NoMemory>
 fn has_room(pending: &[Pending], domain: &Domain) -> bool
     ensures { result ≡ state.have_room pending.now domain.now }
 {
-    pending.len() < PENDING_LIMIT && waiting(pending, domain) < DOMAIN_LIMIT
+    pending.len() < MOST_WAITING && waiting(pending, domain) < MOST_WAITING_AT_ONE
 }
 
 /// How many requests to the domain wait.

@@ -7,7 +7,7 @@
 
 mod browser;
 
-pub use browser::{Browser, NoMemory, Pending};
+pub use browser::{Browser, MOST_WAITING, MOST_WAITING_AT_ONE, MOST_WINDOWS, NoMemory, Pending};
 
 #[cfg(test)]
 mod tests;

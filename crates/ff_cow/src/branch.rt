@@ -1,4 +1,4 @@
-// A higher level: up to sixteen nodes of the level below, each of which other lists may share.
+// A higher layer: up to sixteen nodes of the layer below, each of which other lists may share.
 ghost use Rattle.std.specs.Prelude.{◌≡◌, ◌+◌, ◌*◌, ◌/◌, ◌<◌, ◌≤◌, [], ◌∷◌, ◌++◌, map, length, IfErr, OnOk, OnErr, slice_set};
 ghost use Rattle.std.specs.Rc.{rc_value};
 ghost use Rattle.std.proofs.Common.{arith};
@@ -6,7 +6,7 @@ ghost use Rattle.ff_cow.specs.Nodes.{cells_of, AreNodes};
 ghost use Rattle.ff_cow.specs.Tower.{branch_cells, IsBranch};
 
 use crate::cell::{Cell, NoMemory};
-use crate::level::{Level, WIDTH, Writable};
+use crate::layer::{Layer, WIDTH, Writable};
 use ff_steps::Steps;
 use std::alloc::Global;
 use std::rc::Rc;
@@ -17,7 +17,7 @@ pub(crate) struct Branch<T> {
     kids: Vec<Rc<T>>,
 }
 
-impl<V, T: Level<V>> Level<V> for Branch<T> {
+impl<V, T: Layer<V>> Layer<V> for Branch<T> {
     ghost capacity = { 16 * T.capacity };
 
     ghost cells = { branch_cells T.cells };

@@ -5,8 +5,8 @@ ghost use Rattle.ff_cow.specs.Push.{returned, is_full};
 
 use crate::branch::Branch;
 use crate::cell::{Cell, NoMemory};
+use crate::layer::{Layer, Writable};
 use crate::leaf::Leaf;
-use crate::level::{Level, Writable};
 use ff_steps::Steps;
 use std::alloc::Global;
 use std::marker::Model;
@@ -41,10 +41,11 @@ impl<V> Model for CowVec<V> {
     ghost coded = { coded_list V.code };
 
     ghost use Rattle.ff_cow.specs.Tower.{tower_cells, IsTower};
+    ghost use Rattle.ff_cow.specs.declared.cow_vec.TheConstants.{MOST_CELLS};
 
     ghost view = { λ a. tower_cells a.root };
 
-    ghost invariant = { λ a. IsTower a.root × (a.count ≡ length (tower_cells a.root)) × (a.count ≤ 1048576) };
+    ghost invariant = { λ a. IsTower a.root × (a.count ≡ length (tower_cells a.root)) × (a.count ≤ MOST_CELLS) };
 }
 
 impl<V> CowVec<V> {

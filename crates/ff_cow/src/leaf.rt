@@ -1,10 +1,10 @@
-// The lowest level: up to sixteen cells side by side.
+// The lowest layer: up to sixteen cells side by side.
 ghost use Rattle.std.specs.Prelude.{◌≡◌, ◌≤◌, ℕ, length};
 ghost use Rattle.std.proofs.Common.{arith};
 ghost use Rattle.ff_cow.specs.Tower.{leaf_cells, IsLeaf};
 
 use crate::cell::{Cell, NoMemory};
-use crate::level::{Level, WIDTH, Writable};
+use crate::layer::{Layer, WIDTH, Writable};
 use ff_steps::Steps;
 use std::alloc::Global;
 use std::sync::ledger::Ledger;
@@ -14,7 +14,7 @@ pub(crate) struct Leaf<V> {
     cells: Vec<V>,
 }
 
-impl<V> Level<V> for Leaf<V> {
+impl<V> Layer<V> for Leaf<V> {
     ghost capacity = { 16 };
 
     ghost cells = { leaf_cells };

@@ -1,11 +1,11 @@
 //! A list that is shared between forks, and copied only where one of them writes.
 //!
 //! A [`CowVec`] is a list in contracts. It is held as a tree of `Rc` nodes, sixteen to a node and five
-//! levels high, so it has at most [`MOST_CELLS`] cells. A fork shares the nodes with the list that it
+//! layers high, so it has at most [`MOST_CELLS`] cells. A fork shares the nodes with the list that it
 //! came from: it copies no cell. A write copies only the shared nodes between the root and its cell, and
 //! with them the cells of at most one leaf. A counter of type `Steps` says how many cells were copied.
 //!
-//! A read or a write goes down one node of each level: the root, three branches and a leaf. After a shared
+//! A read or a write goes down one node of each layer: the root, three branches and a leaf. After a shared
 //! node was copied it has one owner, which no clause of `Rc` can tell: the arm for a second owner does not
 //! come, and answers want of memory.
 //!
@@ -16,8 +16,8 @@
 mod branch;
 mod cell;
 mod cow_vec;
+mod layer;
 mod leaf;
-mod level;
 
 pub use cell::{Cell, NoMemory};
 pub use cow_vec::{CowVec, MOST_CELLS, PushFail};

@@ -1,7 +1,7 @@
 -- Pieces of one call after those of another: what two calls on one port do together.
 use Rattle.std.proofs.Common.{◌≡◌, ℕ, Bool, true, false, ◌||◌, List, [], ◌∷◌, ◌++◌, Option, Some, None, IfSome, refl, ap, sym, append-nil, append_assoc}
 use Rattle.std.specs.Io.KnownBytes.{IsAtEnd}
-use Rattle.ff_io.specs.Pieces.{Piece, got_of, put_of, has_end, AllPut, IsReading}
+use Rattle.ff_io.specs.Pieces.{Piece, got_of, put_of, has_end, AllPut}
 use Rattle.ff_io.specs.Pieces.Piece.{Got, Put}
 use Rattle.ff_io.specs.Port.{Adds, Leaves, Gains}
 
@@ -36,24 +36,11 @@ has_end-AllPut [] h = refl
 has_end-AllPut (Got b ∷ xs) h = absurd h
 has_end-AllPut (Put b ∷ xs) h = has_end-AllPut xs h.1
 
--- reads put nothing
-pub put_of-IsReading : (xs : List Piece) → IsReading xs → put_of xs ≡ []
-put_of-IsReading [] h = refl
-put_of-IsReading (Got b ∷ xs) h = put_of-IsReading xs h.1
-put_of-IsReading (Put b ∷ xs) h = absurd h
-
 -- writes and then writes
 pub AllPut-append : (xs ys : List Piece) → AllPut xs → AllPut ys → AllPut (xs ++ ys)
 AllPut-append [] ys h k = k
 AllPut-append (Got b ∷ xs) ys h k = absurd h
 AllPut-append (Put b ∷ xs) ys h k = (h.0, AllPut-append xs ys h.1 k)
-
--- reads before the end was seen, and then reads
-pub IsReading-append : (xs ys : List Piece) → has_end xs ≡ false → IsReading xs → IsReading ys → IsReading (xs ++ ys)
-IsReading-append [] ys e h k = k
-IsReading-append (Got [] ∷ xs) ys e h k = cc
-IsReading-append (Got (b ∷ bs) ∷ xs) ys e h k = ((λ f. cc), IsReading-append xs ys e h.1 k)
-IsReading-append (Put b ∷ xs) ys e h k = absurd h
 
 -- a log that gained nothing
 pub Adds-nil : (log : Option (List Piece)) → Adds log log []
@@ -80,13 +67,11 @@ pub Gains-trans : (before mid now : Option (List ℕ)) (xs ys : List ℕ) → Ga
 Gains-trans None mid now xs ys h k = rw (k, h) refl
 Gains-trans (Some put) mid now xs ys h k = rw (k, h) (ap Some (append_assoc put xs ys))
 
--- reads and then writes: what was got, put and seen
+-- writes after other pieces get nothing
 pub got_of-then_put : (xs ys : List Piece) → AllPut ys → got_of (xs ++ ys) ≡ got_of xs
 got_of-then_put xs ys h = rw (got_of-append xs ys, got_of-AllPut ys h) (append-nil (got_of xs))
 
-pub put_of-after_reading : (xs ys : List Piece) → IsReading xs → put_of (xs ++ ys) ≡ put_of ys
-put_of-after_reading xs ys h = rw (put_of-append xs ys, put_of-IsReading xs h) refl
-
+-- and see no end
 pub has_end-then_put : (xs ys : List Piece) → AllPut ys → has_end (xs ++ ys) ≡ has_end xs
 has_end-then_put xs ys h = rw (has_end-append xs ys, has_end-AllPut ys h) (or-false (has_end xs))
   where

@@ -1,7 +1,8 @@
+pub mod CuttingLemmas
+pub mod GatheringLemmas
 pub mod Fetching
 pub mod FrontLemmas
 pub mod Joins
 pub mod PendingLemmas
-pub mod Reading
 pub mod TapeLemmas
 pub mod Writing

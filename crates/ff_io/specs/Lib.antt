@@ -3,6 +3,10 @@ pub mod Fetched
 pub mod Fronts
 pub mod Counts
 pub mod Port
+pub mod Chunks
+pub mod Cutting
+pub mod Following
+pub mod Gathering
 pub mod Shelf
 pub mod Whole
 pub mod Pending

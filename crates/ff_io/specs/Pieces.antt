@@ -1,5 +1,5 @@
 -- What passes through a port: the pieces got from it and the pieces put to it, in the order of the calls.
-use Rattle.std.specs.Prelude.{◌≡◌, Bool, true, false, ◌||◌, ℕ, List, [], ◌∷◌, ◌++◌, ⊤, length, ◌<◌}
+use Rattle.std.specs.Prelude.{Bool, true, false, ◌||◌, ℕ, List, [], ◌∷◌, ◌++◌, ⊤, length, ◌<◌}
 
 -- The bytes of one read, none at the end, or of one write.
 pub data Piece : Type 0 where
@@ -34,9 +34,3 @@ abbrev pub AllPut : List Piece → Type 0
 AllPut [] = ⊤
 AllPut (Got bytes ∷ pieces) = ⊥
 AllPut (Put bytes ∷ pieces) = (0 < length bytes) × AllPut pieces
-
--- only reads, and none after the end was seen
-abbrev pub IsReading : List Piece → Type 0
-IsReading [] = ⊤
-IsReading (Got bytes ∷ pieces) = (is_nil bytes ≡ true → pieces ≡ []) × IsReading pieces
-IsReading (Put bytes ∷ pieces) = ⊥

@@ -5,6 +5,11 @@ use Rattle.std.specs.Prelude.{◌≡◌, ℕ, ◌≤◌, Option, Some, None, Res
 abbrev pub Files : Type 0
 Files = List ℕ → Option (List ℕ)
 
+-- What a shelf tells: the files, where they are told, and how many fetches failed that count for a name.
+pub record ShelfTold : Type 0 where
+  pub files : Option Files
+  pub faults : List ℕ → ℕ
+
 -- bytes of a file from an offset on, none only where the file ends there or before
 pub record IsPart (file : List ℕ) (at : ℕ) (bytes : List ℕ) : Type 0 where
   pub there : bytes ≡ take (length bytes) (drop at file)

@@ -29,11 +29,15 @@ impl<'a, R: Files> DirShelf<'a, R> {
 }
 
 impl<R: Files> Shelf for DirShelf<'_, R> {
-    ghost use Rattle.std.specs.Prelude.{None};
+    ghost use Rattle.std.specs.Prelude.{None, refl};
 
     ghost files = { λ _. None };
 
     ghost faults = { λ s _. s.faults };
+
+    ghost told = { λ s. record { files = None; faults = λ _. s.faults } };
+
+    ghost tells = { λ s. refl };
 
     fn fetch(&mut self, name: &str, at: u64, into: &mut [u8]) -> Result<usize, Failed> {
         match read_at(self.runtime, name, at, into) {

@@ -1,9 +1,10 @@
 //! Fetching the front of a file.
-ghost use Rattle.std.specs.Prelude.{◌≡◌, ◌+◌, ◌-◌, ◌<◌, ◌≤◌, length, IfOk, IsErrOf, min, vec_len};
+ghost use Rattle.std.specs.Prelude.{◌≡◌, ◌-◌, ◌<◌, ◌≤◌, length, IfOk, IsErrOf, min, vec_len};
 ghost use Rattle.ff_io.specs.Counts.{Rose};
 ghost use Rattle.ff_io.specs.Fetched.{IsFetched, IsFetchedPiece};
 ghost use Rattle.ff_io.specs.declared.fetch.FetchFail.TheVariants.{Fetch, NoMemory};
 
+use super::buffer::buffer_of;
 use super::outside::{Failed, Shelf};
 use std::alloc::{AllocError, Global};
 use thiserror::Error;
@@ -36,9 +37,10 @@ impl From<AllocError> for FetchFail {
 }
 
 /// How many bytes one fetch asks for at most.
-const CHUNK: usize = 4_096;
+const MOST_FETCH_BYTES: usize = 4_096;
 
-/// Fetches the first `limit` bytes of the named file, or all of them where it has fewer. `limit` is at least 1.
+/// Fetches the first `limit` bytes of the named file, or all of them where it has fewer. `limit` is at
+/// least 1. Bytes after these don't count: the answer is the same whatever they are.
 ///
 /// # Errors
 ///
@@ -57,7 +59,7 @@ pub fn fetch_front<S: Shelf>(
     ensures later { S.faults shelf.old name.now ≤ S.faults shelf.new name.now }
     ensures cause { IsErrOf result FetchFail.Fetch → Rose (S.faults shelf.old name.now) (S.faults shelf.new name.now) }
 {
-    let mut chunk = chunk_of(alloc, CHUNK)?;
+    let mut chunk = buffer_of(alloc, MOST_FETCH_BYTES)?;
     let mut bytes = Vec::new(alloc);
     let mut ended = false;
     while !ended && bytes.len() < limit {
@@ -67,18 +69,11 @@ pub fn fetch_front<S: Shelf>(
     Ok(bytes)
 }
 
-// A vector of `size` zeros.
-fn chunk_of(alloc: Global, size: usize) -> Result<Vec<u8>, AllocError>
-    ensures { IfOk result (λ chunk. vec_len chunk ≡ size) }
-{
-    vec![in alloc; 0u8; size]
-}
-
 // How many bytes to ask for, where so many are wanted.
 fn size_of_fetch(wanted: usize) -> usize
-    ensures { result ≡ min 4096 wanted }
+    ensures { result ≡ min MOST_FETCH_BYTES wanted }
 {
-    wanted.min(CHUNK)
+    wanted.min(MOST_FETCH_BYTES)
 }
 
 // Fetches one piece from where `bytes` ends, adds it to `bytes`, and says whether it is the end.

@@ -96,7 +96,7 @@ impl MemPort {
 }
 
 impl Port for MemPort {
-    ghost use Rattle.std.specs.Prelude.{Some};
+    ghost use Rattle.std.specs.Prelude.{Some, refl};
     ghost use Rattle.ff_io.specs.Pending.{joined};
 
     ghost log = { λ p. Some p.log };
@@ -106,6 +106,10 @@ impl Port for MemPort {
     ghost read_faults = { λ p. p.read_faults };
 
     ghost write_faults = { λ p. p.write_faults };
+
+    ghost told = { λ p. record { log = Some p.log; rest = Some (joined p.pieces); read_faults = p.read_faults; write_faults = p.write_faults } };
+
+    ghost tells = { λ p. refl };
 
     fn read(&mut self, into: &mut [u8]) -> Result<usize, Failed>
         requires { 0 < length into.old }

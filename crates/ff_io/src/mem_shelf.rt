@@ -40,12 +40,16 @@ impl MemShelf {
 }
 
 impl Shelf for MemShelf {
-    ghost use Rattle.std.specs.Prelude.{Some};
+    ghost use Rattle.std.specs.Prelude.{Some, refl};
     ghost use Rattle.ff_io.specs.MemFiles.{shelf_files, shelf_faults, bad_fetches_of, fetches_of, IsListed};
 
     ghost files = { λ s. Some (shelf_files s) };
 
     ghost faults = { shelf_faults };
+
+    ghost told = { λ s. record { files = Some (shelf_files s); faults = shelf_faults s } };
+
+    ghost tells = { λ s. refl };
 
     fn fetch(&mut self, name: &str, at: u64, into: &mut [u8]) -> Result<usize, Failed>
         requires { 0 < length into.old }

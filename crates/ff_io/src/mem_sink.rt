@@ -55,11 +55,15 @@ impl MemSink {
 }
 
 impl Sink for MemSink {
-    ghost use Rattle.std.specs.Prelude.{Some};
+    ghost use Rattle.std.specs.Prelude.{Some, refl};
 
     ghost put = { λ s. Some s.put };
 
     ghost faults = { λ s. s.faults };
+
+    ghost told = { λ s. record { put = Some s.put; faults = s.faults } };
+
+    ghost tells = { λ s. refl };
 
     fn write(&mut self, piece: &[u8]) -> Result<usize, Failed>
         requires { 0 < length piece.now }

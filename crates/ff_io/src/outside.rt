@@ -2,8 +2,8 @@
 ghost use Rattle.std.specs.Prelude.{◌≡◌, ℕ, ◌<◌, ◌≤◌, List, Option, length, IfOk};
 ghost use Rattle.ff_io.specs.Pieces.{Piece};
 ghost use Rattle.ff_io.specs.Counts.{HasCause};
-ghost use Rattle.ff_io.specs.Port.{Adds, Leaves, Gains, AtEnd, bytes_of, pieces_got, pieces_put};
-ghost use Rattle.ff_io.specs.Shelf.{Files, Gives};
+ghost use Rattle.ff_io.specs.Port.{Told, SinkTold, Adds, Leaves, Gains, AtEnd, bytes_of, pieces_got, pieces_put};
+ghost use Rattle.ff_io.specs.Shelf.{Files, ShelfTold, Gives};
 
 use thiserror::Error;
 
@@ -25,6 +25,9 @@ pub trait Port {
 
     // How many writes failed; it stands still at 2 ^ 64 - 1.
     ghost write_faults: { Self → ℕ };
+
+    // All of this.
+    ghost told: { Self → Told };
 
     /// Gets bytes into the front of `into`, which isn't empty, and answers how many.
     /// `Ok(0)` is the end.
@@ -54,6 +57,9 @@ pub trait Port {
         ensures rest { rest self.new ≡ rest self.old }
         ensures cause { HasCause (write_faults self.old) (write_faults self.new) result }
         ensures others { read_faults self.new ≡ read_faults self.old };
+
+    // That it is all of this.
+    ghost tells: { (port : Self) → told port ≡ record { log = log port; rest = rest port; read_faults = read_faults port; write_faults = write_faults port } };
 }
 
 /// A place that bytes are put to alone, as standard error.
@@ -63,6 +69,9 @@ pub trait Sink {
 
     // How many writes failed; it stands still at 2 ^ 64 - 1.
     ghost faults: { Self → ℕ };
+
+    // Both.
+    ghost told: { Self → SinkTold };
 
     /// Puts some bytes of the front of `piece`, which isn't empty, and answers how many: at least one.
     ///
@@ -75,6 +84,9 @@ pub trait Sink {
         ensures bound { IfOk result (λ n. n ≤ length piece.now) }
         ensures put { Gains (put self.old) (put self.new) (bytes_of result piece.now) }
         ensures cause { HasCause (faults self.old) (faults self.new) result };
+
+    // That it is both.
+    ghost tells: { (sink : Self) → told sink ≡ record { put = put sink; faults = faults sink } };
 }
 
 /// A place that holds files by their names.
@@ -84,6 +96,9 @@ pub trait Shelf {
 
     // How many fetches failed that count for a name; it stands still at 2 ^ 64 - 1.
     ghost faults: { Self → List ℕ → ℕ };
+
+    // Both.
+    ghost told: { Self → ShelfTold };
 
     /// Gets bytes of the named file, from offset `at` in bytes, into the front of `into`,
     /// which isn't empty, and answers how many. `Ok(0)` comes only where the file ends
@@ -99,4 +114,7 @@ pub trait Shelf {
         ensures files { files self.new ≡ files self.old }
         ensures cause { HasCause (faults self.old name.now) (faults self.new name.now) result }
         ensures later { (other : List ℕ) → faults self.old other ≤ faults self.new other };
+
+    // That it is both.
+    ghost tells: { (shelf : Self) → told shelf ≡ record { files = files shelf; faults = faults shelf } };
 }

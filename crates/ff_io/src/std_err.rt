@@ -27,11 +27,15 @@ impl<'a, R: Eprint> StdErr<'a, R> {
 }
 
 impl<R: Eprint> Sink for StdErr<'_, R> {
-    ghost use Rattle.std.specs.Prelude.{None};
+    ghost use Rattle.std.specs.Prelude.{None, refl};
 
     ghost put = { λ _. None };
 
     ghost faults = { λ s. s.faults };
+
+    ghost told = { λ s. record { put = None; faults = s.faults } };
+
+    ghost tells = { λ s. refl };
 
     fn write(&mut self, piece: &[u8]) -> Result<usize, Failed> {
         let Ok(text) = str::from_utf8(piece) else {

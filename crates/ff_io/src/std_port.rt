@@ -42,7 +42,7 @@ impl<'a, R: Input + Print> StdPort<'a, R> {
 }
 
 impl<R: Input + Print> Port for StdPort<'_, R> {
-    ghost use Rattle.std.specs.Prelude.{None};
+    ghost use Rattle.std.specs.Prelude.{None, refl};
 
     ghost log = { λ _. None };
 
@@ -51,6 +51,10 @@ impl<R: Input + Print> Port for StdPort<'_, R> {
     ghost read_faults = { λ p. p.read_faults };
 
     ghost write_faults = { λ p. p.write_faults };
+
+    ghost told = { λ p. record { log = None; rest = None; read_faults = p.read_faults; write_faults = p.write_faults } };
+
+    ghost tells = { λ p. refl };
 
     fn read(&mut self, into: &mut [u8]) -> Result<usize, Failed> {
         match read_retrying(&mut self.reader, into) {

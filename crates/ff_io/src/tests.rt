@@ -2,7 +2,7 @@ use super::*;
 use std::alloc::{AllocError, Allocator, Global};
 use std::collections::BTreeMap;
 use std::fmt::Display;
-use std::io::{BufRead, ErrorKind, Input, Lines, Print};
+use std::io::{BufRead, ErrorKind, Input, Print};
 use std::process::Abort;
 use std::test::Fail;
 use std::{fs, io};
@@ -14,6 +14,36 @@ fn pieces_of(alloc: Global, texts: &[&[u8]]) -> Result<Vec<Vec<u8>>, AllocError>
         pieces.push(Vec::from_slice(alloc, text)?)?;
     }
     Ok(pieces)
+}
+
+// A port of these pieces, whose listed reads fail.
+fn port_of(alloc: Global, texts: &[&[u8]], bad_reads: &[u64]) -> Result<MemPort, AllocError> {
+    let pieces = pieces_of(alloc, texts)?;
+    let bad_reads = Vec::from_slice(alloc, bad_reads)?;
+    Ok(MemPort::new(alloc, pieces, bad_reads, Vec::new(alloc), 1))
+}
+
+// The lines of a port, a `|` after each, and why there is no further one.
+fn lines_of<P: Port>(
+    alloc: Global,
+    port: &mut P,
+) -> Result<(Vec<u8>, Option<LineFail>), AllocError> {
+    let mut lines = Lines::new(alloc);
+    let mut text = Vec::new(alloc);
+    for _ in 0..9 {
+        if lines.failed() {
+            break;
+        }
+        match lines.next(port) {
+            Ok(Next::Line(line)) => {
+                text.extend_from_slice(&line)?;
+                text.push(b'|')?;
+            }
+            Ok(Next::End) => break,
+            Err(fail) => return Ok((text, Some(fail))),
+        }
+    }
+    Ok((text, None))
 }
 
 // A port of the pieces `ab`, nothing and `cde`, whose third read and second write fail.
@@ -43,31 +73,44 @@ fn writes_of_a_port_in_memory(rt: HostRuntime) -> Result<(), Fail> {
 }
 
 #[test]
-fn a_port_is_read_to_its_end_or_past_the_limit(rt: HostRuntime) -> Result<(), Fail> {
-    for (limit, length, ended) in [(4, 4, true), (3, 4, false), (2, 3, false)] {
-        let pieces = pieces_of(rt.alloc(), &[b"ab", b"cd"])?;
-        let mut port = MemPort::new(
-            rt.alloc(),
-            pieces,
-            Vec::new(rt.alloc()),
-            Vec::new(rt.alloc()),
-            1,
-        );
-        let all = read_all(rt.alloc(), &mut port, limit)?;
-        assert_eq!(rt;
-            (all.bytes.len(), all.ended),
-            (length, ended),
-            "limit {limit}"
-        );
+fn pieces_that_cut_a_line(rt: HostRuntime) -> Result<(), Fail> {
+    let cases: [(&[&[u8]], &[u8]); 5] = [
+        (&[], b""),
+        (&[b"\n"], b"|"),
+        (&[b"ab", b"c\nd", b"e", b"\n"], b"abc|de|"),
+        (&[b"a\n\nb\r\n"], b"a||b\r|"),
+        (&[b"a\nb", b"c"], b"a|bc|"),
+    ];
+    for (pieces, want) in cases {
+        let mut port = port_of(rt.alloc(), pieces, &[])?;
+        let (text, fail) = lines_of(rt.alloc(), &mut port)?;
+        assert_eq!(rt; (text.as_slice(), fail), (want, None));
     }
     Ok(())
 }
 
 #[test]
-fn a_failing_read_ends_the_reading(rt: HostRuntime) -> Result<(), Fail> {
-    let mut port = failing_port(rt.alloc())?;
-    let failed = read_all(rt.alloc(), &mut port, 9).err();
-    assert_eq!(rt; failed, Some(AllFail::Read));
+fn a_read_that_fails_comes_after_the_whole_lines(rt: HostRuntime) -> Result<(), Fail> {
+    let pieces: &[&[u8]] = &[b"a\nb", b"c\nd\ne", b"f\n"];
+    let texts: [&[u8]; 4] = [b"", b"a|", b"a|bc|d|", b"a|bc|d|ef|"];
+    for (i, want) in texts.into_iter().enumerate() {
+        let mut port = port_of(rt.alloc(), pieces, &[i as u64 + 1])?;
+        let (text, fail) = lines_of(rt.alloc(), &mut port)?;
+        assert_eq!(rt; (text.as_slice(), fail), (want, Some(LineFail::Read)));
+    }
+    Ok(())
+}
+
+#[test]
+fn a_line_at_its_limit_and_one_byte_past_it(rt: HostRuntime) -> Result<(), Fail> {
+    let mut line = vec![in rt.alloc(); b'x'; 4_194_304]?;
+    let mut port = port_of(rt.alloc(), &[&line, b"\nab"], &[])?;
+    let longest = lines_of(rt.alloc(), &mut port)?;
+    let mut port = port_of(rt.alloc(), &[&line, b"yz"], &[])?;
+    let longer = lines_of(rt.alloc(), &mut port)?;
+    line.extend_from_slice(b"|ab|")?;
+    assert!(rt; longest == (line, None));
+    assert_eq!(rt; longer, (Vec::new(rt.alloc()), Some(LineFail::TooLong)));
     Ok(())
 }
 
@@ -91,57 +134,59 @@ fn a_sink_in_memory(rt: HostRuntime) -> Result<(), Fail> {
     Ok(())
 }
 
-// A shelf with the file `p.json`, which holds `abc`, whose third fetch fails.
-/// A shelf with one file of three bytes, of which every fetch is good.
-fn a_shelf(alloc: Global) -> Result<MemShelf, AllocError> {
+// A shelf with the file `p.json`, which holds `abc`, whose listed fetches fail.
+fn shelf_of(alloc: Global, bad_fetches: &[u64]) -> Result<MemShelf, AllocError> {
     let mut files = BTreeMap::new(alloc);
     files.insert(
         String::from_str(alloc, "p.json")?,
         Vec::from_slice(alloc, b"abc")?,
     )?;
-    Ok(MemShelf::new(files, Vec::new(alloc)))
+    Ok(MemShelf::new(files, Vec::from_slice(alloc, bad_fetches)?))
 }
 
-fn failing_shelf(alloc: Global) -> Result<MemShelf, AllocError> {
-    let mut files = BTreeMap::new(alloc);
-    files.insert(
-        String::from_str(alloc, "p.json")?,
-        Vec::from_slice(alloc, b"abc")?,
-    )?;
-    Ok(MemShelf::new(files, vec![in alloc; 3]?))
+// The bytes that one fetch gives, which has room for two; nothing where it failed.
+fn fetched<'a>(
+    shelf: &mut impl Shelf,
+    name: &str,
+    at: u64,
+    into: &'a mut [u8; 2],
+) -> Option<&'a [u8]> {
+    match shelf.fetch(name, at, into) {
+        Ok(n) => Some(&into[..n]),
+        Err(Failed) => None,
+    }
 }
 
 #[test]
 fn a_shelf_in_memory(rt: HostRuntime) -> Result<(), Fail> {
-    let mut shelf = failing_shelf(rt.alloc())?;
-    let cases = [
-        ("p.json", 0, Ok(2)),
-        ("p.json", 2, Ok(1)),
-        ("p.json", 0, Err(Failed)),
-        ("p.json", 3, Ok(0)),
-        ("q.json", 0, Err(Failed)),
+    let mut shelf = shelf_of(rt.alloc(), &[3])?;
+    let cases: [(&str, u64, Option<&[u8]>); 5] = [
+        ("p.json", 0, Some(b"ab")),
+        ("p.json", 2, Some(b"c")),
+        ("p.json", 0, None),
+        ("p.json", 3, Some(b"")),
+        ("q.json", 0, None),
     ];
     for (name, at, want) in cases {
-        assert_eq!(rt; shelf.fetch(name, at, &mut [0; 2]), want, "{name} at {at}");
+        let mut into = [0; 2];
+        let got = fetched(&mut shelf, name, at, &mut into);
+        assert_eq!(rt; got, want, "{name} at {at}");
     }
     Ok(())
 }
 
 #[test]
 fn the_front_of_a_file(rt: HostRuntime) -> Result<(), Fail> {
-    let cases = [
-        ("p.json", 1, Some(1)),
-        ("p.json", 3, Some(3)),
-        ("p.json", 9, Some(3)),
+    let cases: [(&str, usize, Option<&[u8]>); 4] = [
+        ("p.json", 1, Some(b"a")),
+        ("p.json", 3, Some(b"abc")),
+        ("p.json", 9, Some(b"abc")),
         ("q.json", 9, None),
     ];
     for (name, limit, want) in cases {
-        let mut shelf = a_shelf(rt.alloc())?;
-        let got = match fetch_front(rt.alloc(), &mut shelf, name, limit) {
-            Ok(bytes) => Some(bytes.len()),
-            Err(_) => None,
-        };
-        assert_eq!(rt; got, want, "{limit} bytes of {name}");
+        let mut shelf = shelf_of(rt.alloc(), &[])?;
+        let got = fetch_front(rt.alloc(), &mut shelf, name, limit).ok();
+        assert_eq!(rt; got.as_deref(), want, "{limit} bytes of {name}");
     }
     Ok(())
 }
@@ -163,7 +208,7 @@ impl Input for Fake {
         Err(io::Error::from(ErrorKind::Unsupported))
     }
 
-    fn lines<A: Allocator>(&self, alloc: A) -> Lines<&'static [u8], A> {
+    fn lines<A: Allocator>(&self, alloc: A) -> io::Lines<&'static [u8], A> {
         self.reader().lines(alloc)
     }
 
@@ -187,9 +232,9 @@ impl Print for Fake {
 }
 
 #[test]
-fn standard_input_is_read_whole(rt: HostRuntime) -> Result<(), Fail> {
-    let all = read_all(rt.alloc(), &mut StdPort::new(&Fake), 9)?;
-    assert_eq!(rt; all.bytes.as_slice(), b"hi".as_slice());
+fn the_lines_of_standard_input(rt: HostRuntime) -> Result<(), Fail> {
+    let (text, fail) = lines_of(rt.alloc(), &mut StdPort::new(&Fake))?;
+    assert_eq!(rt; (text.as_slice(), fail), (b"hi|".as_slice(), None));
     Ok(())
 }
 
@@ -213,11 +258,14 @@ fn standard_error_takes_text(rt: HostRuntime) {
 fn the_working_folder(rt: HostRuntime) -> Result<(), Fail> {
     fs::write(&rt, "ff_io_test_shelf.txt", "abc")?;
     let mut shelf = DirShelf::new(&rt);
-    for (name, want) in [
-        ("ff_io_test_shelf.txt", Ok(2)),
-        ("ff_io_no_such_file.txt", Err(Failed)),
-    ] {
-        assert_eq!(rt; shelf.fetch(name, 1, &mut [0; 8]), want, "{name}");
+    let cases: [(&str, Option<&[u8]>); 2] = [
+        ("ff_io_test_shelf.txt", Some(b"bc")),
+        ("ff_io_no_such_file.txt", None),
+    ];
+    for (name, want) in cases {
+        let mut into = [0; 2];
+        let got = fetched(&mut shelf, name, 1, &mut into);
+        assert_eq!(rt; got, want, "{name}");
     }
     fs::remove_file(&rt, "ff_io_test_shelf.txt")?;
     Ok(())

@@ -4,6 +4,7 @@ pub mod Closure
 pub mod Faults
 pub mod LevelSets
 pub mod NameLemmas
+pub mod Named
 pub mod Orders
 pub mod Tables
 pub mod Two

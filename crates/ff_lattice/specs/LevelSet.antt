@@ -1,6 +1,7 @@
 -- A set of levels as the list of its levels in rising order.
 use Rattle.std.specs.Prelude.{◌≡◌, ℕ, ◌==◌, ◌<◌, zero, suc, Bool, true, false, List, [], ◌∷◌, ◌++◌, filter}
 use Rattle.std.specs.List.{list_any}
+use Rattle.ff_lattice.specs.declared.names.TheConstants.{MOST_LEVELS}
 
 -- whether the set holds this level
 abbrev pub has : List ℕ → ℕ → Bool
@@ -11,11 +12,11 @@ unfoldable pub below : ℕ → List ℕ
 below zero = []
 below (suc n) = below n ++ n ∷ []
 
--- the levels below 16 that pass a test, in rising order
+-- the levels below MOST_LEVELS that pass a test, in rising order
 abbrev pub levels_where : (ℕ → Bool) → List ℕ
-levels_where passes = filter passes (below 16)
+levels_where passes = filter passes (below MOST_LEVELS)
 
--- a set holds levels below 16 alone, each once and in rising order
+-- a set holds levels below MOST_LEVELS alone, each once and in rising order
 abbrev pub IsLevelSet : List ℕ → Type 0
 IsLevelSet set = set ≡ levels_where (has set)
 

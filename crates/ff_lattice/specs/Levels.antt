@@ -2,6 +2,7 @@
 use Rattle.std.specs.Prelude.{◌≡◌, ℕ, ◌<◌, ◌≤◌, ◌⊎◌, ◌↔◌, true, false, List, [], length, get_or}
 use Rattle.ff_lattice.specs.declared.fault.LatticeFault.{LatticeFault}
 use Rattle.ff_lattice.specs.declared.fault.LatticeFault.TheVariants.{NoLevels, TooMany, BadName, Repeated, Unknown, Cycle, NoJoin, NoMeet, NoMemory}
+use Rattle.ff_lattice.specs.declared.names.TheConstants.{MOST_LEVELS}
 use Rattle.ff_lattice.specs.declared.pair.Pair.{Pair}
 use Rattle.ff_lattice.specs.Bounds.{Chain, HasJoin, LacksJoin, LacksMeet, AreCyclic, IsLattice, IsFirst, NoPair, EachPair, IsLeastPair}
 use Rattle.ff_lattice.specs.Order.{Order, leq, is_level_name, IsOrder}
@@ -38,10 +39,10 @@ IsGiven below low high = IsAmongFirst (length below) below low high
 abbrev pub Reaches : List (List ℕ) → List Pair → ℕ → ℕ → Type 0
 Reaches names below a b = Chain (IsGiven below) (nth names a) (nth names b)
 
--- there are 1 to 16 names
+-- there are 1 to MOST_LEVELS names
 pub record AreSized (names : List (List ℕ)) : Type 0 where
   pub some : 1 ≤ length names
-  pub few : length names ≤ 16
+  pub few : length names ≤ MOST_LEVELS
 
 -- and each is spelled as the name of a level
 pub record AreNamed (names : List (List ℕ)) : Type 0 where
@@ -95,7 +96,7 @@ IsOrderFault names R _ = ⊥
 -- the fault that comes first. Each holds only where those before it don't
 abbrev pub IsFault : List (List ℕ) → List Pair → LatticeFault → Type 0
 IsFault names below NoLevels = names ≡ []
-IsFault names below TooMany = 16 < length names
+IsFault names below TooMany = MOST_LEVELS < length names
 IsFault names below (BadName place) = AreSized names × IsFirst (length names) (λ l. is_level_name (nth names l) ≡ false) place
 IsFault names below (Repeated text) = AreNamed names × IsFirstRepeat names text
 IsFault names below (Unknown text) = AreApart names × IsFirstUnknown names below text

@@ -1,8 +1,10 @@
 -- The order of the levels as a value: their names, and for each level the set of those at or above it.
-use Rattle.std.specs.Prelude.{◌≡◌, ℕ, ◌<◌, ◌≤◌, zero, suc, Bool, true, false, not, ◌&&◌, ◌||◌, List, [], ◌∷◌, length, get_or, nat_le, codes, if◌then◌else◌}
-use Rattle.std.specs.List.{list_all}
+use Rattle.std.specs.Prelude.{◌≡◌, ℕ, ◌<◌, ◌≤◌, zero, suc, Bool, true, false, not, ◌&&◌, ◌||◌, List, [], ◌∷◌, length, get_or, nat_lt, codes, bytes_eq, Option, Some, None, option_map, if◌then◌else◌}
+use Rattle.std.specs.List.{list_all, position_from}
 use Rattle.std.specs.Char.{is_ascii_alphabetic}
 use Rattle.ff_name.specs.Spelling.{stands_in_name}
+use Rattle.ff_name.specs.declared.levels.Level.{Level}
+use Rattle.ff_lattice.specs.declared.names.TheConstants.{MOST_LEVELS, MOST_LEVEL_NAME_BYTES}
 use Rattle.ff_lattice.specs.Bounds.{IsLattice}
 use Rattle.ff_lattice.specs.LevelSet.{has, below, IsLevelSet}
 
@@ -21,6 +23,19 @@ leq order a b = has (get_or order.above a []) b
 -- the name of a level
 abbrev pub name : Order → ℕ → List ℕ
 name order l = get_or order.names l []
+
+-- the level with this number
+abbrev pub numbered : ℕ → Level
+numbered l = record { 0 = l }
+
+-- the level of this name, or none where no level has it
+abbrev pub level_named : Order → List ℕ → Option Level
+level_named order text = option_map numbered (position_from (λ one. bytes_eq one text) 0 order.names)
+
+-- a tag, where there is one, names a level
+abbrev pub IsTag : Order → Option Level → Type 0
+IsTag order None = Unit {0}
+IsTag order (Some tag) = tag.0 < size order
 
 -- the level L below the level H
 abbrev pub two : Order
@@ -55,15 +70,15 @@ bottom order = pick (λ l. list_all (leq order l) (below (size order))) (size or
 unfoldable pub top : Order → ℕ
 top order = pick (λ l. list_all (λ m. leq order m l) (below (size order))) (size order)
 
--- a level's name: a letter, and then at most 31 letters, digits, `_` and `-`
+-- a level's name: a letter, and then letters, digits, `_` and `-`, in at most MOST_LEVEL_NAME_BYTES bytes
 abbrev pub is_level_name : List ℕ → Bool
 is_level_name [] = false
-is_level_name (first ∷ rest) = is_ascii_alphabetic first && list_all stands_in_name rest && nat_le (length rest) 31
+is_level_name (first ∷ rest) = is_ascii_alphabetic first && list_all stands_in_name rest && nat_lt (length rest) MOST_LEVEL_NAME_BYTES
 
--- one to sixteen levels with names of their own, in the order of a lattice
+-- one to MOST_LEVELS levels with names of their own, in the order of a lattice
 pub record IsOrder (order : Order) : Type 0 where
   pub some : 1 ≤ size order
-  pub few : size order ≤ 16
+  pub few : size order ≤ MOST_LEVELS
   pub named : (l : ℕ) → l < size order → is_level_name (name order l) ≡ true
   pub apart : (a b : ℕ) → a < size order → b < size order → name order a ≡ name order b → a ≡ b
   pub rows : length order.above ≡ size order

@@ -1,5 +1,6 @@
 -- A relation on levels, kept as a row of levels for each level.
 use Rattle.std.specs.Prelude.{◌≡◌, ℕ, ◌<◌, ◌≤◌, ◌⊎◌, Bool, true, List, [], length, get_or}
+use Rattle.ff_lattice.specs.declared.names.TheConstants.{MOST_LEVELS}
 use Rattle.ff_lattice.specs.declared.pair.Pair.{Pair}
 use Rattle.ff_lattice.specs.Bounds.{Chain}
 use Rattle.ff_lattice.specs.LevelSet.{has, IsLevelSet}
@@ -15,7 +16,7 @@ Related rows a b = related rows a b ≡ true
 
 -- a set of levels below n for each level below n
 pub record AreRows (n : ℕ) (rows : List (List ℕ)) : Type 0 where
-  pub few : n ≤ 16
+  pub few : n ≤ MOST_LEVELS
   pub count : length rows ≡ n
   pub set : (l : ℕ) → IsLevelSet (get_or rows l [])
   pub within : (a b : ℕ) → Related rows a b → b < n

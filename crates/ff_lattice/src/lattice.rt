@@ -1,8 +1,9 @@
-ghost use Rattle.std.specs.Prelude.{◌≡◌, ◌≢◌, ℕ, ◌<◌, ◌≤◌, ◌⊎◌, length, IfOk, IfErr, IsErrOf, IfSome, IfNone, List, [], ◌∷◌, codes};
+ghost use Rattle.std.specs.Prelude.{◌≡◌, ◌≢◌, ℕ, ◌<◌, ◌≤◌, length, Err, IfOk, IfErr, IfSome, IfNone, List, [], ◌∷◌, codes};
+ghost use Rattle.ff_contract.specs.Answering.{Answers};
 ghost use Rattle.ff_lattice.specs.Bounds.{IsLattice, IsJoin, IsMeet};
 ghost use Rattle.ff_lattice.specs.LevelSet.{levels_where};
 ghost use Rattle.ff_lattice.specs.Levels.{AreApart, AreLevels, Reaches, IsFault, IsLatticeOf};
-ghost use Rattle.ff_lattice.specs.Order.{Order, size, leq, name, join, meet, bottom, top, two, AtOrBelow, IsOrder};
+ghost use Rattle.ff_lattice.specs.Order.{Order, size, leq, name, level_named, join, meet, bottom, top, two, AtOrBelow, IsTag, IsOrder};
 
 use crate::bounds::{check_order, join_in};
 use crate::names::{check_names, distinct_names};
@@ -54,10 +55,10 @@ impl Lattice {
     /// level; two levels that are each at or below the other; two with no join; two with no meet. Want of memory may come in
     /// place of any of these.
     pub fn build(alloc: Global, names: &[Text], below: &[Pair]) -> Result<Lattice, LatticeFault>
-        ensures ok { IfOk result (IsLatticeOf names.now below.now) }
+        ensures found { IfOk result (IsLatticeOf names.now below.now) }
         ensures fault { IfErr result (λ fault. fault ≢ LatticeFault.NoMemory → IsFault names.now below.now fault) }
-        ensures accepts { AreLevels names.now below.now → IsLattice (Reaches names.now below.now) (length names.now) → IfErr result (λ fault. fault ≡ LatticeFault.NoMemory) }
-        ensures only { (fault : LatticeFault) → IsFault names.now below.now fault → IsErrOf result fault ⊎ IsErrOf result LatticeFault.NoMemory }
+        ensures only { AreLevels names.now below.now → IsLattice (Reaches names.now below.now) (length names.now) → IfErr result (λ fault. fault ≡ LatticeFault.NoMemory) }
+        ensures exact { (fault : LatticeFault) → IsFault names.now below.now fault → Answers result (Err fault) (Err LatticeFault.NoMemory) }
     {
         check_names(names)?;
         let levels = distinct_names(alloc, names)?;
@@ -161,13 +162,18 @@ impl Lattice {
     /// The name of the level `l`.
     pub fn name(&self, l: Level) -> &Text
         requires { l.0 < size self.now }
-        ensures { result.now ≡ name self.now l.0 }
+        ensures value { result.now ≡ name self.now l.0 }
+        ensures valid { IsOrder self.now }
     {
         &self.names[l.0 as usize]
     }
 
     /// The level of this name, or `None` where no level has it.
+    #[tactic(auto, using(crate::proofs::Named::no_level_found))]
     pub fn by_name(&self, bytes: &[u8]) -> Option<Level>
+        ensures value { result ≡ level_named self.now bytes.now }
+        ensures valid { IsOrder self.now }
+        ensures within { IsTag self.now result }
         ensures found { IfSome result (λ l. (l.0 < size self.now) × (name self.now l.0 ≡ bytes.now)) }
         ensures none { IfNone result ((l : ℕ) → l < size self.now → name self.now l ≢ bytes.now) }
     {

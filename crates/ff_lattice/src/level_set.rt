@@ -1,10 +1,11 @@
 ghost use Rattle.std.specs.Prelude.{◌≡◌, ℕ, ◌<◌, ◌==◌, ◌||◌, ◌&&◌, ◌↔◌, [], IsTrue, IsNone, IfSome, length};
 ghost use Rattle.ff_lattice.specs.LevelSet.{has, levels_where, IsLevelSet, IsLeast};
+ghost use Rattle.ff_lattice.specs.declared.names.TheConstants.{MOST_LEVELS};
 
 use ff_name::Level;
 use std::marker::Model;
 
-/// A set of levels below 16, seen as the list of its levels in rising order.
+/// A set of levels below `MOST_LEVELS`, seen as the list of its levels in rising order.
 #[derive(Clone, Copy, Debug)]
 pub struct LevelSet {
     bits: u16,
@@ -37,7 +38,7 @@ impl LevelSet {
 
     /// The set that also holds the level `l`.
     pub fn with(self, l: Level) -> LevelSet
-        requires { l.0 < 16 }
+        requires { l.0 < MOST_LEVELS }
         ensures { result ≡ levels_where (λ m. has self m || m == l.0) }
     {
         LevelSet {
@@ -47,7 +48,7 @@ impl LevelSet {
 
     /// Whether the set holds the level `l`.
     pub fn has(self, l: Level) -> bool
-        requires { l.0 < 16 }
+        requires { l.0 < MOST_LEVELS }
         ensures { result ≡ has self l.0 }
     {
         self.bits >> l.0 & 1 == 1

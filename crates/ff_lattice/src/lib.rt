@@ -12,10 +12,8 @@ mod rows;
 mod tests;
 
 pub use fault::LatticeFault;
+pub use ff_name::NoMemory;
 pub use lattice::Lattice;
 pub use level_set::LevelSet;
+pub use names::{MOST_LEVEL_NAME_BYTES, MOST_LEVELS};
 pub use pair::Pair;
-use std::alloc::AllocError;
-
-/// The answer of a call that found no memory.
-pub type NoMemory = AllocError;

@@ -6,25 +6,21 @@ ghost use Rattle.ff_lattice.specs.declared.pair.Pair.{Pair};
 ghost use Rattle.ff_name.specs.Spelling.{stands_in_name};
 
 use crate::LatticeFault;
-use ff_name::{Level, Text};
+use ff_name::{Level, Text, stands_in_name};
 use indexmap::IndexSet;
 use std::alloc::Global;
 
 /// The most levels that a lattice has.
-const MOST_LEVELS: usize = 16;
+pub const MOST_LEVELS: usize = 16;
 
-/// Whether a byte may stand after the first letter of a level's name.
-fn stands_in_level_name(byte: u8) -> bool
-    ensures { result ≡ stands_in_name byte }
-{
-    byte.is_ascii_alphanumeric() || byte == b'_' || byte == b'-'
-}
+/// The most bytes that a level's name has.
+pub const MOST_LEVEL_NAME_BYTES: usize = 32;
 
 /// Whether each byte may stand after the first letter of a level's name.
 fn all_stand_in_level_name(bytes: &[u8]) -> bool
     ensures { result ≡ list_all stands_in_name bytes.now }
 {
-    bytes.iter().all(|byte| stands_in_level_name(*byte))
+    bytes.iter().all(|byte| stands_in_name(*byte))
 }
 
 /// Whether the bytes are a letter followed by at most 31 letters, digits, `_` or `-`.
@@ -34,7 +30,9 @@ fn is_level_name(bytes: &[u8]) -> bool
     match bytes.split_first() {
         None => false,
         Some((first, rest)) => {
-            first.is_ascii_alphabetic() && all_stand_in_level_name(rest) && rest.len() <= 31
+            first.is_ascii_alphabetic()
+                && all_stand_in_level_name(rest)
+                && rest.len() < MOST_LEVEL_NAME_BYTES
         }
     }
 }

@@ -3,6 +3,7 @@ ghost use Rattle.std.specs.Prelude.{◌≡◌, ◌≢◌, ℕ, ◌<◌, ◌≤�
 ghost use Rattle.ff_lattice.specs.LevelSet.{levels_where};
 ghost use Rattle.ff_lattice.specs.Levels.{AreApart, IsFault};
 ghost use Rattle.ff_lattice.specs.Rows.{related, AreRows, HoldPairs, Closes, AreTurned, Passes, Relates, IsEqual};
+ghost use Rattle.ff_lattice.specs.declared.names.TheConstants.{MOST_LEVELS};
 
 use crate::names::level_named;
 use crate::{LatticeFault, LevelSet, NoMemory, Pair};
@@ -12,7 +13,7 @@ use std::alloc::Global;
 
 /// The table that relates each level below `size` to itself.
 fn equal_rows(alloc: Global, size: u8) -> Result<Vec<LevelSet>, NoMemory>
-    requires { size ≤ 16 }
+    requires { size ≤ MOST_LEVELS }
     ensures { IfOk result (λ rows. IsEqual size rows.items) }
 {
     let mut rows = Vec::new(alloc);
@@ -79,7 +80,7 @@ pub(crate) fn close(rows: &mut [LevelSet])
 /// The levels that are related to `high`.
 fn related_to(rows: &[LevelSet], high: Level) -> LevelSet
     requires rows { AreRows (length rows.now) rows.now }
-    requires high { high.0 < 16 }
+    requires high { high.0 < MOST_LEVELS }
     ensures { result ≡ levels_where (λ l. related rows.now l high.0) }
 {
     let mut levels = LevelSet::empty();

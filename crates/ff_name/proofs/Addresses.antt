@@ -3,6 +3,7 @@ use Rattle.std.proofs.Common.{◌≡◌, ◌≢◌, ◌⊎◌, ◌≤◌, ◌<�
 use Rattle.std.specs.List.{list_all}
 use Rattle.std.proofs.lemmas.Bool.{and_parts}
 use Rattle.ff_name.specs.Address.{blank, scheme, Spells, as_printed, with_no_request, Parts, PartFaults, no_domain, wrong_byte, too_long, ArePassed, request_or_slash, Faults, no_scheme, in_parts}
+use Rattle.ff_name.specs.declared.urls.TheConstants.{MOST_REQUEST_BYTES}
 use Rattle.ff_name.specs.declared.urls.Url.{Url}
 use Rattle.ff_name.specs.declared.urls.Url.TheVariants.{Blank, At}
 use Rattle.ff_name.specs.declared.urls.UrlFault.{UrlFault}
@@ -101,7 +102,7 @@ spells_from_parts bytes rest host request schemed parts passed =
 pub no_fault : (host request : List ℕ) (which : UrlFault) → ArePassed host request → PartFaults host request which → ⊥
 no_fault host request which passed (no_domain isnt) = isnt passed.domain
 no_fault host request which passed (wrong_byte is_domain isnt) = isnt passed.made_of
-no_fault host request which passed (too_long is_domain made_of over) = let short : length request ≤ 2048 = passed.short in omega arith
+no_fault host request which passed (too_long is_domain made_of over) = let short : length request ≤ MOST_REQUEST_BYTES = passed.short in omega arith
 
 -- parts have one first fault
 pub PartFaults-unique : (host request : List ℕ) (which other : UrlFault) → PartFaults host request which → PartFaults host request other → which ≡ other

@@ -5,6 +5,7 @@ use Rattle.std.proofs.lemmas.List.Splits.{slice_split_none, slice_split_at, leng
 use Rattle.std.proofs.lemmas.Bool.{and_parts}
 use Rattle.std.proofs.lemmas.Bool.Decides.{nat_tests}
 use Rattle.ff_name.specs.Spelling.{IsDomain, is_label, stands_in_label}
+use Rattle.ff_name.specs.declared.domains.TheConstants.{MOST_DOMAIN_BYTES}
 use Rattle.ff_name.proofs.Ascii.{All-from_test, label_bytes}
 
 dotless_byte : (b : ℕ) → stands_in_label b ≡ true → (b == 46) ≡ false
@@ -26,7 +27,7 @@ some_part : (bytes : List ℕ) → slice_split (λ b. b == 46) bytes ≢ []
 some_part bytes e = let n : length (slice_split (λ b. b == 46) bytes) ≡ 0 = ap length e in omega (arith, length-slice_split (λ b. b == 46) bytes)
 
 -- bytes are a domain exactly where they are short and each part between the dots is a label
-pub IsDomain-from_parts : (bytes : List ℕ) → length bytes ≤ 253 → list_all is_label (slice_split (λ b. b == 46) bytes) ≡ true → IsDomain bytes
+pub IsDomain-from_parts : (bytes : List ℕ) → length bytes ≤ MOST_DOMAIN_BYTES → list_all is_label (slice_split (λ b. b == 46) bytes) ≡ true → IsDomain bytes
 IsDomain-from_parts bytes short h = record {
   labels = slice_split (λ b. b == 46) bytes;
   some = some_part bytes;

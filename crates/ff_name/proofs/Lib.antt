@@ -1,3 +1,5 @@
 pub mod Addresses
 pub mod Ascii
 pub mod Labels
+pub mod Reading
+pub mod Words

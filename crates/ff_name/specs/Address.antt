@@ -3,6 +3,7 @@ use Rattle.std.specs.Prelude.{◌≡◌, ◌≢◌, ◌≤◌, ◌<◌, ◌⊎�
 use Rattle.std.specs.List.{list_all}
 use Rattle.std.specs.Char.{is_ascii_graphic}
 use Rattle.ff_name.specs.Spelling.{IsDomain}
+use Rattle.ff_name.specs.declared.urls.TheConstants.{MOST_REQUEST_BYTES}
 use Rattle.ff_name.specs.declared.urls.Url.{Url}
 use Rattle.ff_name.specs.declared.urls.Url.TheVariants.{Blank, At}
 use Rattle.ff_name.specs.declared.urls.UrlFault.{UrlFault}
@@ -18,11 +19,11 @@ scheme = codes "http://"
 abbrev pub stands_in_request : ℕ → Bool
 stands_in_request b = is_ascii_graphic b && not (b == 34 || b == 40 || b == 41 || b == 92 || b == 35)
 
--- the request text of an address: `/` and then such bytes, at most 2,048 in all
+-- the request text of an address: `/` and then such bytes, no more than so many in all
 pub record IsRequest (text : List ℕ) : Type 0 where
   pub begins : slice_get text 0 ≡ Some 47
   pub made_of : IsTrue (list_all stands_in_request text)
-  pub short : length text ≤ 2048
+  pub short : length text ≤ MOST_REQUEST_BYTES
 
 -- an address whose domain and request text are spelled as addresses spell them
 abbrev pub IsWellSpelled : Url → Type 0
@@ -49,13 +50,13 @@ pub record Parts (bytes host request : List ℕ) : Type 0 where
 pub data PartFaults (host request : List ℕ) : UrlFault → Type 0 where
   no_domain : ¬ IsDomain host → PartFaults host request fault.Domain
   wrong_byte : IsDomain host → ¬ IsTrue (list_all stands_in_request request) → PartFaults host request fault.Uri
-  too_long : IsDomain host → IsTrue (list_all stands_in_request request) → 2048 < length request → PartFaults host request fault.Long
+  too_long : IsDomain host → IsTrue (list_all stands_in_request request) → MOST_REQUEST_BYTES < length request → PartFaults host request fault.Long
 
 -- nothing is wrong with them
 pub record ArePassed (host request : List ℕ) : Type 0 where
   pub domain : IsDomain host
   pub made_of : IsTrue (list_all stands_in_request request)
-  pub short : length request ≤ 2048
+  pub short : length request ≤ MOST_REQUEST_BYTES
 
 -- the request text that an address has: none stands for `/`
 abbrev pub request_or_slash : List ℕ → List ℕ

@@ -1,3 +1,5 @@
+pub mod Holding
 pub mod Address
-pub mod Output
+pub mod Reading
 pub mod Spelling
+pub mod Words

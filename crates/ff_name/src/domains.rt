@@ -8,10 +8,10 @@ use std::alloc::Global;
 use std::marker::Model;
 
 /// The most bytes that a domain may have.
-const MOST_DOMAIN_BYTES: usize = 253;
+pub const MOST_DOMAIN_BYTES: usize = 253;
 
 /// The most bytes that a label may have.
-const MOST_LABEL_BYTES: usize = 63;
+pub const MOST_LABEL_BYTES: usize = 63;
 
 /// A domain: labels joined by dots, at most 253 bytes in all. A label has 1 to 63 lower-case
 /// letters, digits or dashes, and neither begins nor ends with a dash. It is seen as the list of
@@ -65,6 +65,14 @@ impl Domain {
         &self.text
     }
 
+    /// The bytes of the domain.
+    pub fn as_bytes(&self) -> &[u8]
+        ensures value { result.now ≡ self.now }
+        ensures domain { IsDomain result.now }
+    {
+        self.text.as_bytes()
+    }
+
     /// An equal domain. It shares the bytes and copies none.
     pub fn copy(&self) -> Result<Domain, NoMemory>
         ensures { IfOk result (λ domain. domain ≡ self.now) }
@@ -76,7 +84,7 @@ impl Domain {
 }
 
 /// Whether these bytes spell a domain.
-pub(crate) fn is_domain(bytes: &[u8]) -> bool
+pub fn is_domain(bytes: &[u8]) -> bool
     ensures { IsTrue result ↔ IsDomain bytes.now }
 {
     bytes.len() <= MOST_DOMAIN_BYTES && has_labels(bytes)

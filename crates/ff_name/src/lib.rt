@@ -2,15 +2,20 @@
 #![tactic(auto)]
 
 mod domains;
+mod law;
 mod levels;
 mod names;
+mod short;
 #[cfg(test)]
 mod tests;
 mod texts;
 mod urls;
+mod worded;
 
-pub use domains::Domain;
+pub use domains::{Domain, MOST_DOMAIN_BYTES, MOST_LABEL_BYTES, is_domain};
+pub use law::{an_address_is_read_in_one_way, what_is_spelled_passes_its_test};
 pub use levels::Level;
-pub use names::Name;
+pub use names::{MOST_NAME_BYTES, Name, begins_name, is_name, stands_in_name};
 pub use texts::{NoMemory, Text};
-pub use urls::{Url, UrlFault};
+pub use urls::{MOST_REQUEST_BYTES, Url, UrlFault};
+pub use worded::{Worded, by_word};

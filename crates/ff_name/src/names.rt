@@ -8,7 +8,7 @@ use std::alloc::Global;
 use std::marker::Model;
 
 /// The most bytes that a name may have.
-const MOST_NAME_BYTES: usize = 64;
+pub const MOST_NAME_BYTES: usize = 64;
 
 /// A name of a variable, a node or a window: a letter of ASCII or `_`, then letters, digits, `_`
 /// or `-`, at most 64 bytes in all. It is seen as the list of its bytes.
@@ -52,6 +52,14 @@ impl Name {
         &self.text
     }
 
+    /// The bytes of the name.
+    pub fn as_bytes(&self) -> &[u8]
+        ensures value { result.now ≡ self.now }
+        ensures name { IsName result.now }
+    {
+        self.text.as_bytes()
+    }
+
     /// An equal name. It shares the bytes and copies none.
     pub fn copy(&self) -> Result<Name, NoMemory>
         ensures { IfOk result (λ name. name ≡ self.now) }
@@ -62,7 +70,8 @@ impl Name {
     }
 }
 
-fn is_name(bytes: &[u8]) -> bool
+/// Whether these bytes spell a name.
+pub fn is_name(bytes: &[u8]) -> bool
     ensures { IsTrue result ↔ IsName bytes.now }
 {
     bytes.len() <= MOST_NAME_BYTES && is_named(bytes)
@@ -83,13 +92,15 @@ fn all_stand_in_name(bytes: &[u8]) -> bool
     bytes.iter().all(|b| stands_in_name(*b))
 }
 
-fn begins_name(b: u8) -> bool
+/// Whether a name may begin with this byte: a letter or `_`.
+pub fn begins_name(b: u8) -> bool
     ensures { result ≡ spelling.begins_name b }
 {
     b.is_ascii_alphabetic() || b == b'_'
 }
 
-fn stands_in_name(b: u8) -> bool
+/// Whether this byte may stand in a name: a letter, a digit, `_` or `-`.
+pub fn stands_in_name(b: u8) -> bool
     ensures { result ≡ spelling.stands_in_name b }
 {
     b.is_ascii_alphanumeric() || b == b'_' || b == b'-'

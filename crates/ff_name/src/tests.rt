@@ -1,4 +1,4 @@
-use crate::{Domain, Name, NoMemory, Text, Url, UrlFault};
+use crate::{Domain, Name, NoMemory, Text, Url, UrlFault, is_domain, is_name};
 use std::alloc::Global;
 
 /// Whether the bytes are read as this fault, or else printed so, also from a copy.
@@ -52,11 +52,11 @@ fn the_longest_request_text(rt: HostRuntime) -> Result<(), NoMemory> {
     Ok(())
 }
 
-/// Whether the bytes are a text, a name and a domain.
+/// Whether the bytes are a text, a name and a domain, each of which has them.
 fn kinds(alloc: Global, bytes: &[u8]) -> Result<(bool, bool, bool), NoMemory> {
-    let text = Text::of(alloc, bytes)?.is_some();
-    let name = Name::of(alloc, bytes)?.is_some();
-    let domain = Domain::of(alloc, bytes)?.is_some();
+    let text = Text::of(alloc, bytes)?.is_some_and(|text| text.as_bytes() == bytes);
+    let name = Name::of(alloc, bytes)?.is_some_and(|name| name.as_bytes() == bytes);
+    let domain = Domain::of(alloc, bytes)?.is_some_and(|domain| domain.as_bytes() == bytes);
     Ok((text, name, domain))
 }
 
@@ -76,4 +76,36 @@ fn texts_names_and_domains(rt: HostRuntime) -> Result<(), NoMemory> {
         assert_eq!(rt; kinds(rt.alloc(), bytes)?, want, "{bytes:?}");
     }
     Ok(())
+}
+
+#[test]
+fn texts_of_strs(rt: HostRuntime) -> Result<(), NoMemory> {
+    for word in [
+        "",
+        "h\u{e9}",
+        "twenty-two bytes long.",
+        "twenty-three bytes long",
+    ] {
+        let text = Text::of_str(rt.alloc(), word)?;
+        assert!(rt; text.copy()?.as_str() == word, "{word}");
+    }
+    Ok(())
+}
+
+#[test]
+fn the_longest_names_and_domains(rt: HostRuntime) {
+    let letters = [b'a'; 65];
+    let mut labels = [b'a'; 254];
+    for dot in 0..126 {
+        labels[2 * dot + 1] = b'.';
+    }
+    for (bytes, want) in [
+        (&letters[..63], (true, true)),
+        (&letters[..64], (true, false)),
+        (&letters[..], (false, false)),
+        (&labels[..253], (false, true)),
+        (&labels[..], (false, false)),
+    ] {
+        assert_eq!(rt; (is_name(bytes), is_domain(bytes)), want, "{bytes:?}");
+    }
 }

@@ -1,6 +1,7 @@
 ghost use Rattle.std.specs.Prelude.{◌≡◌, ◌↔◌, IfOk, MatchOption, IsTrue};
 ghost use Rattle.std.specs.Str.{IsUtf8};
 
+use crate::short::{MOST_SHORT_BYTES, Short};
 use std::alloc::{AllocError, Global};
 use std::cmp::Ordering;
 use std::hash::{Hash, Hasher};
@@ -10,22 +11,30 @@ use std::rc::RcStr;
 /// The answer of a call that found no memory.
 pub type NoMemory = AllocError;
 
-/// A text that is shared and never changed, seen as the list of its bytes, which are UTF-8.
+/// Where the bytes of a text are: in the value itself, or in memory that copies share.
+#[derive(Debug, Drop)]
+enum Holding {
+    Short(Short),
+    Long(RcStr),
+}
+
+/// A text that is never changed, seen as the list of its bytes, which are UTF-8. A long one is
+/// shared by its copies, and a short one takes no memory.
 #[derive(Debug, Drop)]
 pub struct Text {
-    text: RcStr,
+    held: Holding,
 }
 
 impl Model for Text {
     ghost use Rattle.std.specs.Prelude.{ℕ, List};
-    ghost use Rattle.std.specs.Rc.{rc_str_bytes};
     ghost use Rattle.std.specs.Str.{IsUtf8};
+    ghost use Rattle.ff_name.specs.Holding.{held_bytes};
 
     ghost Value = { List ℕ };
 
-    ghost view = { λ t. rc_str_bytes t.text };
+    ghost view = { λ t. held_bytes t.held };
 
-    ghost invariant = { λ t. IsUtf8 (rc_str_bytes t.text) };
+    ghost invariant = { λ t. IsUtf8 (held_bytes t.held) };
 }
 
 impl Text {
@@ -35,9 +44,7 @@ impl Text {
         ensures value { IfOk result (λ answer. MatchOption answer (¬ IsUtf8 bytes.now) (λ text. text ≡ bytes.now)) }
     {
         match str::from_utf8(bytes) {
-            Ok(text) => Ok(Some(Text {
-                text: RcStr::from_str(alloc, text)?,
-            })),
+            Ok(_) => Ok(Some(Text::of_utf8(alloc, bytes)?)),
             Err(_) => Ok(None),
         }
     }
@@ -47,10 +54,19 @@ impl Text {
         requires { IsUtf8 bytes.now }
         ensures { IfOk result (λ text. text ≡ bytes.now) }
     {
-        match Text::of(alloc, bytes)? {
-            Some(text) => Ok(text),
-            None => unreachable!(),
-        }
+        let held = if bytes.len() <= MOST_SHORT_BYTES {
+            Holding::Short(Short::of(bytes))
+        } else {
+            Holding::Long(RcStr::from_str(alloc, str_of(bytes))?)
+        };
+        Ok(Text { held })
+    }
+
+    /// The text of a `str`.
+    pub fn of_str(alloc: Global, text: &str) -> Result<Text, NoMemory>
+        ensures { IfOk result (λ copy. copy ≡ text.now) }
+    {
+        Text::of_utf8(alloc, text.as_bytes())
     }
 
     /// The bytes of the text.
@@ -58,16 +74,40 @@ impl Text {
         ensures value { result.now ≡ self.now }
         ensures utf8 { IsUtf8 result.now }
     {
-        self.text.as_str().as_bytes()
+        match &self.held {
+            Holding::Short(short) => short.as_bytes(),
+            Holding::Long(text) => text.as_str().as_bytes(),
+        }
     }
 
-    /// An equal text. It shares the bytes and copies none.
+    /// The text as a `str`.
+    pub fn as_str(&self) -> &str
+        ensures value { result.now ≡ self.now }
+        ensures utf8 { IsUtf8 result.now }
+    {
+        str_of(self.as_bytes())
+    }
+
+    /// An equal text, which takes no memory.
     pub fn copy(&self) -> Result<Text, NoMemory>
         ensures { IfOk result (λ text. text ≡ self.now) }
     {
-        Ok(Text {
-            text: self.text.clone()?,
-        })
+        let held = match &self.held {
+            Holding::Short(short) => Holding::Short(short.copy()),
+            Holding::Long(text) => Holding::Long(text.clone()?),
+        };
+        Ok(Text { held })
+    }
+}
+
+/// The bytes, which are UTF-8, as a `str`.
+fn str_of(bytes: &[u8]) -> &str
+    requires { IsUtf8 bytes.now }
+    ensures { result.now ≡ bytes.now }
+{
+    match str::from_utf8(bytes) {
+        Ok(text) => text,
+        Err(_) => unreachable!(),
     }
 }
 
@@ -135,6 +175,6 @@ impl Hash for Text {
     ghost respects_eq = { Prim.search (hashing, rules) };
 
     fn hash<H: Hasher>(&self, state: &mut H) {
-        self.text.as_str().hash(state);
+        self.as_str().hash(state);
     }
 }

@@ -4,7 +4,8 @@ ghost use Rattle.ff_name.specs.declared.urls.Url.{Url};
 ghost use Rattle.ff_name.specs.declared.urls.UrlFault.{UrlFault};
 ghost use Rattle.ff_name.specs.Address.{IsWellSpelled, Spells, Parts, PartFaults, Faults, ArePassed, printed, request_or_slash};
 ghost use Rattle.ff_name.specs.Address as address;
-ghost use Rattle.ff_name.specs.Output.{AppendsFront};
+ghost use Rattle.ff_contract.specs.Answering.{Answers};
+ghost use Rattle.ff_contract.specs.Appending.{Appends};
 
 use crate::domains::{Domain, is_domain};
 use crate::texts::{NoMemory, Text};
@@ -12,7 +13,7 @@ use std::alloc::Global;
 use thiserror::Error;
 
 /// The most bytes that a request text may have.
-const MOST_REQUEST_BYTES: usize = 2048;
+pub const MOST_REQUEST_BYTES: usize = 2048;
 
 /// An address: `about:blank`, or a domain and a request text.
 #[derive(Debug, PartialEq, Eq, Hash, Drop)]
@@ -49,9 +50,9 @@ impl Url {
     pub fn read(alloc: Global, bytes: &[u8]) -> Result<Url, UrlFault>
         ensures found { IfOk result (Spells bytes.now) }
         ensures well_spelled { IfOk result IsWellSpelled }
-        ensures only { (url : Url) → Spells bytes.now url → (result ≡ Ok url) ⊎ (result ≡ Err UrlFault.NoMemory) }
+        ensures only { (url : Url) → Spells bytes.now url → Answers result (Ok url) (Err UrlFault.NoMemory) }
         // What is printed for an address is read back as that address.
-        ensures again { (url : Url) → IsWellSpelled url → bytes.now ≡ printed url → (result ≡ Ok url) ⊎ (result ≡ Err UrlFault.NoMemory) }
+        ensures again { (url : Url) → IsWellSpelled url → bytes.now ≡ printed url → Answers result (Ok url) (Err UrlFault.NoMemory) }
         ensures fault { IfErr result (λ fault. (fault ≡ UrlFault.NoMemory) ⊎ Faults bytes.now fault) }
         ensures exact { (fault : UrlFault) → Faults bytes.now fault → result ≡ Err fault }
     {
@@ -67,8 +68,7 @@ impl Url {
 
     /// Appends the spelling of the address. After `NoMemory` a front of it was appended.
     pub fn print(&self, out: &mut Vec<u8>) -> Result<(), NoMemory>
-        ensures ok { OnOk result (out.new.items ≡ out.old.items ++ printed self.now) }
-        ensures err { OnErr result (AppendsFront out.old.items out.new.items (printed self.now)) }
+        ensures { Appends result out.old.items out.new.items (printed self.now) }
     {
         match self {
             Url::Blank => out.extend_from_slice(b"about:blank"),

@@ -1,3 +1,4 @@
 pub mod Canonical
 pub mod Signed
 pub mod Texts
+pub mod Values

@@ -1,6 +1,7 @@
 -- The text of a whole number: a minus stands first exactly where it is negative.
-use Rattle.std.proofs.Common.{◌≡◌, ◌≢◌, ◌<◌, ◌^◌, ◌↔◌, ℕ, ℤ, pos, negsuc, suc, true, List, ◌∷◌, drop, arith, sym, ap, ◌∙◌, Option, Some, FitsSigned}
+use Rattle.std.proofs.Common.{◌≡◌, ◌≢◌, ◌<◌, ◌^◌, ◌↔◌, ℕ, ℤ, pos, negsuc, suc, ◌<ℤ◌, unsigned_abs, true, List, ◌∷◌, drop, arith, sym, ap, ◌∙◌, Option, Some, FitsSigned}
 use Rattle.std.specs.Int.{w64}
+use Rattle.std.proofs.lemmas.Int.{ints}
 use Rattle.std.specs.List.{list_all}
 use Rattle.std.specs.Char.{is_ascii_digit}
 use Rattle.std.proofs.lemmas.Bool.Decides.{nat_tests}
@@ -25,3 +26,8 @@ after_minus bytes digits r e spelled negative (negsuc n) fits = (
   (λ s. e ∙ ap (λ d. 45 ∷ d) ((spelled n (omega (arith, fits.sfits))).0 s)),
   (λ t. (spelled n (omega (arith, fits.sfits))).1 (ap (drop 1) (sym e ∙ t))),
 )
+
+-- the text of a negative number is that of its size, after a minus
+pub num_text-after_minus : (n : ℤ) (size : ℕ) → size ≡ unsigned_abs n → n <ℤ pos 0 → num_text n ≡ 45 ∷ nat_text size
+num_text-after_minus (pos n) size e sign = absurd (omega (arith, ints))
+num_text-after_minus (negsuc n) size e sign = ap (λ (m : ℕ). 45 ∷ nat_text m) (sym e)

@@ -4,6 +4,7 @@ ghost use Rattle.std.specs.Char.{is_ascii_digit};
 ghost use Rattle.std.specs.List.{list_all};
 ghost use Rattle.ff_number.specs.Decimal.{nat_text, num_text};
 ghost use Rattle.ff_number.specs.Decimal as spelling;
+ghost use Rattle.ff_number.specs.Numbers as numbers;
 
 /// The number that these bytes spell: `0`, or digits that begin with 1 to 9. `None` where they spell none below 2^64.
 pub fn read_nat(bytes: &[u8]) -> Option<u64>
@@ -24,6 +25,7 @@ pub fn read_nat(bytes: &[u8]) -> Option<u64>
 pub fn read_num(bytes: &[u8]) -> Option<i64>
     ensures spelled { (n : ℤ) → FitsSigned w64 n → (result ≡ Some n) ↔ (bytes.now ≡ num_text n) }
     ensures within { IfSome result (λ n. FitsSigned w64 n) }
+    ensures value { result ≡ numbers.read_num bytes.now }
 {
     match strip_minus(bytes) {
         Some(digits) => read_below_zero(digits),

@@ -1,4 +1,5 @@
 pub mod Answers
+pub mod Lent
 pub mod Limits
 pub mod Operands
 pub mod Pure

@@ -1,6 +1,6 @@
 -- The operators on numbers, truth values and texts: what each gives for its operands and the mass, or why it fails.
-use Rattle.std.specs.Prelude.{◌≡◌, ℕ, ◌+◌, ◌-◌, ◌^◌, Bool, true, false, cond, not, ◌==◌, ◌&&◌, ◌||◌, nat_lt, nat_le, ℤ, pos, neg_ℤ, ◌+ℤ◌, ◌-ℤ◌, ◌*ℤ◌, nat_abs, int_lt, int_le, int_div, int_rem, Option, Some, None, Result, Ok, Err, List, [], ◌∷◌, ◌++◌, length, take, drop, slice_index, bytes_eq}
-use Rattle.std.specs.Ordering.{int_eq, is_lt, nat_cmp}
+use Rattle.std.specs.Prelude.{◌≡◌, ℕ, ◌+◌, ◌-◌, ◌^◌, Bool, true, false, cond, not, ◌==◌, ◌&&◌, ◌||◌, nat_lt, nat_le, ℤ, pos, neg_ℤ, ◌+ℤ◌, ◌-ℤ◌, ◌*ℤ◌, nat_abs, int_lt, int_le, int_div, int_rem, Option, Some, None, Result, Ok, Err, List, [], ◌∷◌, ◌++◌, length, take, drop, slice_index, slice_get, slice_range, bytes_eq}
+use Rattle.std.specs.Ordering.{int_eq, is_lt, is_le, nat_cmp}
 use Rattle.std.specs.Cmp.Lexicographic.{slice_cmp}
 use Rattle.ff_number.specs.Decimal.{num_text}
 use Rattle.ff_tree.specs.declared.op.Op.{Op}
@@ -18,12 +18,14 @@ use Rattle.ff_operators.specs.Operands.{with_operands, one_bool, one_num, two_nu
 abbrev pub free : ℕ → Val → Result Applied Fault
 free mass v = Ok (record { value = v; mass = mass })
 
--- the text, whose length the mass grows by; not where it is too long, or where the mass would pass its limit
+-- a text of that length may be made: it isn't too long, and the mass stays within its limit
+abbrev pub has_room : ℕ → ℕ → Bool
+has_room mass size = nat_le size longest_made && nat_le (mass + size) most_mass
+
+-- the text, whose length the mass grows by, where there is room for it
 abbrev pub made : ℕ → List ℕ → Result Applied Fault
 made mass text =
-    cond (nat_le (length text) longest_made && nat_le (mass + length text) most_mass)
-    (Ok (record { value = val.Str text; mass = mass + length text }))
-    (Err fault.Limit)
+    cond (has_room mass (length text)) (Ok (record { value = val.Str text; mass = mass + length text })) (Err fault.Limit)
 
 -- the number, where 64 bits hold it
 abbrev pub num_or_overflow : ℕ → ℤ → Result Applied Fault
@@ -39,9 +41,13 @@ ordered mass nums texts (val.Num a ∷ val.Num b ∷ []) = free mass (val.Bool (
 ordered mass nums texts (val.Str a ∷ val.Str b ∷ []) = free mass (val.Bool (texts a b))
 ordered mass nums texts other = Err fault.Kind
 
--- the one text is before the other, by their bytes
+-- the first text is before the second, by their bytes
 abbrev pub text_lt : List ℕ → List ℕ → Bool
 text_lt a b = is_lt (slice_cmp nat_cmp a b)
+
+-- the first text is the second, or before it
+abbrev pub text_le : List ℕ → List ℕ → Bool
+text_le a b = is_le (slice_cmp nat_cmp a b)
 
 -- whether two truth values are equal
 abbrev pub same_bool : Bool → Bool → Bool
@@ -67,24 +73,32 @@ abbrev pub equal : ℕ → List Val → Result Applied Fault
 equal mass (a ∷ b ∷ []) = cond (is_code a || is_code b) (Err fault.Kind) (free mass (val.Bool (same a b)))
 equal mass other = Err fault.Kind
 
--- the number is a place in the text, or its end
-abbrev pub place_in : List ℕ → ℤ → Bool
-place_in text n = int_le (pos 0) n && nat_le (nat_abs n) (length text)
+-- the byte at that place of the text, where the text has the place
+abbrev pub byte_at : List ℕ → ℤ → Option ℕ
+byte_at text n = cond (int_le (pos 0) n) (slice_get text (nat_abs n)) None
 
--- a place where a text may be cut: no character goes over it
-abbrev pub is_cut : List ℕ → ℕ → Bool
-is_cut text n = n == length text || nat_lt (slice_index text n) 128 || nat_le 192 (slice_index text n)
+-- the byte as a number; where there is none, its place is out of range
+abbrev pub byte : ℕ → Option ℕ → Result Applied Fault
+byte mass None = Err fault.Range
+byte mass (Some b) = free mass (val.Num (pos b))
 
--- the byte at that place of the text
-abbrev pub byte : ℕ → List ℕ → ℤ → Result Applied Fault
-byte mass text n = cond (int_le (pos 0) n && nat_lt (nat_abs n) (length text)) (free mass (val.Num (pos (slice_index text (nat_abs n))))) (Err fault.Range)
+-- a place in the text, or its end, that no character goes over
+abbrev pub is_place : List ℕ → ℤ → Bool
+is_place text n =
+    int_le (pos 0) n && nat_le (nat_abs n) (length text)
+    && (nat_abs n == length text || nat_lt (slice_index text (nat_abs n)) 128 || nat_le 192 (slice_index text (nat_abs n)))
 
--- the bytes from the first place to before the second
-abbrev pub cut : ℕ → List ℕ → ℤ → ℤ → Result Applied Fault
-cut mass text from to =
-    cond (place_in text from && place_in text to && nat_le (nat_abs from) (nat_abs to) && is_cut text (nat_abs from) && is_cut text (nat_abs to))
-    (made mass (drop (nat_abs from) (take (nat_abs to) text)))
-    (Err fault.Range)
+-- the bytes from the first place to before the second, where these are places in order
+abbrev pub part_of : List ℕ → ℤ → ℤ → Option (List ℕ)
+part_of text from to =
+    cond (is_place text from && is_place text to && nat_le (nat_abs from) (nat_abs to))
+    (Some (slice_range text (nat_abs from) (nat_abs to)))
+    None
+
+-- the part of a text, which is made; where there is none, a place is out of range
+abbrev pub cut : ℕ → Option (List ℕ) → Result Applied Fault
+cut mass None = Err fault.Range
+cut mass (Some part) = made mass part
 
 -- the number, if there is one
 abbrev pub num_or_null : Option ℤ → Val
@@ -99,13 +113,13 @@ apply op.Mul args mass = with_operands (two_nums args) (λ o. num_or_overflow ma
 apply op.Div args mass = with_operands (two_nums args) (λ o. divided mass o.0 o.1 (int_div o.0 o.1))
 apply op.Rem args mass = with_operands (two_nums args) (λ o. divided mass o.0 o.1 (int_rem o.0 o.1))
 apply op.Less args mass = ordered mass int_lt text_lt args
-apply op.AtMost args mass = ordered mass int_le (λ a b. not (text_lt b a)) args
+apply op.AtMost args mass = ordered mass int_le text_le args
 apply op.Equal args mass = equal mass args
 apply op.Not args mass = with_operands (one_bool args) (λ b. free mass (val.Bool (not b)))
 apply op.Cat args mass = with_operands (two_strs args) (λ o. made mass (o.0 ++ o.1))
 apply op.Len args mass = with_operands (one_str args) (λ a. free mass (val.Num (pos (length a))))
-apply op.Byte args mass = with_operands (str_num args) (λ o. byte mass o.0 o.1)
-apply op.Cut args mass = with_operands (str_nums args) (λ o. cut mass o.0 o.1 o.2)
+apply op.Byte args mass = with_operands (str_num args) (λ o. byte mass (byte_at o.0 o.1))
+apply op.Cut args mass = with_operands (str_nums args) (λ o. cut mass (part_of o.0 o.1 o.2))
 apply op.Str args mass = with_operands (one_num args) (λ n. made mass (num_text n))
 apply op.Num args mass = with_operands (one_str args) (λ a. free mass (num_or_null (read_num a)))
 apply other args mass = Err fault.Kind

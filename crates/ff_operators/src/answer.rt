@@ -1,3 +1,5 @@
+ghost use Rattle.std.specs.Prelude.{◌≡◌};
+
 use ff_value::{Fault, NoMemory, Val};
 
 /// What an operator gave.
@@ -6,6 +8,15 @@ pub struct Applied {
     pub value: Val,
     /// The mass after it, in bytes: what was made counts.
     pub mass: u64,
+}
+
+impl Applied {
+    /// The value, for which the mass stays as it is.
+    pub(crate) fn free(value: Val, mass: u64) -> Applied
+        ensures { result ≡ record { value = value; mass = mass } }
+    {
+        Applied { value, mass }
+    }
 }
 
 /// Why a call on values or stores failed: by a fault of the script, or for want of memory.

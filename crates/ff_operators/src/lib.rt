@@ -5,5 +5,15 @@
 #![tactic(auto)]
 
 mod answer;
+mod arithmetic;
+mod comparisons;
+mod limits;
+pub mod operands;
+mod operators;
+#[cfg(test)]
+mod tests;
+mod texts;
 
 pub use answer::{Applied, Fail};
+pub use limits::{MOST_MADE_BYTES, MOST_MASS};
+pub use operators::apply;

@@ -1,20 +1,12 @@
 -- The levels of keys, one after another.
-use Rattle.std.proofs.Common.{◌≡◌, ℕ, ◌+◌, ◌<◌, ◌≤◌, List, [], ◌∷◌, ◌++◌, length, drop, get_or, codes, Option, Some, None, option_map, Result, Ok, Err, IfSome, IfNone, refl, sym, ap, ◌∙◌, append_assoc, append-nil, arith, bytes_eq}
+use Rattle.std.proofs.Common.{◌≡◌, ℕ, ◌+◌, ◌<◌, ◌≤◌, List, [], ◌∷◌, ◌++◌, length, drop, get_or, codes, Some, Result, Ok, Err, refl, sym, ap, ◌∙◌, append_assoc, append-nil, bytes_eq}
 use Rattle.std.specs.List.{find}
 use Rattle.std.proofs.lemmas.List.{drop_more, drop_all}
-use Rattle.ff_name.specs.declared.levels.Level.{Level}
-use Rattle.ff_lattice.specs.Order.{Order, size, name, IsOrder}
+use Rattle.ff_lattice.specs.Order.{Order}
 use Rattle.ff_policy.specs.declared.fault.PolicyFault.{PolicyFault}
 use Rattle.ff_policy.specs.Assignment.{Key}
 use Rattle.ff_policy.specs.Members.{Named, ◌>>=◌}
-use Rattle.ff_policy.specs.Naming.{level_named, level_at, keys_named, level_or_bottom, kind_named}
-use Rattle.ff_policy.proofs.Places.{level_found, no_level_found}
-
--- what a lattice finds by a name
-pub found_by_name : (order : Order) (text : List ℕ) (answer : Option Level) → IsOrder order → IfSome answer (λ l. (l.0 < size order) × (name order l.0 ≡ text))
-    → IfNone answer ((l : ℕ) → l < size order → name order l ≡ text → ⊥) → option_map (λ (l : Level). l.0) answer ≡ level_named order text
-found_by_name order text None valid found none = sym (no_level_found order text none)
-found_by_name order text (Some l) valid found none = sym (level_found order text l.0 valid found.0 found.1)
+use Rattle.ff_policy.specs.Naming.{level_at, keys_named, level_or_bottom, kind_named}
 
 -- ---- keys
 

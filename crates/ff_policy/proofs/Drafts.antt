@@ -1,15 +1,16 @@
 -- The levels that a plan names lie in the lattice, and its keys stay apart.
-use Rattle.std.proofs.Common.{◌≡◌, ◌≢◌, ℕ, zero, suc, ◌+◌, ◌<◌, ◌≤◌, Bool, true, false, if◌then◌else◌, List, [], ◌∷◌, ◌++◌, length, get_or, codes, Option, Some, None, Result, Ok, Err, refl, sym, ap, subst, ◌∙◌, arith, bytes_eq}
+use Rattle.std.proofs.Common.{◌≡◌, ℕ, zero, suc, ◌<◌, ◌≤◌, Bool, true, false, if◌then◌else◌, List, [], ◌∷◌, ◌++◌, length, codes, Option, Some, None, Result, Ok, Err, refl, sym, ap, subst, ◌∙◌, arith, bytes_eq}
 use Rattle.std.specs.List.{find, list_all}
 use Rattle.std.specs.Option.{ok_or}
+use Rattle.ff_name.specs.declared.levels.Level.{Level}
 use Rattle.ff_lattice.specs.LevelSet.{below}
-use Rattle.ff_lattice.specs.Order.{Order, size, leq, pick, bottom, IsOrder}
+use Rattle.ff_lattice.specs.Order.{Order, size, leq, pick, bottom, level_named, IsTag, IsOrder}
 use Rattle.ff_policy.specs.declared.fault.PolicyFault.{PolicyFault}
 use Rattle.ff_policy.specs.declared.fault.PolicyFault.TheVariants.{UnknownLevel}
 use Rattle.ff_policy.specs.Assignment.{Kinds, Key, Assignment, key_at, AreKeys, AreWithin, IsDraft}
 use Rattle.ff_policy.specs.Members.{Named, Plan, ◌>>=◌}
-use Rattle.ff_policy.specs.Naming.{named_at, AreApart, level_named, level_at, keys_named, level_or_bottom, kind_named, kinds_named, assigned}
-use Rattle.ff_policy.proofs.Places.{level_within}
+use Rattle.ff_policy.specs.Naming.{named_at, AreApart, numbered, level_at, keys_named, level_or_bottom, kind_named, kinds_named, assigned}
+use Rattle.ff_lattice.proofs.Named.{level_within}
 
 value_or : {X : Type 0} → X → Result X PolicyFault → X
 value_or x (Ok y) = y
@@ -29,7 +30,11 @@ ok_or_some None fault x e = absurd (let no : Err fault ≡ Ok x = e in cc)
 ok_or_some (Some y) fault x e = ap Some (ok_same y x e)
 
 at_within : (order : Order) (place text : List ℕ) (l : ℕ) → level_at order place text ≡ Ok l → l < size order
-at_within order place text l is = level_within order text l (ok_or_some (level_named order text) (UnknownLevel place) l is)
+at_within order place text l is = go (level_named order text) (level_within order text) is
+  where
+    go : (found : Option Level) → IsTag order found → ok_or (numbered found) (UnknownLevel place) ≡ Ok l → l < size order
+    go None within e = absurd (let no : ◌≡◌ {A = Result ℕ PolicyFault} (Err (UnknownLevel place)) (Ok l) = e in cc)
+    go (Some level) within e = subst (λ (n : ℕ). n < size order) (ok_same level.0 l e) within
 
 picked_within : (passes : ℕ → Bool) (n : ℕ) → pick passes (suc n) < suc n
 unfolding pick

@@ -1,18 +1,19 @@
--- Whether a fuel is from 1 to 1,000,000, and a draft with such a fuel.
+-- Whether a fuel is from 1 to MOST_FUEL, and a draft with such a fuel.
 use Rattle.std.proofs.Common.{◌≡◌, ◌⊎◌, inl, inr, ℕ, zero, suc, ◌<◌, ◌≤◌, Bool, true, false, ◌↔◌, IsTrue, refl, sym, ◌∙◌, arith}
 use Rattle.std.proofs.lemmas.Bool.{true≢false, cases_lt}
+use Rattle.ff_policy.specs.declared.limits.TheConstants.{MOST_FUEL}
 use Rattle.ff_policy.specs.Assignment.{Assignment, AreSpelled, IsDraft, IsAssignment}
 
-pub fuel_out : (fuel : ℕ) (has : Bool) → (IsTrue has ↔ ((1 ≤ fuel) × (fuel ≤ 1000000))) → has ≡ false → (fuel ≡ 0) ⊎ (1000000 < fuel)
+pub fuel_out : (fuel : ℕ) (has : Bool) → (IsTrue has ↔ ((1 ≤ fuel) × (fuel ≤ MOST_FUEL))) → has ≡ false → (fuel ≡ 0) ⊎ (MOST_FUEL < fuel)
 fuel_out zero has tells fails = inl refl
 fuel_out (suc n) has tells fails =
-    elim (cases_lt 1000000 (suc n)) as (λ _. (suc n ≡ 0) ⊎ (1000000 < suc n)) [
+    elim (cases_lt MOST_FUEL (suc n)) as (λ _. (suc n ≡ 0) ⊎ (MOST_FUEL < suc n)) [
       | inl much ↦ inr much
       | inr little ↦ absurd (true≢false (sym (tells.1 (omega arith, little)) ∙ fails))
     ]
 
-pub fuel_in : (fuel : ℕ) (has : Bool) → (IsTrue has ↔ ((1 ≤ fuel) × (fuel ≤ 1000000))) → has ≡ true → (1 ≤ fuel) × (fuel ≤ 1000000)
+pub fuel_in : (fuel : ℕ) (has : Bool) → (IsTrue has ↔ ((1 ≤ fuel) × (fuel ≤ MOST_FUEL))) → has ≡ true → (1 ≤ fuel) × (fuel ≤ MOST_FUEL)
 fuel_in fuel has tells holds = tells.0 holds
 
-pub valid_from : (draft : Assignment) (has : Bool) → IsDraft draft → AreSpelled draft.domains → (IsTrue has ↔ ((1 ≤ draft.fuel) × (draft.fuel ≤ 1000000))) → has ≡ true → IsAssignment draft
+pub valid_from : (draft : Assignment) (has : Bool) → IsDraft draft → AreSpelled draft.domains → (IsTrue has ↔ ((1 ≤ draft.fuel) × (draft.fuel ≤ MOST_FUEL))) → has ≡ true → IsAssignment draft
 valid_from draft has is spelled tells holds = record { draft = is; spelled = spelled; some_fuel = (tells.0 holds).0; little_fuel = (tells.0 holds).1 }

@@ -5,6 +5,7 @@ pub mod Drafts
 pub mod Fuel
 pub mod Keys
 pub mod Longest
+pub mod MemberFaults
 pub mod Places
 pub mod Rising
 pub mod Seeking

@@ -1,5 +1,5 @@
 -- The members of a JSON value that is read stand in byte order, so the first that passes a test is the least.
-use Rattle.std.proofs.Common.{◌≡◌, ◌≢◌, ℕ, zero, suc, ◌<◌, List, [], ◌∷◌, length, get_or, Option, Some, None, option_map, option_and_then, Bool, true, false, cond, Ordering, Less, Equal, Greater, nat_cmp, refl, sym, ap, subst, ◌∙◌, arith}
+use Rattle.std.proofs.Common.{◌≡◌, ◌≢◌, ℕ, zero, suc, ◌<◌, List, [], length, get_or, Option, Some, None, option_map, option_and_then, Bool, true, false, cond, Ordering, Less, Equal, Greater, nat_cmp, refl, sym, ap, subst, ◌∙◌, arith}
 use Rattle.std.proofs.lemmas.Bool.{true≢false}
 use Rattle.std.proofs.lemmas.Cmp.{nat_list_cmp_total, tied_itself}
 use Rattle.std.specs.Bool.{⊤}
@@ -7,9 +7,8 @@ use Rattle.std.specs.Cmp.Lexicographic.{slice_cmp}
 use Rattle.std.specs.List.{find}
 use Rattle.std.specs.Ordering.{match_ordering, ordering_reverse}
 use Rattle.json.specs.Json as json
-use Rattle.json.specs.Token.{Token}
 use Rattle.json.specs.Lex.{tokens}
-use Rattle.serde_json.specs.Data.{Num, Data, null, boolean, number, string, array, object, Items, no_items, item, Members, no_members, member, put}
+use Rattle.serde_json.specs.Data.{Data, null, boolean, number, string, array, object, no_items, item, Members, no_members, member, put}
 use Rattle.serde_json.specs.Read.{of_json, of_items, of_members, number_of, max_depth, read}
 use Rattle.ff_policy.specs.Members.{keys_of}
 use Rattle.ff_policy.specs.ByteOrder.{IsBefore, AreRising, IsInOrder, AreInOrder, HoldInOrder}

@@ -3,6 +3,7 @@ use Rattle.std.proofs.Common.{◌≡◌, ◌≢◌, ◌≤◌, ℕ, List, length
 use Rattle.serde_json.specs.Data.{Data}
 use Rattle.ff_lattice.specs.Order.{Order}
 use Rattle.ff_lattice.specs.Levels.{IsLatticeOf}
+use Rattle.ff_policy.specs.declared.limits.TheConstants.{MOST_POLICY_BYTES}
 use Rattle.ff_policy.specs.declared.fault.PolicyFault.{PolicyFault}
 use Rattle.ff_policy.specs.declared.fault.PolicyFault.TheVariants.{NoMemory}
 use Rattle.ff_policy.specs.Assignment.{Assignment}
@@ -26,7 +27,7 @@ err_more : (P Q : Result Assignment PolicyFault → Type 0) (answer : Result Ass
 err_more P Q (Ok policy) more is = tt
 err_more P Q (Err fault) more is = λ other. more (Err fault) (is other)
 
-module _ (bytes : List ℕ) (value : Data) (small : length bytes ≤ 65536) (is : IsValueOf bytes value) (answer : Result Assignment PolicyFault) where
+module _ (bytes : List ℕ) (value : Data) (small : length bytes ≤ MOST_POLICY_BYTES) (is : IsValueOf bytes value) (answer : Result Assignment PolicyFault) where
   pub reads_ok : OkWith (Says value) answer → OkWith (Reads bytes) answer
   reads_ok = ok_more (Says value) (Reads bytes) answer (λ r says. reading.valued value r small is says)
 

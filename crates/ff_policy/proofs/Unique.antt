@@ -1,14 +1,14 @@
 -- Bytes are one policy, or have one fault.
-use Rattle.std.proofs.Common.{◌≡◌, ◌≢◌, ◌⊎◌, inl, inr, ℕ, ◌<◌, ◌≤◌, List, length, refl, sym, ap, subst, ◌∙◌, arith, Some, Option, None, Result, Ok, Err, IfOk, IfErr, IsErrOf}
+use Rattle.std.proofs.Common.{◌≡◌, ◌≢◌, ◌⊎◌, inl, inr, ℕ, ◌<◌, ◌≤◌, List, refl, sym, ap, subst, ◌∙◌, arith, Some, Option, None, Result, Ok, Err, IfOk, IfErr, IsErrOf}
 use Rattle.std.proofs.lemmas.Bool.{cases_order}
 use Rattle.serde_json.specs.Data.{Data}
 use Rattle.ff_lattice.specs.Order.{Order}
 use Rattle.ff_lattice.specs.Levels as levels
-use Rattle.ff_lattice.specs.declared.fault.LatticeFault.{LatticeFault}
 use Rattle.ff_lattice.proofs.Faults.{IsFault-unique, no_fault}
 use Rattle.ff_lattice.proofs.Callers.{lattice_of_unique}
 use Rattle.ff_policy.specs.declared.fault.PolicyFault.{PolicyFault}
 use Rattle.ff_policy.specs.declared.fault.PolicyFault.TheVariants.{TooLarge, NotJson, BadVersion, UnknownField, BadShape, Levels, UnknownLevel, BadDomain, BadFuel, NoMemory}
+use Rattle.ff_policy.specs.declared.limits.TheConstants.{MOST_FUEL}
 use Rattle.ff_policy.specs.Assignment.{Key, Assignment, key_at, IsKey, AreSpelled}
 use Rattle.ff_policy.specs.Members.{Plan, plan_in}
 use Rattle.ff_policy.specs.Naming.{assigned}
@@ -60,7 +60,7 @@ key_fault_unique keys f g (no_key a is_a) (no_key b is_b) = ap BadDomain (no_key
 spelled_or : (keys : List Key) (f : PolicyFault) → IsKeyFault keys f → AreSpelled keys → ⊥
 spelled_or keys f (no_key a is) spelled = is.wrong (subst IsKey (sym is.is) (spelled is.place is.within))
 
-out_of_range : (fuel : ℕ) → (fuel ≡ 0) ⊎ (1000000 < fuel) → 1 ≤ fuel → fuel ≤ 1000000 → ⊥
+out_of_range : (fuel : ℕ) → (fuel ≡ 0) ⊎ (MOST_FUEL < fuel) → 1 ≤ fuel → fuel ≤ MOST_FUEL → ⊥
 out_of_range fuel (inl none) some little = omega arith
 out_of_range fuel (inr much) some little = omega arith
 

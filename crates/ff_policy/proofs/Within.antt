@@ -1,5 +1,5 @@
 -- The levels of domains, inputs and outputs are levels of the lattice.
-use Rattle.std.proofs.Common.{◌≡◌, ℕ, zero, suc, ◌<◌, List, [], ◌∷◌, length, Option, Some, None, Bool, true, false, cond, refl, sym, ap, subst, ◌∙◌, arith, bytes_eq}
+use Rattle.std.proofs.Common.{◌≡◌, ℕ, suc, ◌<◌, List, [], ◌∷◌, length, Option, Some, None, Bool, true, false, cond, refl, sym, subst, arith, bytes_eq}
 use Rattle.std.specs.List.{find}
 use Rattle.ff_value.specs.declared.input.Act.{Act}
 use Rattle.ff_value.specs.declared.input.Act.TheVariants as act
@@ -7,9 +7,9 @@ use Rattle.ff_value.specs.declared.input.Input.{Input}
 use Rattle.ff_value.specs.declared.output.Out.{Out}
 use Rattle.ff_value.specs.declared.output.Out.TheVariants as out
 use Rattle.ff_name.specs.declared.levels.Level.{Level}
-use Rattle.ff_lattice.specs.Order.{Order, size, IsOrder}
+use Rattle.ff_lattice.specs.Order.{Order, size, IsTag, IsOrder}
 use Rattle.ff_lattice.proofs.Callers.{join-bound}
-use Rattle.ff_policy.specs.Assignment.{Key, Assignment, key_at, longest, level_or, domain_level, act_level, with_tag, level_in, level_out, IsTag, IsLongest, IsAssignment}
+use Rattle.ff_policy.specs.Assignment.{Key, Assignment, key_at, longest, level_or, domain_level, act_level, with_tag, level_in, level_out, IsAssignment}
 use Rattle.ff_policy.proofs.Longest.{longest_is}
 
 AreBelow : ℕ → List Key → Type 0

@@ -1,6 +1,6 @@
 -- A policy as a value: the levels with their order, the level of each kind of input, of each domain and of the user interface,
 -- and the fuel of an input.
-use Rattle.std.specs.Prelude.{◌≡◌, ◌≢◌, ◌⊎◌, ◌<◌, ◌≤◌, ℕ, Bool, eqb, ◌==◌, ◌&&◌, true, false, nat_le, List, [], ◌∷◌, length, get_or, Option, Some, None, bytes_eq, ⊤, if◌then◌else◌}
+use Rattle.std.specs.Prelude.{◌≡◌, ◌≢◌, ◌⊎◌, ◌<◌, ◌≤◌, ℕ, Bool, eqb, ◌==◌, ◌&&◌, true, false, nat_le, List, [], ◌∷◌, length, get_or, Option, Some, None, bytes_eq, if◌then◌else◌}
 use Rattle.std.specs.List.{find, ends_with}
 use Rattle.ff_name.specs.declared.levels.Level.{Level}
 use Rattle.ff_name.specs.Spelling.{IsDomain}
@@ -10,6 +10,7 @@ use Rattle.ff_value.specs.declared.input.Input.{Input}
 use Rattle.ff_value.specs.declared.output.Out.{Out}
 use Rattle.ff_value.specs.declared.output.Out.TheVariants.{Opened, Closed, Loaded, Updated, Error, Stopped, Send}
 use Rattle.ff_lattice.specs.Order.{Order, size, join, two, IsOrder}
+use Rattle.ff_policy.specs.declared.limits.TheConstants.{MOST_FUEL, USUAL_FUEL}
 
 -- the levels of what a user does
 pub record Kinds : Type 0 where
@@ -82,11 +83,6 @@ act_level policy (Types win field text) = policy.kinds.types
 act_level policy (Clicks win button) = policy.kinds.clicks
 act_level policy (Replies domain request resp) = domain_level policy domain
 
--- a tag, where there is one, names a level
-abbrev pub IsTag : Order → Option Level → Type 0
-IsTag order None = ⊤
-IsTag order (Some tag) = tag.0 < size order
-
 -- a level joined with a tag, where there is one
 abbrev pub with_tag : Order → Option Level → ℕ → ℕ
 with_tag order None level = level
@@ -150,12 +146,12 @@ pub record IsDraft (policy : Assignment) : Type 0 where
   pub keys : AreKeys (size policy.order) policy.domains
   pub kinds_within : AreWithin (size policy.order) policy.kinds
 
--- such levels, keys that are domains or dots and domains, and a fuel from 1 to 1,000,000
+-- such levels, keys that are domains or dots and domains, and a fuel from 1 to MOST_FUEL
 pub record IsAssignment (policy : Assignment) : Type 0 where
   pub draft : IsDraft policy
   pub spelled : AreSpelled policy.domains
   pub some_fuel : 1 ≤ policy.fuel
-  pub little_fuel : policy.fuel ≤ 1000000
+  pub little_fuel : policy.fuel ≤ MOST_FUEL
 
 -- ---- the built-in policy
 
@@ -165,4 +161,4 @@ all_kinds level = record { opens = level; goes = level; links = level; closes = 
 
 -- L below H, the user interface at H, every domain and every kind of input at L
 abbrev pub builtin : Assignment
-builtin = record { order = two; ui = 1; other = 0; domains = []; kinds = all_kinds 0; fuel = 10000 }
+builtin = record { order = two; ui = 1; other = 0; domains = []; kinds = all_kinds 0; fuel = USUAL_FUEL }

@@ -3,3 +3,4 @@ pub mod ByteOrder
 pub mod Members
 pub mod Naming
 pub mod Reading
+pub mod Table

@@ -1,13 +1,16 @@
 -- The JSON value of a policy: which members it has, what shape each of them has, and the fault where one is missing, is none of
 -- a policy's or has another shape.
-use Rattle.std.specs.Prelude.{ℕ, Bool, false, not, ◌==◌, List, [], ◌∷◌, ◌++◌, codes, bytes_eq, Option, Some, None, option_map, option_and_then, Result, Ok, Err, if◌then◌else◌}
+use Rattle.std.specs.Prelude.{ℕ, Bool, false, not, ◌==◌, List, [], ◌∷◌, ◌++◌, codes, bytes_eq, map, Option, Some, None, option_map, option_and_then, Result, Ok, Err, if◌then◌else◌}
 use Rattle.std.specs.List.{find, list_any}
 use Rattle.std.specs.Option.{ok_or}
 use Rattle.serde_json.specs.Data.{Data, Items, no_items, item, Members, no_members, member}
 use Rattle.serde_json.specs.Find.{get, as_number, as_str, as_array, as_object, as_u64}
 use Rattle.ff_lattice.specs.declared.pair.Pair.{Pair}
+use Rattle.ff_value.specs.Kinds.{word_of}
 use Rattle.ff_policy.specs.declared.fault.PolicyFault.{PolicyFault}
 use Rattle.ff_policy.specs.declared.fault.PolicyFault.TheVariants.{BadVersion, UnknownField, BadShape}
+use Rattle.ff_policy.specs.declared.kinds.TheConstants.{KINDS}
+use Rattle.ff_policy.specs.declared.limits.TheConstants.{USUAL_FUEL}
 
 -- a key and the name of its level
 pub record Named : Type 0 where
@@ -37,9 +40,9 @@ Err fault >>= step = Err fault
 abbrev pub member_names : List (List ℕ)
 member_names = codes "version" ∷ codes "levels" ∷ codes "below" ∷ codes "ui" ∷ codes "domain" ∷ codes "domains" ∷ codes "kinds" ∷ codes "fuel" ∷ []
 
--- the kinds of input that a user makes
+-- the words of the kinds of input that a user makes
 abbrev pub kind_names : List (List ℕ)
-kind_names = codes "open" ∷ codes "go" ∷ codes "link" ∷ codes "close" ∷ codes "type" ∷ codes "click" ∷ []
+kind_names = map word_of KINDS
 
 -- whether the name is one of these
 abbrev pub is_among : List (List ℕ) → List ℕ → Bool
@@ -140,7 +143,7 @@ shaped value =
     required as_str (codes "domain") value >>= (λ other.
     optional [] named (codes "domains") value >>= (λ domains.
     optional [] named (codes "kinds") value >>= (λ kinds.
-    optional 10000 whole (codes "fuel") value >>= (λ fuel.
+    optional USUAL_FUEL whole (codes "fuel") value >>= (λ fuel.
     Ok (record { levels = levels; below = below; ui = ui; other = other; domains = domains; kinds = kinds; fuel = fuel }))))))))
 
 -- what a value says as a policy: it is an object of version 1, no other member stands in it, and each has its shape

@@ -1,8 +1,11 @@
 -- The names of levels that a plan gives, each at its place, and the levels that they name.
-use Rattle.std.specs.Prelude.{◌≢◌, ◌<◌, ℕ, List, [], ◌∷◌, ◌++◌, length, get_or, codes, bytes_eq, Option, Some, None, Result, Ok, Err}
-use Rattle.std.specs.List.{find, position_from}
+use Rattle.std.specs.Prelude.{◌≢◌, ◌<◌, ℕ, List, [], ◌∷◌, ◌++◌, length, get_or, codes, bytes_eq, Option, Some, None, option_map, Result, Ok}
+use Rattle.std.specs.List.{find}
 use Rattle.std.specs.Option.{ok_or}
-use Rattle.ff_lattice.specs.Order.{Order, bottom}
+use Rattle.ff_name.specs.declared.levels.Level.{Level}
+use Rattle.ff_lattice.specs.Order.{Order, bottom, level_named}
+use Rattle.ff_value.specs.Kinds.{word_of}
+use Rattle.ff_value.specs.declared.kind.Kind.TheVariants as kind
 use Rattle.ff_policy.specs.declared.fault.PolicyFault.{PolicyFault}
 use Rattle.ff_policy.specs.declared.fault.PolicyFault.TheVariants.{UnknownLevel}
 use Rattle.ff_policy.specs.Assignment.{Kinds, Key, Assignment}
@@ -16,13 +19,13 @@ named_at named place = get_or named place (record { key = []; level = [] })
 abbrev pub AreApart : List Named → Type 0
 AreApart named = (j k : ℕ) → j < k → k < length named → (named_at named j).key ≢ (named_at named k).key
 
--- the level of this name
-abbrev pub level_named : Order → List ℕ → Option ℕ
-level_named order text = position_from (λ name. bytes_eq name text) 0 order.names
+-- the number of the level of this name
+abbrev pub numbered : Option Level → Option ℕ
+numbered level = option_map (λ (l : Level). l.0) level
 
 -- the level that is named at a place
 abbrev pub level_at : Order → List ℕ → List ℕ → Result ℕ PolicyFault
-level_at order place text = ok_or (level_named order text) (UnknownLevel place)
+level_at order place text = ok_or (numbered (level_named order text)) (UnknownLevel place)
 
 -- the keys with their levels, one after another
 abbrev pub keys_named : Order → List Named → Result (List Key) PolicyFault
@@ -43,12 +46,12 @@ kind_named order named kind = level_or_bottom order kind (find (λ one. bytes_eq
 -- the levels of the kinds, one after another
 unfoldable pub kinds_named : Order → List Named → Result Kinds PolicyFault
 kinds_named order named =
-    kind_named order named (codes "open") >>= (λ opens.
-    kind_named order named (codes "go") >>= (λ goes.
-    kind_named order named (codes "link") >>= (λ links.
-    kind_named order named (codes "close") >>= (λ closes.
-    kind_named order named (codes "type") >>= (λ types.
-    kind_named order named (codes "click") >>= (λ clicks.
+    kind_named order named (word_of kind.Open) >>= (λ opens.
+    kind_named order named (word_of kind.Go) >>= (λ goes.
+    kind_named order named (word_of kind.Link) >>= (λ links.
+    kind_named order named (word_of kind.Close) >>= (λ closes.
+    kind_named order named (word_of kind.Type) >>= (λ types.
+    kind_named order named (word_of kind.Click) >>= (λ clicks.
     Ok (record { opens = opens; goes = goes; links = links; closes = closes; types = types; clicks = clicks })))))))
 
 -- the levels that a plan names, place by place: the user interface, the domains, and the kinds

@@ -8,6 +8,7 @@ use Rattle.ff_lattice.specs.Levels as levels
 use Rattle.ff_lattice.specs.declared.fault.LatticeFault.{LatticeFault}
 use Rattle.ff_policy.specs.declared.fault.PolicyFault.{PolicyFault}
 use Rattle.ff_policy.specs.declared.fault.PolicyFault.TheVariants.{TooLarge, NotJson, Levels, BadDomain, BadFuel}
+use Rattle.ff_policy.specs.declared.limits.TheConstants.{MOST_FUEL, MOST_POLICY_BYTES}
 use Rattle.ff_policy.specs.Assignment.{Key, Assignment, key_at, IsKey, AreSpelled}
 use Rattle.ff_policy.specs.Members.{Plan, plan_in}
 use Rattle.ff_policy.specs.Naming.{assigned}
@@ -33,11 +34,11 @@ pub data IsKeyFault (keys : List Key) : PolicyFault → Type 0 where
 pub data IsLevelsFault (plan : Plan) : PolicyFault → Type 0 where
   no_levels : (fault : LatticeFault) → levels.IsFault plan.levels plan.below fault → IsLevelsFault plan (Levels fault)
 
--- a policy whose levels are known: its keys are spelled, and then its fuel is from 1 to 1,000,000
+-- a policy whose levels are known: its keys are spelled, and then its fuel is from 1 to MOST_FUEL
 pub data Checks (policy : Assignment) : Result Assignment PolicyFault → Type 0 where
   bad_domain : (fault : PolicyFault) → IsKeyFault policy.domains fault → Checks policy (Err fault)
-  bad_fuel : AreSpelled policy.domains → (policy.fuel ≡ 0) ⊎ (1000000 < policy.fuel) → Checks policy (Err BadFuel)
-  whole : AreSpelled policy.domains → 1 ≤ policy.fuel → policy.fuel ≤ 1000000 → Checks policy (Ok policy)
+  bad_fuel : AreSpelled policy.domains → (policy.fuel ≡ 0) ⊎ (MOST_FUEL < policy.fuel) → Checks policy (Err BadFuel)
+  whole : AreSpelled policy.domains → 1 ≤ policy.fuel → policy.fuel ≤ MOST_FUEL → Checks policy (Ok policy)
 
 -- a plan over a lattice: the names that it gives are those of levels
 pub data Names (order : Order) (plan : Plan) : Result Assignment PolicyFault → Type 0 where
@@ -54,11 +55,11 @@ pub data Says (value : Data) : Result Assignment PolicyFault → Type 0 where
   bad_member : (fault : PolicyFault) → plan_in value ≡ Err fault → Says value (Err fault)
   planned : (plan : Plan) (answer : Result Assignment PolicyFault) → plan_in value ≡ Ok plan → Orders plan answer → Says value answer
 
--- bytes: there are at most 65,536, and they are a JSON value
+-- bytes: there are at most MOST_POLICY_BYTES, and they are a JSON value
 pub data Reads (bytes : List ℕ) : Result Assignment PolicyFault → Type 0 where
-  too_large : 65536 < length bytes → Reads bytes (Err TooLarge)
-  not_json : length bytes ≤ 65536 → ((value : Data) → ¬ IsValueOf bytes value) → Reads bytes (Err NotJson)
-  valued : (value : Data) (answer : Result Assignment PolicyFault) → length bytes ≤ 65536 → IsValueOf bytes value → Says value answer → Reads bytes answer
+  too_large : MOST_POLICY_BYTES < length bytes → Reads bytes (Err TooLarge)
+  not_json : length bytes ≤ MOST_POLICY_BYTES → ((value : Data) → ¬ IsValueOf bytes value) → Reads bytes (Err NotJson)
+  valued : (value : Data) (answer : Result Assignment PolicyFault) → length bytes ≤ MOST_POLICY_BYTES → IsValueOf bytes value → Says value answer → Reads bytes answer
 
 -- the policy that the bytes give
 abbrev pub IsPolicyOf : List ℕ → Assignment → Type 0

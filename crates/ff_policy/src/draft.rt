@@ -6,13 +6,10 @@ use crate::PolicyFault;
 use crate::checks::check_keys;
 use crate::key::Key;
 use crate::kinds::Kinds;
+use crate::limits::MOST_FUEL;
 use ff_lattice::Lattice;
 use ff_name::Level;
-use std::alloc::Global;
 use std::marker::Model;
-
-/// The most fuel that an input has.
-const MOST_FUEL: u64 = 1_000_000;
 
 /// A policy whose keys and fuel aren't checked yet.
 #[derive(Debug, Drop)]
@@ -35,16 +32,16 @@ impl Model for Draft {
 
 impl Draft {
     /// Tests how each key is spelled.
-    pub(crate) fn check_keys(&self, alloc: Global) -> Result<(), PolicyFault>
+    pub(crate) fn check_keys(&self) -> Result<(), PolicyFault>
         ensures ok { OnOk result (AreSpelled self.now.domains) }
         ensures fault { IfErr result (λ fault. fault ≢ PolicyFault.NoMemory → IsKeyFault self.now.domains fault) }
     {
-        check_keys(alloc, &self.domains)
+        check_keys(&self.domains)
     }
 
-    /// Whether the fuel is from 1 to 1,000,000.
+    /// Whether the fuel is from 1 to `MOST_FUEL`.
     pub(crate) fn has_fuel(&self) -> bool
-        ensures { IsTrue result ↔ ((1 ≤ self.now.fuel) × (self.now.fuel ≤ 1000000)) }
+        ensures { IsTrue result ↔ ((1 ≤ self.now.fuel) × (self.now.fuel ≤ MOST_FUEL)) }
     {
         1 <= self.fuel && self.fuel <= MOST_FUEL
     }

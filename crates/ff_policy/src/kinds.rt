@@ -2,7 +2,18 @@ ghost use Rattle.std.specs.Prelude.{◌≡◌};
 ghost use Rattle.ff_policy.specs.Assignment.{all_kinds};
 
 use ff_name::Level;
+use ff_value::Kind;
 use std::marker::Model;
+
+/// The kinds of input that a user makes: all but replies.
+pub(crate) const KINDS: [Kind; 6] = [
+    Kind::Open,
+    Kind::Go,
+    Kind::Link,
+    Kind::Close,
+    Kind::Type,
+    Kind::Click,
+];
 
 /// The levels of what a user does.
 #[derive(Debug, Drop)]

@@ -1,4 +1,4 @@
-ghost use Rattle.std.specs.Prelude.{◌≡◌, ℕ, ◌<◌, Bool, true, Option, Some, None, List, [], length, get_or, Result};
+ghost use Rattle.std.specs.Prelude.{◌≡◌, ℕ, ◌<◌, Bool, true, Option, Some, None, List, [], length, get_or, Result, Err};
 ghost use Rattle.std.specs.Cmp.Lexicographic.{slice_cmp};
 ghost use Rattle.std.specs.List.{find};
 ghost use Rattle.std.specs.Ordering.{nat_cmp};
@@ -8,13 +8,21 @@ ghost use Rattle.serde_json.specs.Read.{read};
 ghost use Rattle.ff_policy.specs.declared.fault.PolicyFault.{PolicyFault};
 ghost use Rattle.ff_policy.specs.Assignment.{Key, Assignment, covers, key_at, longest, IsLongest};
 ghost use Rattle.ff_policy.specs.ByteOrder.{AreRising, IsInOrder};
-ghost use Rattle.ff_policy.specs.Members.{keys_of};
+ghost use Rattle.ff_policy.specs.Members.{keys_of, plan_in};
 ghost use Rattle.ff_policy.specs.Reading.{Reads};
+ghost use Rattle.ff_policy.specs.Table.{IsMemberFault};
 
 /// Bytes are one policy or have one fault, and not both.
 #[tactic(auto, using(crate::proofs::Unique::reads_unique))]
 pub fn bytes_read_as_one_policy_or_fault()
     ensures { (bytes : List ℕ) (r s : Result Assignment PolicyFault) → Reads bytes r → Reads bytes s → r ≡ s }
+{}
+
+/// A value is no plan of a policy exactly where its members have a fault, which is the first one in the order of their table.
+#[tactic(auto, using(crate::proofs::MemberFaults::member_fault, crate::proofs::MemberFaults::fault_member))]
+pub fn the_first_fault_of_the_members_decides()
+    ensures found { (value : Data) (fault : PolicyFault) → plan_in value ≡ Err fault → IsMemberFault value fault }
+    ensures exact { (value : Data) (fault : PolicyFault) → IsMemberFault value fault → plan_in value ≡ Err fault }
 {}
 
 /// The key that stands for a domain, where it has none of its own, covers it, and each key that does is at most as long. Where

@@ -7,6 +7,7 @@ mod fault;
 mod key;
 mod kinds;
 mod law;
+mod limits;
 mod members;
 mod naming;
 mod plan;
@@ -15,12 +16,10 @@ mod policy;
 mod tests;
 
 pub use fault::PolicyFault;
+pub use ff_name::NoMemory;
 pub use law::{
-    bytes_read_as_one_policy_or_fault, members_stand_in_byte_order, the_first_key_is_the_least,
-    the_longest_key_is_taken,
+    bytes_read_as_one_policy_or_fault, members_stand_in_byte_order,
+    the_first_fault_of_the_members_decides, the_first_key_is_the_least, the_longest_key_is_taken,
 };
+pub use limits::{MOST_FUEL, MOST_POLICY_BYTES, USUAL_FUEL};
 pub use policy::Policy;
-use std::alloc::AllocError;
-
-/// The answer of a call that found no memory.
-pub type NoMemory = AllocError;

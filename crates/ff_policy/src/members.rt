@@ -1,32 +1,30 @@
 //! From the bytes of a policy to what its members say.
-ghost use Rattle.std.specs.Prelude.{◌≡◌, ◌≢◌, ◌≤◌, ℕ, ◌++◌, [], length, codes, OnOk, IfOk, IfErr, MatchOption, Ok, Err, Some, None, not, option_map, option_and_then};
-ghost use Rattle.std.specs.List.{find};
+ghost use Rattle.std.specs.Prelude.{◌≡◌, ◌≢◌, ◌≤◌, ℕ, ◌++◌, [], length, codes, OnOk, IfOk, IfErr, MatchOption, Ok, Err, Some, None, not, bytes_eq, option_map, option_and_then};
+ghost use Rattle.std.specs.List.{find, list_any};
 ghost use Rattle.serde_json.specs.Find.{get, as_str, as_object};
 ghost use Rattle.serde_json.specs.View.{view, items_view, members_view};
+ghost use Rattle.ff_value.specs.Kinds.{word_of};
 ghost use Rattle.ff_policy.specs.Members as spec;
 ghost use Rattle.ff_policy.specs.Members.{required, optional, is_among, keys_of, first_other, other_kind, member_names, kind_names, is_version_one, known, shaped};
 ghost use Rattle.ff_policy.specs.Naming.{AreApart};
 ghost use Rattle.ff_policy.specs.Reading.{IsValueOf, IsFault};
 
+use crate::kinds::KINDS;
+use crate::limits::{MOST_POLICY_BYTES, USUAL_FUEL};
 use crate::plan::{Named, Plan};
 use crate::{NoMemory, PolicyFault};
 use ff_lattice::Pair;
-use ff_name::Text;
+use ff_name::{Text, Worded};
+use ff_value::Kind;
 use serde_json::{Map, Value};
 use std::alloc::Global;
 
-/// The most bytes that a policy may have.
-const MOST_BYTES: usize = 65_536;
-
-/// The fuel where none is given.
-const USUAL_FUEL: u64 = 10_000;
-
 /// The JSON value that the bytes are.
 pub(crate) fn value_of(alloc: Global, bytes: &[u8]) -> Result<Value, PolicyFault>
-    ensures ok { IfOk result (λ value. (length bytes.now ≤ 65536) × IsValueOf bytes.now (view value)) }
+    ensures ok { IfOk result (λ value. (length bytes.now ≤ MOST_POLICY_BYTES) × IsValueOf bytes.now (view value)) }
     ensures fault { IfErr result (λ fault. fault ≢ PolicyFault.NoMemory → IsFault bytes.now fault) }
 {
-    if bytes.len() > MOST_BYTES {
+    if bytes.len() > MOST_POLICY_BYTES {
         return Err(PolicyFault::TooLarge);
     }
     match Value::from_slice(alloc, bytes) {
@@ -66,7 +64,7 @@ fn check_known(alloc: Global, value: &Value) -> Result<(), PolicyFault>
     ensures fault { IfErr result (λ fault. fault ≢ PolicyFault.NoMemory → known (view value.now) ≡ Err fault) }
 {
     if let Some(name) = other_member(value) {
-        return Err(PolicyFault::UnknownField(text_of(alloc, name)?));
+        return Err(PolicyFault::UnknownField(Text::of_str(alloc, name)?));
     }
     if let Some(kind) = other_kind(value) {
         return Err(PolicyFault::UnknownField(joined(alloc, "kinds.", kind)?));
@@ -141,23 +139,18 @@ fn is_member(name: &str) -> bool
         || name == "fuel"
 }
 
-/// Whether this is a kind of input that a user makes.
+/// Whether this is the word of a kind of input that a user makes.
 fn is_kind(name: &str) -> bool
     ensures { result ≡ is_among kind_names name.now }
 {
-    name == "open"
-        || name == "go"
-        || name == "link"
-        || name == "close"
-        || name == "type"
-        || name == "click"
+    has_word(&KINDS, name)
 }
 
-/// The text.
-pub(crate) fn text_of(alloc: Global, text: &str) -> Result<Text, NoMemory>
-    ensures { IfOk result (λ copy. copy ≡ text.now) }
+/// Whether one of the kinds has this word.
+fn has_word(kinds: &[Kind], word: &str) -> bool
+    ensures { result ≡ list_any (λ kind. bytes_eq word.now (word_of kind)) kinds.now }
 {
-    Text::of_utf8(alloc, text.as_bytes())
+    kinds.iter().any(|kind| word == kind.word())
 }
 
 /// A text of two parts.
@@ -166,7 +159,7 @@ pub(crate) fn joined(alloc: Global, head: &str, tail: &str) -> Result<Text, NoMe
 {
     let mut text = String::from_str(alloc, head)?;
     text.push_str(tail)?;
-    text_of(alloc, text.as_str())
+    Text::of_str(alloc, text.as_str())
 }
 
 /// What the members say, in the order in which their shapes are checked.
@@ -200,7 +193,7 @@ fn shape_of<T: Drop>(alloc: Global, name: &str, found: Option<T>) -> Result<T, P
 {
     match found {
         Some(found) => Ok(found),
-        None => Err(PolicyFault::BadShape(text_of(alloc, name)?)),
+        None => Err(PolicyFault::BadShape(Text::of_str(alloc, name)?)),
     }
 }
 
@@ -234,8 +227,8 @@ fn text_in(alloc: Global, value: &Value, name: &str) -> Result<Text, PolicyFault
     ensures fault { IfErr result (λ fault. fault ≢ PolicyFault.NoMemory → required as_str name.now (view value.now) ≡ Err fault) }
 {
     match value.get(name).and_then(Value::as_str) {
-        Some(text) => Ok(text_of(alloc, text)?),
-        None => Err(PolicyFault::BadShape(text_of(alloc, name)?)),
+        Some(text) => Ok(Text::of_str(alloc, text)?),
+        None => Err(PolicyFault::BadShape(Text::of_str(alloc, name)?)),
     }
 }
 
@@ -254,8 +247,8 @@ fn named_in(alloc: Global, value: &Value, name: &str) -> Result<Vec<Named>, Poli
 
 /// The fuel.
 fn fuel_in(alloc: Global, value: &Value) -> Result<u64, PolicyFault>
-    ensures ok { IfOk result (λ fuel. optional 10000 spec.whole (codes "fuel") (view value.now) ≡ Ok fuel) }
-    ensures fault { IfErr result (λ fault. fault ≢ PolicyFault.NoMemory → optional 10000 spec.whole (codes "fuel") (view value.now) ≡ Err fault) }
+    ensures ok { IfOk result (λ fuel. optional USUAL_FUEL spec.whole (codes "fuel") (view value.now) ≡ Ok fuel) }
+    ensures fault { IfErr result (λ fault. fault ≢ PolicyFault.NoMemory → optional USUAL_FUEL spec.whole (codes "fuel") (view value.now) ≡ Err fault) }
 {
     let fuel = match value.get("fuel") {
         None => Some(USUAL_FUEL),
@@ -281,7 +274,7 @@ fn texts_of(alloc: Global, items: &[Value]) -> Result<Option<Vec<Text>>, NoMemor
     for item in items {
         match item.as_str() {
             None => return Ok(None),
-            Some(text) => texts.push(text_of(alloc, text)?)?,
+            Some(text) => texts.push(Text::of_str(alloc, text)?)?,
         }
     }
     Ok(Some(texts))
@@ -352,8 +345,8 @@ fn named_of(alloc: Global, members: &Map<String, Value>) -> Result<Option<Vec<Na
         match value.as_str() {
             None => return Ok(None),
             Some(level) => named.push(Named {
-                key: text_of(alloc, key.as_str())?,
-                level: text_of(alloc, level)?,
+                key: Text::of_str(alloc, key.as_str())?,
+                level: Text::of_str(alloc, level)?,
             })?,
         }
     }

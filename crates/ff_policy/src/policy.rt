@@ -1,7 +1,8 @@
-ghost use Rattle.std.specs.Prelude.{◌≡◌, ◌≢◌, ◌⊎◌, ◌<◌, ℕ, List, Option, Some, None, IfOk, IfErr, IsErrOf, Ok, Err};
+ghost use Rattle.std.specs.Prelude.{◌≡◌, ◌≢◌, ◌<◌, IfOk, IfErr, Ok, Err};
+ghost use Rattle.ff_contract.specs.Answering.{Answers};
 ghost use Rattle.ff_lattice.specs.Levels.{IsLatticeOf};
-ghost use Rattle.ff_lattice.specs.Order.{size, IsOrder};
-ghost use Rattle.ff_policy.specs.Assignment.{Assignment, IsDraft, IsAssignment, IsTag, builtin};
+ghost use Rattle.ff_lattice.specs.Order.{size, IsOrder, IsTag};
+ghost use Rattle.ff_policy.specs.Assignment.{Assignment, IsDraft, IsAssignment, builtin};
 ghost use Rattle.ff_policy.specs.Assignment as spec;
 ghost use Rattle.ff_policy.specs.Reading.{IsLevelsFault, Checks, Names, Orders, Says, IsPolicyOf, IsFault};
 ghost use Rattle.serde_json.specs.View.{view};
@@ -9,6 +10,7 @@ ghost use Rattle.serde_json.specs.View.{view};
 use crate::draft::Draft;
 use crate::key::{Key, level_of};
 use crate::kinds::Kinds;
+use crate::limits::USUAL_FUEL;
 use crate::members::{plan_in, value_of};
 use crate::naming::assigned;
 use crate::plan::Plan;
@@ -54,7 +56,7 @@ impl Policy {
             other: Level(0),
             domains: Vec::new(alloc),
             kinds: Kinds::all(Level(0)),
-            fuel: 10_000,
+            fuel: USUAL_FUEL as u32,
         })
     }
 
@@ -63,10 +65,10 @@ impl Policy {
     /// a name that is no level's; a key that is neither a domain nor a dot followed by one; a fuel of 0 or over 1,000,000. Want
     /// of memory may come in place of any of these.
     pub fn read(alloc: Global, bytes: &[u8]) -> Result<Policy, PolicyFault>
-        ensures ok { IfOk result (IsPolicyOf bytes.now) }
+        ensures found { IfOk result (IsPolicyOf bytes.now) }
         ensures fault { IfErr result (λ fault. fault ≢ PolicyFault.NoMemory → IsFault bytes.now fault) }
-        ensures accepts { (policy : Assignment) → IsPolicyOf bytes.now policy → (result ≡ Ok policy) ⊎ (result ≡ Err PolicyFault.NoMemory) }
-        ensures only { (fault : PolicyFault) → IsFault bytes.now fault → IsErrOf result fault ⊎ IsErrOf result PolicyFault.NoMemory }
+        ensures only { (policy : Assignment) → IsPolicyOf bytes.now policy → Answers result (Ok policy) (Err PolicyFault.NoMemory) }
+        ensures exact { (fault : PolicyFault) → IsFault bytes.now fault → Answers result (Err fault) (Err PolicyFault.NoMemory) }
     {
         Policy::first_read(alloc, bytes)
     }
@@ -105,16 +107,16 @@ impl Policy {
         ensures fault { IfErr result (λ fault. fault ≢ PolicyFault.NoMemory → Names lattice plan (Err fault)) }
     {
         let draft = assigned(alloc, lattice, plan)?;
-        Policy::of_draft(alloc, draft)
+        Policy::of_draft(draft)
     }
 
     /// The policy of a draft.
-    fn of_draft(alloc: Global, draft: Draft) -> Result<Policy, PolicyFault>
+    fn of_draft(draft: Draft) -> Result<Policy, PolicyFault>
         requires { IsDraft draft }
         ensures ok { IfOk result (λ policy. Checks draft (Ok policy)) }
         ensures fault { IfErr result (λ fault. fault ≢ PolicyFault.NoMemory → Checks draft (Err fault)) }
     {
-        draft.check_keys(alloc)?;
+        draft.check_keys()?;
         if !draft.has_fuel() {
             return Err(PolicyFault::BadFuel);
         }

@@ -1,5 +1,5 @@
 -- The levels of a policy fit a multi-executed run.
-use Rattle.std.proofs.Common.{◌≡◌, ◌≢◌, ℕ, suc, ◌+◌, ◌<◌, List, [], ◌∷◌, ◌++◌, length, get_or, map, Bool, true, false, cond, Option, Some, None, refl, sym, ap, subst, ◌∙◌, arith}
+use Rattle.std.proofs.Common.{◌≡◌, ◌≢◌, ℕ, suc, ◌+◌, ◌<◌, List, [], ◌∷◌, ◌++◌, map, Bool, true, false, cond, Option, Some, None, refl, sym, ap, subst, ◌∙◌, arith}
 use Rattle.std.specs.Option.{option_and_then}
 use Rattle.std.proofs.lemmas.Bool.{true≢false}
 use Rattle.std.proofs.lemmas.Option.{cond_some}
@@ -7,13 +7,13 @@ use Rattle.std.proofs.lemmas.List.{map-append}
 use Rattle.std.proofs.lemmas.List.Elements.{All-from_get_or}
 use Rattle.ff_reactive.specs.Copies.{below}
 use Rattle.ff_reactive.specs.Laws.{IsWord}
-use Rattle.ff_lattice.specs.Order.{Order, size, leq, name}
+use Rattle.ff_lattice.specs.Order.{size, leq, name}
 use Rattle.ff_lattice.proofs.Callers.{name_graphic}
 use Rattle.ff_value.specs.declared.input.Input.{Input}
 use Rattle.ff_value.specs.declared.output.Out.{Out}
 use Rattle.ff_policy.specs.Assignment.{Assignment, IsAssignment, level_in, level_out}
 use Rattle.ff_policy.proofs.Within.{level_out_within}
-use Rattle.ff_route.specs.Route.{IsTagged, sees, offers, the_levels}
+use Rattle.ff_route.specs.Route.{IsTagged, sees}
 
 module _ (policy : Assignment) where
   -- what is seen of an input is the input

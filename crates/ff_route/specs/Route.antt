@@ -1,10 +1,10 @@
 -- What each level sees of an input, and the levels of a policy as those of a multi-executed run.
 use Rattle.std.specs.Prelude.{ℕ, cond, Option, Some, None, List, map}
 use Rattle.ff_reactive.specs.Copies.{Levels, below}
-use Rattle.ff_lattice.specs.Order.{Order, size, leq, name}
+use Rattle.ff_lattice.specs.Order.{Order, size, leq, name, IsTag}
 use Rattle.ff_value.specs.declared.input.Input.{Input}
 use Rattle.ff_value.specs.declared.output.Out.{Out}
-use Rattle.ff_policy.specs.Assignment.{Assignment, IsTag, level_in, level_out}
+use Rattle.ff_policy.specs.Assignment.{Assignment, level_in, level_out}
 
 -- the input's tag, where it has one, is a level
 abbrev pub IsTagged : Order → Input → Type 0

@@ -6,12 +6,9 @@ mod route;
 #[cfg(test)]
 mod tests;
 
+pub use ff_name::NoMemory;
 pub use law::{
     a_lower_level_sees_no_more, each_output_has_a_level, names_tell_levels_apart,
     what_is_seen_is_the_input,
 };
 pub use route::{keep, offers, sees};
-use std::alloc::AllocError;
-
-/// The answer of a call that found no memory.
-pub type NoMemory = AllocError;

@@ -1,4 +1,4 @@
-ghost use Rattle.std.specs.Prelude.{◌≡◌, ◌<◌, ◌↔◌, IfOk, IsTrue};
+ghost use Rattle.std.specs.Prelude.{◌≡◌, ◌<◌, ◌↔◌, None, Ok, IfOk, IsTrue};
 ghost use Rattle.ff_lattice.specs.Order.{size};
 ghost use Rattle.ff_policy.specs.Assignment.{level_out};
 ghost use Rattle.ff_route.specs.Route as spec;
@@ -11,12 +11,14 @@ use ff_value::{Input, Offers, Out};
 use std::alloc::Global;
 
 /// What the level sees of an input: the input, its tag too, where the input's level is at or below that level, and else
-/// nothing. Its one refusal is a count of owners that is full.
+/// nothing. Its one refusal is a count of owners that is full, where the input is seen.
 #[tactic(auto, unfolding(crate::specs::Route::sees))]
 pub fn sees(policy: &Policy, l: Level, input: &Input) -> Result<Option<Input>, NoMemory>
     requires level { l.0 < size policy.now.order }
     requires tag { IsTagged policy.now.order input.now }
-    ensures { IfOk result (λ seen. seen ≡ sees policy.now l.0 input.now) }
+    ensures value { IfOk result (λ seen. seen ≡ sees policy.now l.0 input.now) }
+    // What isn't seen is answered without memory.
+    ensures unseen { sees policy.now l.0 input.now ≡ None → result ≡ Ok None }
 {
     let level = policy.level_in(input);
     if policy.lattice().leq(level, l) {

@@ -1,9 +1,8 @@
 //! What the levels of the built-in policy see of an input, and what they let out.
-ghost use Rattle.std.specs.Prelude.{◌≡◌, ◌<◌};
 ghost use Rattle.ff_policy.specs.Assignment.{builtin};
 ghost use Rattle.ff_route.specs.Route.{IsTagged};
 
-use crate::{NoMemory, keep, offers, sees};
+use crate::{keep, offers, sees};
 use ff_name::{Level, Url};
 use ff_policy::Policy;
 use ff_value::{Act, Input, Offers, Out};
@@ -19,28 +18,19 @@ fn opening() -> Input
     }
 }
 
-/// Whether the level sees the input with the tag of `H`.
-fn is_seen(policy: &Policy, l: Level) -> Result<bool, NoMemory>
-    requires policy { policy.now ≡ builtin }
-    requires level { l.0 < 2 }
-{
-    let seen = sees(policy, l, &opening())?;
-    Ok(seen.is_some())
-}
-
 #[test]
 fn a_tag_hides_an_input_from_below(rt: HostRuntime) -> Result<(), Fail> {
     let policy = Policy::builtin(rt.alloc())?;
-    let low = is_seen(&policy, Level(0))?;
-    let high = is_seen(&policy, Level(1))?;
-    assert!(rt; high & !low);
+    let low = sees(&policy, Level(0), &opening())?;
+    let high = sees(&policy, Level(1), &opening())?;
+    assert!(rt; low.is_none() && high == Some(opening()));
     Ok(())
 }
 
-/// Whether the second of two levels alone is offered something.
+/// Whether the second of two levels alone is offered something, the input as it is.
 fn high_alone(offers: &Offers) -> bool {
     match offers.as_slice() {
-        [None, Some(_)] => true,
+        [None, Some(input)] => *input == opening(),
         _ => false,
     }
 }

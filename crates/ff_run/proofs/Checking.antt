@@ -5,7 +5,7 @@ use Rattle.std.proofs.lemmas.List.Concat.{flat_map-cons}
 use Rattle.std.proofs.lemmas.List.Elements.{filter-append}
 use Rattle.ff_reactive.specs.Copies.{below}
 use Rattle.ff_lattice.specs.Order.{Order, size, leq, name}
-use Rattle.ff_run.specs.Execution.{level_line, check_text}
+use Rattle.ff_run.specs.Checked.{level_line, check_text}
 
 abbrev named : Order → ℕ → List ℕ
 named order k = 32 ∷ name order k

@@ -1,14 +1,6 @@
 pub mod Checking
+pub mod Writing
 pub mod Commands
-pub mod Cuts
-pub mod Ends
-pub mod Executing
-pub mod Feeding
 pub mod Finding
-pub mod Headline
-pub mod Inputs
-pub mod Judging
-pub mod Lawful
 pub mod Obeying
-pub mod Printing
-pub mod Unique
+pub mod Headline

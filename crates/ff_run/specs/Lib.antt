@@ -1,8 +1,5 @@
-pub mod Execution
-pub mod Levels
-pub mod Obeyed
-pub mod Policies
-pub mod Run
-pub mod Status
-pub mod Trace
 pub mod Words
+pub mod Policies
+pub mod Status
+pub mod Checked
+pub mod Run

@@ -1,124 +1,58 @@
--- What a run does to its port: the bytes that it got, the bytes that it put, and how they belong together.
-use Rattle.std.specs.Prelude.{◌≡◌, ℕ, ◌+◌, ◌⊎◌, Bool, true, false, Option, Some, None, List, [], length, ⊤}
-use Rattle.ff_io.specs.Pieces.{Piece, got_of, put_of, has_end, AllPut}
-use Rattle.ff_io.specs.Port.{Adds, Leaves, AtEnd}
-use Rattle.ff_io.specs.Fronts.{IsProperFront}
-use Rattle.ff_io.specs.Shelf.{Files}
-use Rattle.ff_lattice.specs.Order.{Order}
+-- What a run does, by its command and its status.
+use Rattle.std.specs.Prelude.{◌≡◌, ◌≢◌, ◌⊎◌, ℕ, List, String}
+use Rattle.std.proofs.Common.{Global}
+use Rattle.ff_io.specs.Counts.{Rose}
+use Rattle.ff_io.specs.Port.{Told, SinkTold}
+use Rattle.ff_io.specs.Shelf.{ShelfTold}
 use Rattle.ff_value.specs.declared.input.Input.{Input}
-use Rattle.ff_policy.specs.Assignment.{Assignment, IsAssignment}
-use Rattle.ff_run.specs.Execution.{Owes, check_text}
-use Rattle.ff_run.specs.Policies.{NamesPolicy}
-use Rattle.ff_run.specs.Words.{Asks}
-use Rattle.ff_run.specs.Trace.{IsTrace}
-use Rattle.ff_run.specs.declared.words.Command.{Command}
-use Rattle.ff_run.specs.declared.words.Command.TheVariants as command
-use Rattle.ff_run.specs.declared.execute.BadLine.{BadLine}
-use Rattle.ff_run.specs.declared.words.Work.{Work}
-use Rattle.ff_run.specs.declared.words.Work.TheVariants as work
+use Rattle.ff_policy.specs.Assignment.{Assignment}
+use Rattle.ff_session.specs.Works.{Exchanged, Claims}
+use Rattle.ff_session.specs.declared.work.Work.TheVariants.{Multi}
+use Rattle.ff_status.specs.Putting.{Reported}
 use Rattle.ff_status.specs.declared.status.Status.{Status}
 use Rattle.ff_status.specs.declared.status.Status.TheVariants.{Done, Usage, Policy, Trace, ReadFault, WriteFault, ShelfFault, NoMemory}
-use Rattle.ff_status.specs.declared.status.TraceFault.{TraceFault}
+use Rattle.ff_run.specs.Words.{AreCommand, dash}
+use Rattle.ff_run.specs.Policies.{NamesFault, FetchFailed, Under}
+use Rattle.ff_run.specs.Checked.{Checks}
+use Rattle.ff_run.specs.declared.words.Command.{Command}
+use Rattle.ff_run.specs.declared.words.Command.TheVariants as command
 
--- The port's log, where it is told, gained pieces of which this holds: of the bytes got, of the bytes put, and of whether the
--- end was seen. The bytes that were still to come, where they are told, were those got and then those to come now, of which
--- there are none where the end was seen.
-pub record Exchanged (log_before log_now : Option (List Piece)) (rest_before rest_now : Option (List ℕ)) (holds : List ℕ → List ℕ → Bool → Type 0) : Type 0 where
-  pub pieces : List Piece
-  pub added : Adds log_before log_now pieces
-  pub left : Leaves rest_before rest_now (got_of pieces)
-  pub at_end : AtEnd pieces rest_now
-  pub held : holds (got_of pieces) (put_of pieces) (has_end pieces)
+-- the words are no command at `Usage`, and a command at each other status
+abbrev pub Suits : Status → List (String Global) → Type 0
+Suits Usage words = ¬ AreCommand words
+Suits other words = AreCommand words
 
--- This holds of the policy that the name stands for.
-pub record Under (files : Option Files) (name : List ℕ) (holds : Assignment → Type 0) : Type 0 where
-  pub policy : Assignment
-  pub named : NamesPolicy files name policy
-  pub valid : IsAssignment policy
-  pub held : holds policy
+-- what a command does under a policy
+abbrev pub Performs : Command → Assignment → Told → Told → ℕ → ℕ → Status → Type 0
+Performs command.Check p before now turns_before turns_now status = Checks p.order before now turns_before turns_now status
+Performs (command.Trace work) p before now turns_before turns_now status = Exchanged work p before now turns_before turns_now status
 
--- Some text is owed for the trace, and only a proper front of it was put.
-pub record IsPart (work : Work) (p : Assignment) (trace put : List ℕ) : Type 0 where
-  pub text : List ℕ
-  pub bad : Option BadLine
-  pub owed : Owes work p trace text bad
-  pub front : IsProperFront put text
+-- Nothing was got or put, no call failed, and no turn was made.
+pub record IsUntouched (before now : Told) (turns_before turns_now : ℕ) : Type 0 where
+  pub port : now ≡ before
+  pub turns : turns_now ≡ turns_before
 
--- The trace was read to its end, or to the byte past the limit.
-abbrev pub IsReadThrough : List ℕ → Bool → Type 0
-IsReadThrough got ended = ended ≡ false → length got ≡ 16777217
+-- What a command under the policy of this name does, by the status: nothing before the policy is accepted.
+abbrev pub Obeys : Command → List ℕ → ShelfTold → ShelfTold → Told → Told → ℕ → ℕ → Status → Type 0
+Obeys command name shelf shelf_now before now turns_before turns_now Usage = ⊥
+-- the file of this name is no policy
+Obeys command name shelf shelf_now before now turns_before turns_now (Policy fault) = NamesFault shelf name fault × IsUntouched before now turns_before turns_now
+-- a fetch of it failed
+Obeys command name shelf shelf_now before now turns_before turns_now ShelfFault = (name ≢ dash) × FetchFailed name shelf shelf_now × IsUntouched before now turns_before turns_now
+-- memory was refused before the policy was accepted, or after
+Obeys command name shelf shelf_now before now turns_before turns_now NoMemory = IsUntouched before now turns_before turns_now ⊎ Under shelf name (λ p. Performs command p before now turns_before turns_now NoMemory)
+Obeys command name shelf shelf_now before now turns_before turns_now status = Under shelf name (λ p. Performs command p before now turns_before turns_now status)
 
--- nothing was got and nothing was put
-pub record IsNothing (got put : List ℕ) (ended : Bool) : Type 0 where
-  pub no_got : got ≡ []
-  pub no_put : put ≡ []
-  pub no_end : ended ≡ false
+-- under the policy of this name, this claim holds of the inputs that the bytes got give a multi-executed run, and of the bytes put
+abbrev pub ClaimsUnder : ShelfTold → List ℕ → Told → Told → (Assignment → List Input → List ℕ → Type 0) → Type 0
+ClaimsUnder shelf name before now claim = Under shelf name (λ p. Claims Multi p before now (claim p))
 
--- What is written where inputs are taken from a trace, by the status.
-abbrev pub IsTraceWritten : Work → Assignment → Status → List ℕ → List ℕ → Bool → Type 0
--- the whole text of a trace that was read to its end and has no bad line
-IsTraceWritten work p Done got put ended = (ended ≡ true) × Owes work p got put None
--- the text up to the first bad line
-IsTraceWritten work p (Trace number fault) got put ended = IsReadThrough got ended × Owes work p got put (Some (record { number = number; fault = fault }))
--- some of the text, but not all
-IsTraceWritten work p WriteFault got put ended = IsPart work p got put
--- nothing
-IsTraceWritten work p ReadFault got put ended = put ≡ []
-IsTraceWritten work p NoMemory got put ended = put ≡ []
-IsTraceWritten work p _ got put ended = ⊥
+-- Nothing failed: no fetch of the file of this name, no read and no write.
+pub record NothingFailed (name : List ℕ) (shelf shelf_now : ShelfTold) (before now : Told) : Type 0 where
+  pub fetches : ¬ FetchFailed name shelf shelf_now
+  pub reads : ¬ Rose before.read_faults now.read_faults
+  pub writes : ¬ Rose before.write_faults now.write_faults
 
--- What is written where the policy alone is asked about, by the status. Nothing is read.
-pub record IsChecked (order : Order) (got put : List ℕ) (ended : Bool) (holds : List ℕ → List ℕ → Type 0) : Type 0 where
-  pub no_got : got ≡ []
-  pub no_end : ended ≡ false
-  pub held : holds put (check_text order)
-
-abbrev pub IsCheckWritten : Order → Status → List ℕ → List ℕ → Bool → Type 0
-IsCheckWritten order Done got put ended = IsChecked order got put ended (λ put text. put ≡ text)
-IsCheckWritten order WriteFault got put ended = IsChecked order got put ended IsProperFront
-IsCheckWritten order NoMemory got put ended = IsNothing got put ended
-IsCheckWritten order _ got put ended = ⊥
-
-abbrev pub IsWrittenBy : Command → Assignment → Status → List ℕ → List ℕ → Bool → Type 0
-IsWrittenBy command.Check p status got put ended = IsCheckWritten p.order status got put ended
-IsWrittenBy (command.Trace work) p status got put ended = IsTraceWritten work p status got put ended
-
--- What is written under the policy of this name, by the status: nothing before the policy is accepted.
-abbrev pub IsWritten : Option Files → Command → List ℕ → Status → List ℕ → List ℕ → Bool → Type 0
-IsWritten files command name Usage got put ended = ⊥
-IsWritten files command name (Policy fault) got put ended = IsNothing got put ended
-IsWritten files command name ShelfFault got put ended = IsNothing got put ended
-IsWritten files command name NoMemory got put ended = put ≡ []
-IsWritten files command name status got put ended = Under files name (λ p. IsWrittenBy command p status got put ended)
-
--- The claim holds of the inputs that the trace gives, up to its first bad line.
-abbrev pub OfInputs : Work → Assignment → List ℕ → (List Input → Type 0) → Type 0
-OfInputs work p trace claim = (is : List Input) (bad : Option BadLine) → IsTrace work p.order trace is bad → claim is
-
--- What was put of a text, by the status of a run whose trace has this first bad line.
-abbrev pub IsPut : Status → List ℕ → List ℕ → Option BadLine → Type 0
-IsPut Done put text bad = (put ≡ text) × (bad ≡ None)
-IsPut (Trace number fault) put text bad = (put ≡ text) × (bad ≡ Some (record { number = number; fault = fault }))
-IsPut WriteFault put text bad = IsProperFront put text
-IsPut _ put text bad = ⊥
-
--- The port's log gained writes of the text.
-pub record Wrote (log_before log_now : Option (List Piece)) (text : List ℕ) (bad : Option BadLine) (status : Status) : Type 0 where
-  pub pieces : List Piece
-  pub added : Adds log_before log_now pieces
-  pub all_put : AllPut pieces
-  pub is_put : IsPut status (put_of pieces) text bad
-
--- The same, or there was no memory, and nothing was put.
-abbrev pub IsWrittenOrNone : Command → Assignment → Status → List ℕ → List ℕ → Bool → Type 0
-IsWrittenOrNone command p NoMemory got put ended = put ≡ []
-IsWrittenOrNone command p status got put ended = IsWrittenBy command p status got put ended
-
--- the command has no use for turns
-abbrev pub NeedsNoTurns : Command → Type 0
-NeedsNoTurns command.Check = ⊤
-NeedsNoTurns (command.Trace what) = what ≡ work.Format
-
--- A run over bytes that have a first bad line ends with that line, or for want of memory.
-abbrev pub EndsAtBadLine : Work → Assignment → Status → List ℕ → Type 0
-EndsAtBadLine work p status got = (is : List Input) (bad : BadLine) → IsTrace work p.order got is (Some bad) → (status ≡ Trace bad.number bad.fault) ⊎ (status ≡ NoMemory)
+-- a front of the line was put on a sink, and all of it where no write failed
+abbrev pub Reports : SinkTold → SinkTold → List ℕ → Type 0
+Reports before now line = Reported before.put now.put before.faults now.faults line

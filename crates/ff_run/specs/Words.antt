@@ -1,25 +1,27 @@
 -- The words of the command line.
-use Rattle.std.specs.Prelude.{◌≡◌, ◌≢◌, ℕ, List, [], ◌∷◌, codes}
+use Rattle.std.specs.Prelude.{◌≡◌, ◌≢◌, ℕ, List, [], ◌∷◌, map, codes, String, string_bytes}
+use Rattle.std.proofs.Common.{Global}
+use Rattle.ff_session.specs.declared.work.Work.TheVariants.{Multi, Plain, Format}
 use Rattle.ff_run.specs.declared.words.Command.{Command}
 use Rattle.ff_run.specs.declared.words.Command.TheVariants.{Check, Trace}
-use Rattle.ff_run.specs.declared.words.Work.TheVariants.{Multi, Format}
 
 -- the word of a command
 abbrev pub word_of : Command → List ℕ
 word_of Check = codes "check"
 word_of (Trace Multi) = codes "multi"
+word_of (Trace Plain) = codes "plain"
 word_of (Trace Format) = codes "fmt"
 
--- the words ask for the command, under the policy of this name
-pub record Asks (words : List (List ℕ)) (command : Command) (policy : List ℕ) : Type 0 where
-  pub words_are : words ≡ word_of command ∷ policy ∷ []
-  pub named : policy ≢ []
+-- The words ask for the command, under the policy of this name.
+pub record Asks (words : List (String Global)) (command : Command) (name : List ℕ) : Type 0 where
+  pub words_are : map string_bytes words ≡ word_of command ∷ name ∷ []
+  pub named : name ≢ []
 
--- the words are a command
-pub record AreCommand (words : List (List ℕ)) : Type 0 where
+-- The words are a command.
+pub record AreCommand (words : List (String Global)) : Type 0 where
   pub command : Command
-  pub policy : List ℕ
-  pub asks : Asks words command policy
+  pub name : List ℕ
+  pub asks : Asks words command name
 
 -- the name of the built-in policy
 abbrev pub dash : List ℕ

@@ -1,15 +1,30 @@
 ghost use Rattle.std.specs.Prelude.{◌≡◌, ◌<◌, [], ◌∷◌, ◌++◌, IfOk, OnOk, cond, filter, flat_map};
 ghost use Rattle.ff_reactive.specs.Copies.{below};
 ghost use Rattle.ff_lattice.specs.Order.{leq, name, size};
-ghost use Rattle.ff_run.specs.Execution.{check_text, level_line};
+ghost use Rattle.ff_run.specs.Checked.{IsListed, check_text, level_line};
 
+use ff_io::{Port, put_all};
 use ff_lattice::Lattice;
 use ff_name::Level;
+use ff_status::Status;
 use std::alloc::{AllocError, Global};
+
+/// Writes for each level which levels it sees. The port is never read.
+pub(crate) fn check<P: Port>(alloc: Global, lattice: &Lattice, port: &mut P) -> Status
+    ensures { IsListed lattice.now (P.told port.old) (P.told port.new) result }
+{
+    let Ok(text) = levels_seen(alloc, lattice) else {
+        return Status::NoMemory;
+    };
+    match put_all(port, text.as_slice()) {
+        Ok(()) => Status::Done,
+        Err(_) => Status::WriteFault,
+    }
+}
 
 /// The text for a policy alone: a line for each level in order, with the names of the levels that it sees.
 #[tactic(auto, using(crate::proofs::Checking::lines_start, crate::proofs::Checking::lines_more, crate::proofs::Checking::lines_done))]
-pub(crate) fn levels_seen(alloc: Global, lattice: &Lattice) -> Result<Vec<u8>, AllocError>
+fn levels_seen(alloc: Global, lattice: &Lattice) -> Result<Vec<u8>, AllocError>
     ensures { IfOk result (λ text. text.items ≡ check_text lattice.now) }
 {
     let mut text = Vec::new(alloc);
@@ -18,7 +33,6 @@ pub(crate) fn levels_seen(alloc: Global, lattice: &Lattice) -> Result<Vec<u8>, A
     }
     Ok(text)
 }
-
 /// Appends the line of a level.
 fn print_level_line(lattice: &Lattice, level: Level, text: &mut Vec<u8>) -> Result<(), AllocError>
     requires { level.0 < size lattice.now }

@@ -10,8 +10,8 @@ use ff_policy::{Policy, PolicyFault};
 use ff_status::Status;
 use std::alloc::Global;
 
-/// How many bytes of a policy's file are fetched: one more than a policy may have.
-const FETCH_LIMIT: usize = 65_537;
+/// How many bytes of a policy's file count: one more than a policy may have.
+const MOST_FETCHED: usize = 65_537;
 
 /// The policy of this name: the built-in one where it is `-`, and else that of the file on the shelf. The shelf isn't called
 /// for `-`.
@@ -25,11 +25,10 @@ pub(crate) fn find_policy<S: Shelf>(
     shelf: &mut S,
     name: &str,
 ) -> Result<Policy, Status>
-    ensures named { IfOk result (NamesPolicy (S.files shelf.old) name.now) }
-    ensures refused { IfErr result (Refuses (S.files shelf.old) name.now (S.faults shelf.old name.now) (S.faults shelf.new name.now)) }
-    ensures accepts { (p : Assignment) → IsKnown (S.files shelf.old) name.now → NamesPolicy (S.files shelf.old) name.now p → (result ≡ Ok p) ⊎ IsOutside result }
-    ensures only { (fault : PolicyFault) → IsKnown (S.files shelf.old) name.now → NamesFault (S.files shelf.old) name.now fault → (result ≡ Err (Status.Policy fault)) ⊎ IsOutside result }
-    ensures files { S.files shelf.new ≡ S.files shelf.old }
+    ensures named { IfOk result (NamesPolicy (S.told shelf.old) name.now) }
+    ensures refused { IfErr result (Refuses (S.told shelf.old) (S.told shelf.new) name.now) }
+    ensures only { (p : Assignment) → IsKnown (S.told shelf.old) name.now → NamesPolicy (S.told shelf.old) name.now p → (result ≡ Ok p) ⊎ IsOutside result }
+    ensures exact { (fault : PolicyFault) → IsKnown (S.told shelf.old) name.now → NamesFault (S.told shelf.old) name.now fault → (result ≡ Err (Status.Policy fault)) ⊎ IsOutside result }
     ensures untouched { name.now ≡ dash → shelf.new ≡ shelf.old }
 {
     if name == "-" {
@@ -43,16 +42,15 @@ pub(crate) fn find_policy<S: Shelf>(
 }
 
 /// The policy of the file of this name.
-#[tactic(auto, using(crate::proofs::Finding::refuses_memory, crate::proofs::Finding::refuses_file, crate::proofs::Finding::only_in_file))]
+#[tactic(auto, using(crate::proofs::Finding::refuses_memory, crate::proofs::Finding::only_in_file))]
 fn fetch_policy<S: Shelf>(alloc: Global, shelf: &mut S, name: &str) -> Result<Policy, Status>
     requires { name.now ≢ dash }
-    ensures named { IfOk result (NamesPolicy (S.files shelf.old) name.now) }
-    ensures refused { IfErr result (Refuses (S.files shelf.old) name.now (S.faults shelf.old name.now) (S.faults shelf.new name.now)) }
-    ensures accepts { (p : Assignment) → IsKnown (S.files shelf.old) name.now → NamesPolicy (S.files shelf.old) name.now p → (result ≡ Ok p) ⊎ IsOutside result }
-    ensures only { (fault : PolicyFault) → IsKnown (S.files shelf.old) name.now → NamesFault (S.files shelf.old) name.now fault → (result ≡ Err (Status.Policy fault)) ⊎ IsOutside result }
-    ensures files { S.files shelf.new ≡ S.files shelf.old }
+    ensures named { IfOk result (NamesPolicy (S.told shelf.old) name.now) }
+    ensures refused { IfErr result (Refuses (S.told shelf.old) (S.told shelf.new) name.now) }
+    ensures only { (p : Assignment) → IsKnown (S.told shelf.old) name.now → NamesPolicy (S.told shelf.old) name.now p → (result ≡ Ok p) ⊎ IsOutside result }
+    ensures exact { (fault : PolicyFault) → IsKnown (S.told shelf.old) name.now → NamesFault (S.told shelf.old) name.now fault → (result ≡ Err (Status.Policy fault)) ⊎ IsOutside result }
 {
-    match fetch_front(alloc, shelf, name, FETCH_LIMIT) {
+    match fetch_front(alloc, shelf, name, MOST_FETCHED) {
         Ok(bytes) => read_policy(alloc, bytes.as_slice()),
         Err(FetchFail::Fetch) => Err(Status::ShelfFault),
         Err(FetchFail::NoMemory) => Err(Status::NoMemory),
@@ -64,8 +62,8 @@ fn fetch_policy<S: Shelf>(alloc: Global, shelf: &mut S, name: &str) -> Result<Po
 fn read_policy(alloc: Global, bytes: &[u8]) -> Result<Policy, Status>
     ensures named { IfOk result (IsPolicyOf bytes.now) }
     ensures refused { IfErr result (RefusesBytes bytes.now) }
-    ensures accepts { (p : Assignment) → IsPolicyOf bytes.now p → (result ≡ Ok p) ⊎ (result ≡ Err Status.NoMemory) }
-    ensures only { (fault : PolicyFault) → IsFault bytes.now fault → (result ≡ Err (Status.Policy fault)) ⊎ (result ≡ Err Status.NoMemory) }
+    ensures only { (p : Assignment) → IsPolicyOf bytes.now p → (result ≡ Ok p) ⊎ (result ≡ Err Status.NoMemory) }
+    ensures exact { (fault : PolicyFault) → IsFault bytes.now fault → (result ≡ Err (Status.Policy fault)) ⊎ (result ≡ Err Status.NoMemory) }
 {
     match Policy::read(alloc, bytes) {
         Ok(policy) => Ok(policy),

@@ -1,16 +1,8 @@
-ghost use Rattle.std.specs.Prelude.{◌≡◌, ◌≢◌, map, [], MatchOption};
-ghost use Rattle.std.specs.String.{string_bytes};
+ghost use Rattle.std.specs.Prelude.{◌≡◌, ◌≢◌, [], MatchOption};
 ghost use Rattle.ff_run.specs.Words.{word_of, Asks, AreCommand};
 ghost use Rattle.ff_run.specs.declared.words.Command.{Command};
 
-/// What is done with the inputs of a trace.
-#[derive(Clone, Copy, Debug, PartialEq, Eq)]
-pub enum Work {
-    /// They are multi-executed.
-    Multi,
-    /// Each is written in its canonical form.
-    Format,
-}
+use ff_session::Work;
 
 /// A command, apart from its policy.
 #[derive(Clone, Copy, Debug, PartialEq, Eq)]
@@ -26,21 +18,19 @@ impl Command {
     pub(crate) fn by_word(word: &str) -> Option<Command>
         ensures { MatchOption result ((command : Command) → word_of command ≢ word.now) (λ command. word_of command ≡ word.now) }
     {
-        if word == "multi" {
-            Some(Command::Trace(Work::Multi))
-        } else if word == "check" {
-            Some(Command::Check)
-        } else if word == "fmt" {
-            Some(Command::Trace(Work::Format))
-        } else {
-            None
+        match word {
+            "multi" => Some(Command::Trace(Work::Multi)),
+            "plain" => Some(Command::Trace(Work::Plain)),
+            "check" => Some(Command::Check),
+            "fmt" => Some(Command::Trace(Work::Format)),
+            _ => None,
         }
     }
 }
 
 /// The command that the words ask for and the name of its policy, or `None` where they are no command.
 pub(crate) fn command_of(words: &[String]) -> Option<(Command, &str)>
-    ensures { MatchOption result (¬ AreCommand (map string_bytes words.now)) (λ asked. Asks (map string_bytes words.now) asked.0 asked.1.now) }
+    ensures { MatchOption result (¬ AreCommand words.now) (λ asked. Asks words.now asked.0 asked.1.now) }
 {
     match words {
         [word, policy] => with_policy(word.as_str(), policy.as_str()),

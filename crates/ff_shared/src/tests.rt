@@ -1,4 +1,4 @@
-use crate::{NoMemory, Shared, SharedList};
+use crate::{NoMemory, OwnedList, Shared, SharedList};
 use std::alloc::Global;
 
 /// A type that holds itself through both containers.
@@ -19,11 +19,11 @@ impl Tree {
     }
 }
 
-/// A leaf under `levels` levels, in turn a single value and a list of one.
-fn nested(alloc: Global, leaf: u8, levels: usize) -> Result<Tree, NoMemory> {
+/// A leaf under so many containers, in turn a single value and a list of one.
+fn nested(alloc: Global, leaf: u8, depth: usize) -> Result<Tree, NoMemory> {
     let mut tree = Tree::Leaf(leaf);
-    for level in 0..levels {
-        tree = if level % 2 == 0 {
+    for place in 0..depth {
+        tree = if place % 2 == 0 {
             Tree::Under(Shared::new(alloc, tree)?)
         } else {
             let mut side = Vec::new(alloc);
@@ -46,12 +46,40 @@ fn a_copy_is_equal_and_outlives_what_it_copies(rt: HostRuntime) -> Result<(), No
 #[test]
 fn other_content_is_unequal(rt: HostRuntime) -> Result<(), NoMemory> {
     let seven = nested(rt.alloc(), 7, 64)?;
-    for (leaf, levels, same) in [(7, 64, true), (8, 64, false), (7, 63, false)] {
+    for (leaf, depth, same) in [(7, 64, true), (8, 64, false), (7, 63, false)] {
         assert_eq!(rt;
-            nested(rt.alloc(), leaf, levels)? == seven,
+            nested(rt.alloc(), leaf, depth)? == seven,
             same,
-            "{leaf} under {levels}"
+            "{leaf} under {depth}"
         );
+    }
+    Ok(())
+}
+
+/// A type that holds itself through lists with one owner.
+#[derive(Debug, PartialEq, Eq, Drop)]
+enum Row {
+    Cell(u8),
+    Cells(OwnedList<Row>),
+}
+
+/// A cell in so many lists in one another, each of which has another cell first.
+fn rows(alloc: Global, cell: u8, depth: usize) -> Result<OwnedList<Row>, NoMemory> {
+    let mut row = vec![in alloc; Row::Cell(cell)]?;
+    for _ in 0..depth {
+        let inner = OwnedList::from_vec(row);
+        row = vec![in alloc; Row::Cell(0), Row::Cells(inner)]?;
+    }
+    Ok(OwnedList::from_vec(row))
+}
+
+#[test]
+fn a_list_with_one_owner_is_given_back(rt: HostRuntime) -> Result<(), NoMemory> {
+    for (cell, depth, same) in [(7, 64, true), (8, 64, false), (7, 63, false)] {
+        let list = rows(rt.alloc(), cell, depth)?;
+        let again = OwnedList::from_vec(list.into_vec());
+        let alike = again.len() == 2 && again == rows(rt.alloc(), 7, 64)?;
+        assert_eq!(rt; alike, same, "{cell} in {depth}");
     }
     Ok(())
 }

@@ -9,8 +9,8 @@ use Rattle.ff_status.specs.declared.status.Status.{Status}
 use Rattle.ff_status.specs.declared.status.Status.TheVariants as status
 use Rattle.ff_status.specs.declared.status.TraceFault.{TraceFault}
 use Rattle.ff_status.specs.declared.status.TraceFault.TheVariants as trace
-use Rattle.ff_syntax.specs.declared.fault.SyntaxFault.{SyntaxFault}
-use Rattle.ff_syntax.specs.declared.fault.SyntaxFault.TheVariants as syntax
+use Rattle.ff_forms.specs.declared.fault.SyntaxFault.{SyntaxFault}
+use Rattle.ff_forms.specs.declared.fault.SyntaxFault.TheVariants as syntax
 use Rattle.ff_text.specs.declared.items.TextFault.{TextFault}
 use Rattle.ff_text.specs.declared.items.TextFault.TheVariants as text
 use Rattle.ff_text.specs.Printed.{quoted}

@@ -1,20 +1,22 @@
 //! Pieces of a line, put one after another.
-ghost use Rattle.std.specs.Prelude.{◌≡◌, ◌≢◌, ◌<◌, ◌≤◌, ◌+◌, ◌↔◌, [], ◌∷◌, ◌++◌, flat_map, get_or, length, take, IsTrue, IfOk, OnOk, OnErr};
+ghost use Rattle.std.specs.Prelude.{◌≡◌, ◌≢◌, ◌<◌, ◌≤◌, [], ◌∷◌, ◌++◌, drop, flat_map, get_or, length, take, IfOk, OnOk, OnErr};
+ghost use Rattle.std.specs.Str.{IsUtf8};
 ghost use Rattle.ff_number.specs.Decimal.{nat_text};
-ghost use Rattle.ff_text.specs.Notation as notation;
 ghost use Rattle.ff_text.specs.Printed.{quoted, spelled_byte};
 ghost use Rattle.ff_status.specs.Putting.{Puts, Stops};
 ghost use Rattle.ff_status.specs.Words.{paired};
 
 use ff_io::{Failed, Sink};
 use ff_number::Digits;
+use ff_text::{Escaped, is_plain};
 
-/// Puts all of the bytes. It makes no write where there are none.
+/// Puts all of a text, so that no character of it is cut. It makes no write where there is none.
 ///
 /// # Errors
 ///
 /// `Failed` where a write failed; a front of the bytes was put before it.
 pub(crate) fn put<E: Sink>(bytes: &[u8], err: &mut E) -> Result<(), Failed>
+    requires { IsUtf8 bytes.now }
     ensures ok { OnOk result (Puts (E.put err.old) (E.put err.new) (E.faults err.old) (E.faults err.new) bytes.now) }
     ensures stopped { OnErr result (Stops (E.put err.old) (E.put err.new) (E.faults err.old) (E.faults err.new) bytes.now) }
     ensures none { length bytes.now ≡ 0 → err.new ≡ err.old }
@@ -28,8 +30,10 @@ pub(crate) fn put<E: Sink>(bytes: &[u8], err: &mut E) -> Result<(), Failed>
 }
 
 /// Puts words, and then a text as it is.
-#[tactic(auto, using(crate::proofs::Sending::puts_both, crate::proofs::Sending::stops_first, crate::proofs::Sending::stops_second))]
+#[tactic(auto, using(crate::proofs::Sending::puts_both, crate::proofs::Sending::stops_first, crate::proofs::Sending::stops_second, crate::proofs::Whole::ascii))]
 pub(crate) fn put_both<E: Sink>(words: &[u8], text: &[u8], err: &mut E) -> Result<(), Failed>
+    requires words { IsUtf8 words.now }
+    requires text { IsUtf8 text.now }
     ensures ok { OnOk result (Puts (E.put err.old) (E.put err.new) (E.faults err.old) (E.faults err.new) (words.now ++ text.now)) }
     ensures stopped { OnErr result (Stops (E.put err.old) (E.put err.new) (E.faults err.old) (E.faults err.new) (words.now ++ text.now)) }
 {
@@ -39,6 +43,7 @@ pub(crate) fn put_both<E: Sink>(words: &[u8], text: &[u8], err: &mut E) -> Resul
 
 /// Puts words, and then a number in decimal.
 pub(crate) fn put_number<E: Sink>(words: &[u8], n: u64, err: &mut E) -> Result<(), Failed>
+    requires { IsUtf8 words.now }
     ensures ok { OnOk result (Puts (E.put err.old) (E.put err.new) (E.faults err.old) (E.faults err.new) (words.now ++ nat_text n)) }
     ensures stopped { OnErr result (Stops (E.put err.old) (E.put err.new) (E.faults err.old) (E.faults err.new) (words.now ++ nat_text n)) }
 {
@@ -47,13 +52,16 @@ pub(crate) fn put_number<E: Sink>(words: &[u8], n: u64, err: &mut E) -> Result<(
 }
 
 /// Puts words, and then two texts as they are, with a blank between them.
-#[tactic(auto, using(crate::proofs::Sending::puts_both, crate::proofs::Sending::stops_first, crate::proofs::Sending::stops_second))]
+#[tactic(auto, using(crate::proofs::Sending::puts_both, crate::proofs::Sending::stops_first, crate::proofs::Sending::stops_second, crate::proofs::Whole::ascii))]
 pub(crate) fn put_pair<E: Sink>(
     words: &[u8],
     first: &[u8],
     second: &[u8],
     err: &mut E,
 ) -> Result<(), Failed>
+    requires words { IsUtf8 words.now }
+    requires first { IsUtf8 first.now }
+    requires second { IsUtf8 second.now }
     ensures ok { OnOk result (Puts (E.put err.old) (E.put err.new) (E.faults err.old) (E.faults err.new) (words.now ++ paired first.now second.now)) }
     ensures stopped { OnErr result (Stops (E.put err.old) (E.put err.new) (E.faults err.old) (E.faults err.new) (words.now ++ paired first.now second.now)) }
 {
@@ -63,8 +71,10 @@ pub(crate) fn put_pair<E: Sink>(
 }
 
 /// Puts words, and then a text as a string in its canonical spelling.
-#[tactic(auto, using(crate::proofs::Sending::puts_both, crate::proofs::Sending::stops_first, crate::proofs::Sending::stops_second))]
+#[tactic(auto, using(crate::proofs::Sending::puts_both, crate::proofs::Sending::stops_first, crate::proofs::Sending::stops_second, crate::proofs::Whole::ascii))]
 pub(crate) fn put_quoted<E: Sink>(words: &[u8], text: &[u8], err: &mut E) -> Result<(), Failed>
+    requires words { IsUtf8 words.now }
+    requires text { IsUtf8 text.now }
     ensures ok { OnOk result (Puts (E.put err.old) (E.put err.new) (E.faults err.old) (E.faults err.new) (words.now ++ quoted text.now)) }
     ensures stopped { OnErr result (Stops (E.put err.old) (E.put err.new) (E.faults err.old) (E.faults err.new) (words.now ++ quoted text.now)) }
 {
@@ -72,8 +82,9 @@ pub(crate) fn put_quoted<E: Sink>(words: &[u8], text: &[u8], err: &mut E) -> Res
     put_string(text, err)
 }
 
-#[tactic(auto, using(crate::proofs::Sending::puts_both, crate::proofs::Sending::stops_first, crate::proofs::Sending::stops_second))]
+#[tactic(auto, using(crate::proofs::Sending::puts_both, crate::proofs::Sending::stops_first, crate::proofs::Sending::stops_second, crate::proofs::Whole::ascii))]
 fn put_string<E: Sink>(text: &[u8], err: &mut E) -> Result<(), Failed>
+    requires { IsUtf8 text.now }
     ensures ok { OnOk result (Puts (E.put err.old) (E.put err.new) (E.faults err.old) (E.faults err.new) (quoted text.now)) }
     ensures stopped { OnErr result (Stops (E.put err.old) (E.put err.new) (E.faults err.old) (E.faults err.new) (quoted text.now)) }
 {
@@ -85,6 +96,7 @@ fn put_string<E: Sink>(text: &[u8], err: &mut E) -> Result<(), Failed>
 /// Puts what stands for a string's value between its marks. Each longest run of bytes that stand for themselves is one
 /// piece, so that no character of a text is cut.
 fn put_value<E: Sink>(text: &[u8], err: &mut E) -> Result<(), Failed>
+    requires { IsUtf8 text.now }
     ensures ok { OnOk result (Puts (E.put err.old) (E.put err.new) (E.faults err.old) (E.faults err.new) (flat_map spelled_byte text.now)) }
     ensures stopped { OnErr result (Stops (E.put err.old) (E.put err.new) (E.faults err.old) (E.faults err.new) (flat_map spelled_byte text.now)) }
 {
@@ -99,9 +111,11 @@ fn put_value<E: Sink>(text: &[u8], err: &mut E) -> Result<(), Failed>
 /// Puts the bytes at the front that stand for themselves, as one piece, and what stands for the byte after them, if there
 /// is one. Answers how many bytes of the value were put.
 fn put_run<E: Sink>(text: &[u8], err: &mut E) -> Result<usize, Failed>
+    requires { IsUtf8 text.now }
     ensures ok { IfOk result (λ n. Puts (E.put err.old) (E.put err.new) (E.faults err.old) (E.faults err.new) (flat_map spelled_byte (take n text.now))) }
     ensures bound { IfOk result (λ n. n ≤ length text.now) }
     ensures some { IfOk result (λ n. 0 < length text.now → 0 < n) }
+    ensures whole { IfOk result (λ n. IsUtf8 (drop n text.now)) }
     ensures stopped { OnErr result (Stops (E.put err.old) (E.put err.new) (E.faults err.old) (E.faults err.new) (flat_map spelled_byte text.now)) }
 {
     let n = plain_front(text);
@@ -117,6 +131,7 @@ fn put_run<E: Sink>(text: &[u8], err: &mut E) -> Result<usize, Failed>
 fn plain_front(text: &[u8]) -> usize
     ensures bound { result ≤ length text.now }
     ensures plain { flat_map spelled_byte (take result text.now) ≡ take result text.now }
+    ensures ascii { result < length text.now → get_or text.now result 0 < 128 }
     ensures longest { result < length text.now → spelled_byte (get_or text.now result 0) ≢ get_or text.now result 0 ∷ [] }
 {
     let mut n = 0;
@@ -126,40 +141,11 @@ fn plain_front(text: &[u8]) -> usize
     n
 }
 
-/// Whether a byte of a string's value stands for itself: each but the mark, the backslash and the control bytes.
-fn is_plain(b: u8) -> bool
-    ensures { IsTrue result ↔ (spelled_byte b ≡ b ∷ []) }
-{
-    b != b'"' && b != b'\\' && !b.is_ascii_control()
-}
-
-/// Puts what stands for a byte of a string's value.
+/// Puts what stands for a byte of ASCII in a string's value.
 fn put_byte<E: Sink>(b: u8, err: &mut E) -> Result<(), Failed>
+    requires { b < 128 }
     ensures ok { OnOk result (Puts (E.put err.old) (E.put err.new) (E.faults err.old) (E.faults err.new) (spelled_byte b)) }
     ensures stopped { OnErr result (Stops (E.put err.old) (E.put err.new) (E.faults err.old) (E.faults err.new) (spelled_byte b)) }
 {
-    if b == b'"' {
-        put(b"\\\"", err)
-    } else if b == b'\\' {
-        put(b"\\\\", err)
-    } else if b == b'\n' {
-        put(b"\\n", err)
-    } else if b == b'\t' {
-        put(b"\\t", err)
-    } else if b.is_ascii_control() {
-        put(&[b'\\', b'x', hex_digit(b / 16), hex_digit(b % 16)], err)
-    } else {
-        put(&[b], err)
-    }
-}
-
-fn hex_digit(digit: u8) -> u8
-    requires { digit < 16 }
-    ensures { result ≡ notation.hex_digit digit }
-{
-    if digit < 10 {
-        b'0' + digit
-    } else {
-        b'a' - 10 + digit
-    }
+    put(Escaped::of(b).as_slice(), err)
 }

@@ -5,10 +5,10 @@ ghost use Rattle.ff_status.specs.Words.{error_line, lattice_words, line_words, p
 
 use crate::putting::{put, put_number, put_pair, put_quoted};
 use crate::status::{Status, TraceFault};
+use ff_forms::SyntaxFault;
 use ff_io::{Failed, Sink};
 use ff_lattice::LatticeFault;
 use ff_policy::PolicyFault;
-use ff_syntax::SyntaxFault;
 use ff_text::TextFault;
 use ff_trace::LineFault;
 
@@ -21,6 +21,7 @@ const USAGE: &[u8] =
 /// # Errors
 ///
 /// `Failed` where a write failed; a front of the line was put before it.
+#[tactic(auto, using(crate::proofs::Whole::ascii))]
 pub(crate) fn put_line<E: Sink>(status: &Status, err: &mut E) -> Result<(), Failed>
     ensures ok { OnOk result (Puts (E.put err.old) (E.put err.new) (E.faults err.old) (E.faults err.new) (error_line status.now)) }
     ensures stopped { OnErr result (Stops (E.put err.old) (E.put err.new) (E.faults err.old) (E.faults err.new) (error_line status.now)) }
@@ -38,7 +39,7 @@ pub(crate) fn put_line<E: Sink>(status: &Status, err: &mut E) -> Result<(), Fail
     }
 }
 
-#[tactic(auto, using(crate::proofs::Sending::puts_both, crate::proofs::Sending::stops_first, crate::proofs::Sending::stops_second))]
+#[tactic(auto, using(crate::proofs::Sending::puts_both, crate::proofs::Sending::stops_first, crate::proofs::Sending::stops_second, crate::proofs::Whole::ascii))]
 fn put_policy_line<E: Sink>(fault: &PolicyFault, err: &mut E) -> Result<(), Failed>
     ensures ok { OnOk result (Puts (E.put err.old) (E.put err.new) (E.faults err.old) (E.faults err.new) (policy_line fault.now)) }
     ensures stopped { OnErr result (Stops (E.put err.old) (E.put err.new) (E.faults err.old) (E.faults err.new) (policy_line fault.now)) }
@@ -48,7 +49,7 @@ fn put_policy_line<E: Sink>(fault: &PolicyFault, err: &mut E) -> Result<(), Fail
     put(b"\n", err)
 }
 
-#[tactic(auto, using(crate::proofs::Sending::puts_both, crate::proofs::Sending::stops_first, crate::proofs::Sending::stops_second))]
+#[tactic(auto, using(crate::proofs::Sending::puts_both, crate::proofs::Sending::stops_first, crate::proofs::Sending::stops_second, crate::proofs::Whole::ascii))]
 fn put_trace_line<E: Sink>(line: u64, fault: TraceFault, err: &mut E) -> Result<(), Failed>
     ensures ok { OnOk result (Puts (E.put err.old) (E.put err.new) (E.faults err.old) (E.faults err.new) (trace_line line fault)) }
     ensures stopped { OnErr result (Stops (E.put err.old) (E.put err.new) (E.faults err.old) (E.faults err.new) (trace_line line fault)) }
@@ -59,6 +60,7 @@ fn put_trace_line<E: Sink>(line: u64, fault: TraceFault, err: &mut E) -> Result<
     put(b"\n", err)
 }
 
+#[tactic(auto, using(crate::proofs::Whole::ascii))]
 fn put_policy<E: Sink>(fault: &PolicyFault, err: &mut E) -> Result<(), Failed>
     ensures ok { OnOk result (Puts (E.put err.old) (E.put err.new) (E.faults err.old) (E.faults err.new) (policy_words fault.now)) }
     ensures stopped { OnErr result (Stops (E.put err.old) (E.put err.new) (E.faults err.old) (E.faults err.new) (policy_words fault.now)) }
@@ -77,6 +79,7 @@ fn put_policy<E: Sink>(fault: &PolicyFault, err: &mut E) -> Result<(), Failed>
     }
 }
 
+#[tactic(auto, using(crate::proofs::Whole::ascii))]
 fn put_lattice<E: Sink>(fault: &LatticeFault, err: &mut E) -> Result<(), Failed>
     ensures ok { OnOk result (Puts (E.put err.old) (E.put err.new) (E.faults err.old) (E.faults err.new) (lattice_words fault.now)) }
     ensures stopped { OnErr result (Stops (E.put err.old) (E.put err.new) (E.faults err.old) (E.faults err.new) (lattice_words fault.now)) }
@@ -94,6 +97,7 @@ fn put_lattice<E: Sink>(fault: &LatticeFault, err: &mut E) -> Result<(), Failed>
     }
 }
 
+#[tactic(auto, using(crate::proofs::Whole::ascii))]
 fn put_trace<E: Sink>(fault: TraceFault, err: &mut E) -> Result<(), Failed>
     ensures ok { OnOk result (Puts (E.put err.old) (E.put err.new) (E.faults err.old) (E.faults err.new) (trace_words fault)) }
     ensures stopped { OnErr result (Stops (E.put err.old) (E.put err.new) (E.faults err.old) (E.faults err.new) (trace_words fault)) }
@@ -106,6 +110,7 @@ fn put_trace<E: Sink>(fault: TraceFault, err: &mut E) -> Result<(), Failed>
     }
 }
 
+#[tactic(auto, using(crate::proofs::Whole::ascii))]
 fn put_line_fault<E: Sink>(fault: LineFault, err: &mut E) -> Result<(), Failed>
     ensures ok { OnOk result (Puts (E.put err.old) (E.put err.new) (E.faults err.old) (E.faults err.new) (line_words fault)) }
     ensures stopped { OnErr result (Stops (E.put err.old) (E.put err.new) (E.faults err.old) (E.faults err.new) (line_words fault)) }
@@ -122,6 +127,7 @@ fn put_line_fault<E: Sink>(fault: LineFault, err: &mut E) -> Result<(), Failed>
     }
 }
 
+#[tactic(auto, using(crate::proofs::Whole::ascii))]
 fn put_text<E: Sink>(fault: TextFault, err: &mut E) -> Result<(), Failed>
     ensures ok { OnOk result (Puts (E.put err.old) (E.put err.new) (E.faults err.old) (E.faults err.new) (text_words fault)) }
     ensures stopped { OnErr result (Stops (E.put err.old) (E.put err.new) (E.faults err.old) (E.faults err.new) (text_words fault)) }
@@ -138,6 +144,7 @@ fn put_text<E: Sink>(fault: TextFault, err: &mut E) -> Result<(), Failed>
     }
 }
 
+#[tactic(auto, using(crate::proofs::Whole::ascii))]
 fn put_syntax<E: Sink>(fault: SyntaxFault, err: &mut E) -> Result<(), Failed>
     ensures ok { OnOk result (Puts (E.put err.old) (E.put err.new) (E.faults err.old) (E.faults err.new) (syntax_words fault)) }
     ensures stopped { OnErr result (Stops (E.put err.old) (E.put err.new) (E.faults err.old) (E.faults err.new) (syntax_words fault)) }

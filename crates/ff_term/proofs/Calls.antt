@@ -1,15 +1,15 @@
 -- That each call stands around the redex holds of what starts, and after each reduction.
-use Rattle.std.proofs.Common.{◌≡◌, ◌≤◌, ◌+◌, ℕ, Bool, true, false, cond, refl, sym, ◌∙◌, arith, subst}
+use Rattle.std.proofs.Common.{◌≡◌, ◌≤◌, ◌+◌, ℕ, List, Bool, true, false, cond, refl, sym, ◌∙◌, arith, subst}
 use Rattle.ff_tree.specs.declared.tree.Expr.{Expr}
 use Rattle.ff_value.specs.declared.ids.ActId.{ActId}
 use Rattle.ff_value.specs.declared.value.Code.{Code}
 use Rattle.ff_value.specs.declared.value.Val.{Val}
 use Rattle.ff_term.specs.Running.{Running, Runnings, Done, Var, Let, Set, If, While, Do, And, Or, Make, Apply, Tree, Prim, Inside, none, more, is_value, are_values, begins_done, redex, redex_among, rewritten, rewritten_among, insides, insides_among, call_of}
-use Rattle.ff_term.specs.Whole.{whole}
+use Rattle.ff_term.specs.Whole.{whole, wholes}
 use Rattle.ff_term.specs.Rows.{local_row, branch}
 use Rattle.ff_term.specs.Calls.{calls_around, calls_around_among, CallsStandAround}
 use Rattle.ff_term.proofs.Laws.{rewritten-redex}
-use Rattle.ff_term.proofs.Sources.{source}
+use Rattle.ff_term.proofs.Sources.{source, sources_of}
 
 -- the same of some parts, of which the first that is no value has the redex
 abbrev AmongStandAround : Runnings → Type 0
@@ -56,7 +56,11 @@ without-calls-among es h = let p = at_most_among es in omega arith
 pub whole-around : (x : Expr) → CallsStandAround (whole x)
 whole-around x = without-calls (whole x) (source x).insides
 
--- its body, as it is entered
+-- the same of a list
+pub wholes-around : (es : List Expr) → calls_around_among (wholes es) ≡ 0
+wholes-around es = let p = at_most_among (wholes es) in let q = (sources_of es).insides in omega arith
+
+-- a body, as it is entered
 pub entered-around : (a : ActId) (x : Expr) → CallsStandAround (Inside a (whole x))
 entered-around a x = let p = whole-around x in omega arith
 

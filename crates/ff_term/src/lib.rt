@@ -9,3 +9,6 @@
 mod redex;
 
 pub use redex::Redex;
+
+/// The most calls that stand inside one another.
+pub const MOST_CALLS: u32 = 1_000;

@@ -1,34 +1,16 @@
 -- What is appended part by part, and what was after a refusal.
-use Rattle.std.proofs.Common.{◌≡◌, ◌<◌, ◌≤◌, ◌+◌, ◌==◌, ℕ, suc, zero, Bool, true, false, Result, Ok, Err, List, [], ◌∷◌, ◌++◌, length, map, take, drop, get_or, refl, sym, ◌∙◌, ap, subst, arith, append_assoc, append-nil}
-use Rattle.std.specs.Prelude.{IsErr}
-use Rattle.std.specs.List.{join_with_byte, flat_map}
+use Rattle.std.proofs.Common.{◌≡◌, ◌<◌, ◌≤◌, ◌+◌, ℕ, suc, zero, List, [], ◌∷◌, ◌++◌, length, map, take, drop, get_or, refl, sym, ◌∙◌, ap, arith, append_assoc, append-nil, ◌==◌, true, false, Result}
+use Rattle.std.specs.List.{join_with_byte, flat_map, list_all}
+use Rattle.std.specs.Char.{is_ascii_control}
+use Rattle.std.proofs.lemmas.Bool.{and_parts}
 use Rattle.std.proofs.lemmas.List.{take_more, take_all, take-append-drop}
 use Rattle.std.proofs.lemmas.Bool.Decides.{nat_tests}
 use Rattle.std.proofs.lemmas.List.Concat.{flat_map-append}
-use Rattle.ff_name.specs.Output.{AppendsFront}
+use Rattle.ff_contract.specs.Appending.{AppendsFront, Appends, AppendsAll}
+use Rattle.ff_contract.proofs.Sequence.{front_done, appends_last}
+use Rattle.ff_text.specs.Bytes.{is_plain_byte}
 use Rattle.ff_text.specs.declared.items.Sexp.{Sexp}
-use Rattle.ff_text.specs.Printed.{Appends, AppendsAll, quoted, spelled, spelled_byte, blank_before}
-
-pub front_done : (old new all done rest : List ℕ) → new ≡ old ++ done → all ≡ done ++ rest → AppendsFront old new all
-front_done old new all done rest e cut = record { front = done; rest = rest; cut = cut; appended = e }
-
--- a front of what comes after what was appended
-pub front_after : (old mid new all done item rest : List ℕ) → mid ≡ old ++ done → all ≡ done ++ (item ++ rest) → AppendsFront mid new item → AppendsFront old new all
-front_after old mid new all done item rest e cut front = record {
-  front = done ++ front.front;
-  rest = front.rest ++ rest;
-  cut = cut ∙ ap (λ bs. done ++ (bs ++ rest)) front.cut ∙ ap (λ bs. done ++ bs) (append_assoc front.front front.rest rest) ∙ sym (append_assoc done front.front (front.rest ++ rest));
-  appended = front.appended ∙ ap (λ bs. bs ++ front.front) e ∙ append_assoc old done front.front;
-}
-
-pub appends_err : {X E : Type 0} (answer : Result X E) (old new all : List ℕ) → IsErr answer → AppendsFront old new all → Appends answer old new all
-appends_err (Ok done) old new all err front = cc
-appends_err (Err refused) old new all err front = front
-
--- the last part
-pub appends_last : {X E : Type 0} (answer : Result X E) (old mid new all done last : List ℕ) → AppendsAll answer mid new last → mid ≡ old ++ done → all ≡ done ++ last → Appends answer old new all
-appends_last (Ok it) old mid new all done last e before cut = e ∙ ap (λ bs. bs ++ last) before ∙ append_assoc old done last ∙ ap (λ bs. old ++ bs) (sym cut)
-appends_last (Err refused) old mid new all done last e before cut = front_done old new all done last (e ∙ before) cut
+use Rattle.ff_text.specs.Printed.{quoted, spelled, spelled_byte, blank_before}
 
 -- two parts
 pub append_two : (old mid new done more all : List ℕ) → new ≡ mid ++ more → mid ≡ old ++ done → all ≡ done ++ more → new ≡ old ++ all
@@ -38,14 +20,62 @@ quoted-is : (value : List ℕ) → quoted value ≡ 34 ∷ (flat_map spelled_byt
 unfolding quoted
 quoted-is value = refl
 
-pub quoted_cut : (value : List ℕ) (i : ℕ) → quoted value ≡ (34 ∷ flat_map spelled_byte (take i value)) ++ (flat_map spelled_byte (drop i value) ++ 34 ∷ [])
-quoted_cut value i =
-    quoted-is value
-    ∙ ap (λ bs. 34 ∷ (bs ++ 34 ∷ [])) (ap (flat_map spelled_byte) (sym (take-append-drop i value)) ∙ flat_map-append spelled_byte (take i value) (drop i value))
-    ∙ ap (λ bs. 34 ∷ bs) (append_assoc (flat_map spelled_byte (take i value)) (flat_map spelled_byte (drop i value)) (34 ∷ []))
+-- a string that is cut in its value
+pub quoted_joined : (done left : List ℕ) → quoted (done ++ left) ≡ (34 ∷ flat_map spelled_byte done) ++ (flat_map spelled_byte left ++ 34 ∷ [])
+quoted_joined done left =
+    quoted-is (done ++ left)
+    ∙ ap (λ bs. 34 ∷ (bs ++ 34 ∷ [])) (flat_map-append spelled_byte done left)
+    ∙ ap (λ bs. 34 ∷ bs) (append_assoc (flat_map spelled_byte done) (flat_map spelled_byte left) (34 ∷ []))
 
-pub quoted_all : (value : List ℕ) (i : ℕ) → length value ≤ i → quoted value ≡ (34 ∷ flat_map spelled_byte (take i value)) ++ 34 ∷ []
-quoted_all value i past = quoted-is value ∙ ap (λ bs. 34 ∷ (flat_map spelled_byte bs ++ 34 ∷ [])) (sym (take_all i value past))
+-- bytes that stand for themselves
+plain_itself : (b : ℕ) → is_plain_byte b ≡ true → spelled_byte b ≡ b ∷ []
+plain_itself b h =
+    let mark : (b == 34) ≡ false = grind (arith, nat_tests) in
+    let slash : (b == 92) ≡ false = grind (arith, nat_tests) in
+    let newline : (b == 10) ≡ false = grind (arith, nat_tests) in
+    let tab : (b == 9) ≡ false = grind (arith, nat_tests) in
+    let control : is_ascii_control b ≡ false = grind (arith, nat_tests) in
+    rw (mark, slash, newline, tab, control) refl
+
+pub plain_spelled : (run : List ℕ) → list_all is_plain_byte run ≡ true → flat_map spelled_byte run ≡ run
+plain_spelled [] h = refl
+plain_spelled (b ∷ run) h =
+    let parts = and_parts (is_plain_byte b) (list_all is_plain_byte run) h in
+    ap (λ bs. bs ++ flat_map spelled_byte run) (plain_itself b parts.0) ∙ ap (λ bs. b ∷ bs) (plain_spelled run parts.1)
+
+-- one byte
+pub one_spelled : (left : List ℕ) → 0 < length left → flat_map spelled_byte (take 1 left) ≡ spelled_byte (get_or left 0 0)
+one_spelled [] some = absurd (omega arith)
+one_spelled (b ∷ left) some = append-nil (spelled_byte b)
+
+-- the mark and what stands for the value before these bytes were appended
+pub record QuotedSoFar (old now value left : List ℕ) : Type 0 where
+  pub done : List ℕ
+  pub joined : done ++ left ≡ value
+  pub put : now ≡ old ++ (34 ∷ flat_map spelled_byte done)
+
+pub quoted_none : (old now value : List ℕ) → now ≡ old ++ 34 ∷ [] → QuotedSoFar old now value value
+quoted_none old now value e = record { done = []; joined = refl; put = e }
+
+pub quoted_more : (old mid now value left after : List ℕ) (n : ℕ) → QuotedSoFar old mid value left → now ≡ mid ++ flat_map spelled_byte (take n left) → after ≡ drop n left → QuotedSoFar old now value after
+quoted_more old mid now value left after n so_far e is = record {
+  done = so_far.done ++ take n left;
+  joined = append_assoc so_far.done (take n left) after ∙ ap (λ bs. so_far.done ++ bs) (ap (λ bs. take n left ++ bs) is ∙ take-append-drop n left) ∙ so_far.joined;
+  put = e ∙ ap (λ bs. bs ++ flat_map spelled_byte (take n left)) so_far.put ∙ append_assoc old (34 ∷ flat_map spelled_byte so_far.done) (flat_map spelled_byte (take n left))
+      ∙ ap (λ bs. old ++ 34 ∷ bs) (sym (flat_map-append spelled_byte so_far.done (take n left)));
+}
+
+pub quoted_stopped : (old mid now value left : List ℕ) → QuotedSoFar old mid value left → now ≡ mid → AppendsFront old now (quoted value)
+quoted_stopped old mid now value left so_far e =
+    front_done old now (quoted value) (34 ∷ flat_map spelled_byte so_far.done) (flat_map spelled_byte left ++ 34 ∷ []) (e ∙ so_far.put) (ap quoted (sym so_far.joined) ∙ quoted_joined so_far.done left)
+
+pub quoted_whole : {X E : Type 0} (answer : Result X E) (old mid now value left : List ℕ) → QuotedSoFar old mid value left → (length left == 0) ≡ true → AppendsAll answer mid now (34 ∷ []) → Appends answer old now (quoted value)
+quoted_whole answer old mid now value left so_far none e =
+    appends_last answer old mid now (quoted value) (34 ∷ flat_map spelled_byte so_far.done) (34 ∷ []) e so_far.put
+    (ap quoted (sym so_far.joined) ∙ quoted_joined so_far.done left ∙ ap (λ bs. (34 ∷ flat_map spelled_byte so_far.done) ++ (flat_map spelled_byte bs ++ 34 ∷ [])) (empty left none)) where
+      empty : (bytes : List ℕ) → (length bytes == 0) ≡ true → bytes ≡ []
+      empty [] h = refl
+      empty (b ∷ bytes) h = let zero_long : suc (length bytes) ≡ 0 = grind (arith, nat_tests) in absurd (omega (arith, zero_long))
 
 blank_before-suc : (n : ℕ) → blank_before (suc n) ≡ 32 ∷ []
 blank_before-suc n = grind (arith, nat_tests)

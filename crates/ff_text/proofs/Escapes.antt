@@ -8,11 +8,11 @@ use Rattle.ff_text.specs.declared.bytes.Slashed.TheVariants as slashed
 use Rattle.ff_text.specs.declared.reader.Opened.{Opened}
 use Rattle.ff_text.specs.declared.reader.Mode.{Mode}
 use Rattle.ff_text.specs.declared.reader.Mode.TheVariants as mode
-use Rattle.ff_text.specs.Kinds.{slashed_of, high_digit, low_digit}
+use Rattle.ff_text.specs.Classes.{slashed_of, high_digit, low_digit}
 use Rattle.ff_text.specs.Notation.{hex_digit, Escape, mark, backslash, newline, tab, hex}
 use Rattle.ff_text.specs.Faults.{BeginsEscape}
-use Rattle.ff_text.specs.Machine.{step, slashed_kind, high_taken, low_taken}
-use Rattle.ff_text.proofs.KindLemmas.{slash_hex, high_small, high_is, low_small, low_is}
+use Rattle.ff_text.specs.Machine.{step, slashed_class, high_taken, low_taken}
+use Rattle.ff_text.proofs.ClassLemmas.{slash_hex, high_small, high_is, low_small, low_is}
 use Rattle.ff_text.proofs.Standing.{in_mode}
 
 -- the mode of a reader after the bytes that have begun an escape
@@ -111,7 +111,7 @@ short_escape b value e =
 abbrev pub IsWrongNext : List ℕ → ℕ → Type 0
 IsWrongNext begun b = (rest : List ℕ) (value : ℕ) → ¬ Escape (begun ++ b ∷ rest) value
 
-bad_slashed : (opened : List Opened) (items : List Sexp) (at place slash : ℕ) (value : List ℕ) (b : ℕ) → IsWrongNext [] b → (k : Slashed) → slashed_of b ≡ k → slashed_kind k (in_mode (mode.Slash place slash) opened items at value) place slash ≡ Err (fault.BadEscape slash)
+bad_slashed : (opened : List Opened) (items : List Sexp) (at place slash : ℕ) (value : List ℕ) (b : ℕ) → IsWrongNext [] b → (k : Slashed) → slashed_of b ≡ k → slashed_class k (in_mode (mode.Slash place slash) opened items at value) place slash ≡ Err (fault.BadEscape slash)
 bad_slashed opened items at place slash value b wrong (slashed.Short v) e = absurd (wrong [] v (short_escape b v e))
 bad_slashed opened items at place slash value b wrong slashed.Hex e =
     absurd (wrong (hex_digit 0 ∷ hex_digit 0 ∷ []) (16 * 0 + 0) (subst (λ c. Escape (c ∷ hex_digit 0 ∷ hex_digit 0 ∷ []) (16 * 0 + 0)) (sym (slash_hex b e)) (hex 0 0 (lit< tt) (lit< tt))))

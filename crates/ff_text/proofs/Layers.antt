@@ -13,6 +13,7 @@ use Rattle.ff_text.specs.declared.items.Sexp.TheViews.{roll-Sexp}
 use Rattle.ff_text.specs.declared.items.Sexp.TheFolds.{ind-Sexp, fold-roll-Sexp, claims, map-Sexp}
 use Rattle.ff_text.specs.Notation.{span}
 use Rattle.ff_text.specs.Printed.{spelled, spelled_step, quoted, bare, bare_step, fits_at, fits_step, is_word}
+use Rattle.ff_text.specs.declared.reader.TheConstants.{MOST_DEPTH}
 
 pub spelled-Word : (at : Span) (text : List ℕ) → spelled (sexp.Word at text) ≡ text
 unfolding roll-Sexp denote.Hole.Carrier.roll
@@ -38,15 +39,15 @@ pub bare-List : (at : Span) (parts : List Sexp) → bare (sexp.List at parts) �
 unfolding roll-Sexp denote.Hole.Carrier.roll
 bare-List at parts = fold-roll-Sexp Sexp bare_step (Sexp-F.List at parts)
 
-pub fits_at-Word : (at : Span) (text : List ℕ) → fits_at (sexp.Word at text) ≡ (λ level. is_word text)
+pub fits_at-Word : (at : Span) (text : List ℕ) → fits_at (sexp.Word at text) ≡ (λ deep. is_word text)
 unfolding roll-Sexp denote.Hole.Carrier.roll
 fits_at-Word at text = fold-roll-Sexp (ℕ → Bool) fits_step (Sexp-F.Word at text)
 
-pub fits_at-Str : (at : Span) (value : List ℕ) → fits_at (sexp.Str at value) ≡ (λ level. is_utf8 value)
+pub fits_at-Str : (at : Span) (value : List ℕ) → fits_at (sexp.Str at value) ≡ (λ deep. is_utf8 value)
 unfolding roll-Sexp denote.Hole.Carrier.roll
 fits_at-Str at value = fold-roll-Sexp (ℕ → Bool) fits_step (Sexp-F.Str at value)
 
-pub fits_at-List : (at : Span) (parts : List Sexp) → fits_at (sexp.List at parts) ≡ (λ level. nat_lt level 64 && list_all (λ part. part (suc level)) (map fits_at parts))
+pub fits_at-List : (at : Span) (parts : List Sexp) → fits_at (sexp.List at parts) ≡ (λ deep. nat_lt deep MOST_DEPTH && list_all (λ part. part (suc deep)) (map fits_at parts))
 unfolding roll-Sexp denote.Hole.Carrier.roll
 fits_at-List at parts = fold-roll-Sexp (ℕ → Bool) fits_step (Sexp-F.List at parts)
 

@@ -3,11 +3,12 @@ pub mod Ascii
 pub mod Back
 pub mod Complete
 pub mod Escapes
-pub mod KindLemmas
+pub mod ClassLemmas
 pub mod Layers
 pub mod Meeting
 pub mod NoEscape
 pub mod Room
+pub mod Runs
 pub mod Sound
 pub mod Spelled
 pub mod Standing

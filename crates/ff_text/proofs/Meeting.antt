@@ -6,20 +6,21 @@ use Rattle.ff_text.specs.declared.items.Sexp.{Sexp}
 use Rattle.ff_text.specs.declared.items.TextFault.{TextFault}
 use Rattle.ff_text.specs.declared.items.TextFault.TheVariants as fault
 use Rattle.ff_text.specs.declared.bytes.InStr.{InStr}
-use Rattle.ff_text.specs.declared.bytes.Kind.TheVariants as kind
+use Rattle.ff_text.specs.declared.bytes.Class.TheVariants as class
 use Rattle.ff_text.specs.declared.reader.Reader.{Reader}
 use Rattle.ff_text.specs.declared.reader.Opened.{Opened}
 use Rattle.ff_text.specs.declared.reader.Mode.{Mode}
 use Rattle.ff_text.specs.declared.reader.Mode.TheVariants as mode
 use Rattle.ff_text.specs.Faults.{Unfinished, at_top, within, InString, in_string, InEscape, in_escape, Meets, extra, too_deep, bad_byte, bad_byte_in_string, bad_utf8, bad_escape, IsUnclosed, in_a_list, in_a_string, in_an_escape}
-use Rattle.ff_text.specs.Machine.{advance, step, start, finish, verdict, verdict_of, in_str_kind}
+use Rattle.ff_text.specs.Machine.{advance, step, start, finish, verdict, verdict_of, in_str_class}
 use Rattle.ff_text.proofs.Ascii.{is_utf8-not}
-use Rattle.ff_text.proofs.KindLemmas.{kind_of-stray, in_str_of-control}
+use Rattle.ff_text.proofs.ClassLemmas.{class_of-stray, in_str_of-control}
 use Rattle.ff_text.proofs.Standing.{in_mode, Stands, advance-more, advance-then, step_stands, finish_stands}
 use Rattle.ff_text.proofs.Strings.{quoting, value_run, step_backslash, step_x, step_high}
 use Rattle.ff_text.proofs.Steps.{end_str-bad}
 use Rattle.ff_text.proofs.Escapes.{EscapeMode, slash_read, x_read, digit_read, begun_mode, step_bad_escape}
 use Rattle.ff_text.proofs.Complete.{complete, step_open, step_deep, step_extra, step_quote, step_mark}
+use Rattle.ff_text.specs.declared.reader.TheConstants.{MOST_DEPTH}
 
 -- the reader after bytes that end outside strings
 record Halts (opens : List ℕ) (to : ℕ) (bytes : List ℕ) : Type 0 where
@@ -41,7 +42,7 @@ unfinished_halts opens to bytes (at_top to' bytes' items ended s) =
 unfinished_halts opens to bytes (within opens' place to' bytes' inner items ended outer room s) =
     let halt = unfinished_halts opens' place bytes' outer in
     let depth = depth_of opens' halt.opened halt.places in
-    let opening = advance-more bytes' 40 (Ok start) halt.reader halt.runs ∙ step_open halt.opened place halt.items halt.ended halt.reader halt.stands (subst (λ n. n < 64) (sym depth) room) in
+    let opening = advance-more bytes' 40 (Ok start) halt.reader halt.runs ∙ step_open halt.opened place halt.items halt.ended halt.reader halt.stands (subst (λ n. n < MOST_DEPTH) (sym depth) room) in
     let reached = complete (suc (length opens')) (place + 1) to' inner items ended s (record { from = place; before = halt.items } ∷ halt.opened) (ap suc depth) in
     let joined : (bytes' ++ 40 ∷ []) ++ inner ≡ bytes' ++ 40 ∷ inner = append_assoc bytes' (40 ∷ []) inner in
     record {
@@ -103,7 +104,7 @@ escape_halts place slash begun bytes (in_escape place' slash' value bytes' begun
 
 step_control : (opened : List Opened) (items : List Sexp) (at from : ℕ) (value : List ℕ) (b : ℕ) → is_ascii_control b ≡ true → step (quoting opened items at from value) b ≡ Err (fault.BadByte at)
 unfolding step
-step_control opened items at from value b control = ap (λ (k : InStr). in_str_kind k (quoting opened items at from value) from b) (in_str_of-control b control)
+step_control opened items at from value b control = ap (λ (k : InStr). in_str_class k (quoting opened items at from value) from b) (in_str_of-control b control)
 
 -- a prefix that meets a fault gives it
 pub meets_err : (bytes : List ℕ) (which : TextFault) → Meets bytes which → advance bytes (Ok start) ≡ Err which
@@ -118,7 +119,7 @@ meets_err all which (too_deep opens to bytes outer full) =
     advance-more bytes 40 (Ok start) halt.reader halt.runs ∙ step_deep halt.opened to halt.items halt.ended halt.reader halt.stands (depth_of opens halt.opened halt.places ∙ full)
 meets_err all which (bad_byte opens to bytes b outer stray) =
     let halt = unfinished_halts opens to bytes outer in
-    advance-more bytes b (Ok start) halt.reader halt.runs ∙ step_stands halt.opened to halt.items halt.ended halt.reader b kind.Stray halt.stands (kind_of-stray b stray) tt
+    advance-more bytes b (Ok start) halt.reader halt.runs ∙ step_stands halt.opened to halt.items halt.ended halt.reader b class.Stray halt.stands (class_of-stray b stray) tt
 meets_err all which (bad_byte_in_string place to value bytes b inside control) =
     let halt = string_halts place to value bytes inside in
     advance-more bytes b (Ok start) _ halt.runs ∙ step_control halt.opened halt.items to place value b control

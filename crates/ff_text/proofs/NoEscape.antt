@@ -2,9 +2,9 @@
 use Rattle.std.proofs.Common.{◌≡◌, ◌≢◌, ℕ, Option, Some, None, List, [], ◌∷◌, refl, ◌∙◌, ap, arith}
 use Rattle.std.proofs.lemmas.Bool.Decides.{nat_tests}
 use Rattle.ff_text.specs.declared.bytes.Slashed.TheVariants as slashed
-use Rattle.ff_text.specs.Kinds.{slashed_of, high_digit, low_digit}
+use Rattle.ff_text.specs.Classes.{slashed_of, high_digit, low_digit}
 use Rattle.ff_text.specs.Notation.{hex_digit, Escape, mark, backslash, newline, tab, hex}
-use Rattle.ff_text.proofs.KindLemmas.{high_digit-digit, low_digit-digit}
+use Rattle.ff_text.proofs.ClassLemmas.{high_digit-digit, low_digit-digit}
 use Rattle.ff_text.proofs.Escapes.{IsWrongNext}
 
 no_mark : (b : ℕ) → slashed_of b ≡ slashed.Wrong → b ≢ 34

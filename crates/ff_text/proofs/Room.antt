@@ -1,10 +1,9 @@
 -- A byte takes the reader one place on.
-use Rattle.std.proofs.Common.{◌≡◌, ◌<◌, ◌≤◌, ◌+◌, ℕ, Bool, true, false, nat_lt, Result, Ok, Err, Option, Some, None, List, [], ◌∷◌, length, take, drop, get_or, refl, sym, ◌∙◌, ap, subst}
-use Rattle.std.proofs.lemmas.List.{take_more, take_all, take-append-drop}
+use Rattle.std.proofs.Common.{◌≡◌, ◌+◌, ℕ, Bool, true, false, nat_lt, Result, Ok, Err, Option, Some, None, List, [], ◌∷◌, length, refl}
 use Rattle.std.specs.Str.{is_utf8}
 use Rattle.ff_text.specs.declared.items.TextFault.{TextFault}
-use Rattle.ff_text.specs.declared.bytes.Kind.{Kind}
-use Rattle.ff_text.specs.declared.bytes.Kind.TheVariants as kind
+use Rattle.ff_text.specs.declared.bytes.Class.{Class}
+use Rattle.ff_text.specs.declared.bytes.Class.TheVariants as class
 use Rattle.ff_text.specs.declared.bytes.InStr.{InStr}
 use Rattle.ff_text.specs.declared.bytes.InStr.TheVariants as str
 use Rattle.ff_text.specs.declared.bytes.Slashed.{Slashed}
@@ -13,17 +12,17 @@ use Rattle.ff_text.specs.declared.reader.Reader.{Reader}
 use Rattle.ff_text.specs.declared.reader.Opened.{Opened}
 use Rattle.ff_text.specs.declared.reader.Mode.{Mode}
 use Rattle.ff_text.specs.declared.reader.Mode.TheVariants as mode
-use Rattle.ff_text.specs.Kinds.{kind_of, in_str_of, slashed_of, high_digit, low_digit}
-use Rattle.ff_text.specs.Machine.{HasDigit, advance, start, finish, verdict, verdict_of, step, step_in, outside_kind, open_list, list_closed, in_word_kind, word_ended, in_str_kind, end_str, slashed_kind, high_taken, low_taken}
-use Rattle.ff_text.proofs.KindLemmas.{high_small}
-use Rattle.ff_text.proofs.Standing.{advance-none, advance-more, advance-append, advance-err}
+use Rattle.ff_text.specs.Classes.{class_of, in_str_of, slashed_of, high_digit, low_digit}
+use Rattle.ff_text.specs.Machine.{HasDigit, step, step_in, outside_class, open_list, list_closed, in_word_class, word_ended, in_str_class, end_str, slashed_class, high_taken, low_taken}
+use Rattle.ff_text.proofs.ClassLemmas.{high_small}
+use Rattle.ff_text.specs.declared.reader.TheConstants.{MOST_DEPTH}
 
 -- one place on, with a first digit below 8 where there is one
 abbrev pub Grows : ℕ → Result Reader TextFault → Type 0
 Grows at (Ok r) = (r.at ≡ at + 1) × HasDigit r.mode
 Grows at (Err which) = Unit {0}
 
-open_grows : (r : Reader) → HasDigit r.mode → (test : Bool) → nat_lt (length r.opened) 64 ≡ test → Grows r.at (open_list r)
+open_grows : (r : Reader) → HasDigit r.mode → (test : Bool) → nat_lt (length r.opened) MOST_DEPTH ≡ test → Grows r.at (open_list r)
 open_grows r digit true e = rw e (refl, digit)
 open_grows r digit false e = rw e tt
 
@@ -31,33 +30,33 @@ close_grows : (opened : List Opened) (r : Reader) → HasDigit r.mode → Grows 
 close_grows [] r digit = tt
 close_grows (o ∷ opened) r digit = (refl, digit)
 
-outside_grows : (k : Kind) (r : Reader) (b : ℕ) → HasDigit r.mode → Grows r.at (outside_kind k r b)
-outside_grows kind.Blank r b digit = (refl, digit)
-outside_grows kind.Open r b digit = open_grows r digit (nat_lt (length r.opened) 64) refl
-outside_grows kind.Close r b digit = close_grows r.opened r digit
-outside_grows kind.Quote r b digit = (refl, tt)
-outside_grows kind.InWord r b digit = (refl, tt)
-outside_grows kind.Stray r b digit = tt
+outside_grows : (k : Class) (r : Reader) (b : ℕ) → HasDigit r.mode → Grows r.at (outside_class k r b)
+outside_grows class.Blank r b digit = (refl, digit)
+outside_grows class.Open r b digit = open_grows r digit (nat_lt (length r.opened) MOST_DEPTH) refl
+outside_grows class.Close r b digit = close_grows r.opened r digit
+outside_grows class.Quote r b digit = (refl, tt)
+outside_grows class.InWord r b digit = (refl, tt)
+outside_grows class.Stray r b digit = tt
 
-word_grows : (k : Kind) (r : Reader) (from b : ℕ) → HasDigit r.mode → Grows r.at (in_word_kind k r from b)
-word_grows kind.InWord r from b digit = (refl, digit)
-word_grows kind.Blank r from b digit = outside_grows (kind_of b) (word_ended r from) b tt
-word_grows kind.Open r from b digit = outside_grows (kind_of b) (word_ended r from) b tt
-word_grows kind.Close r from b digit = outside_grows (kind_of b) (word_ended r from) b tt
-word_grows kind.Quote r from b digit = outside_grows (kind_of b) (word_ended r from) b tt
-word_grows kind.Stray r from b digit = outside_grows (kind_of b) (word_ended r from) b tt
+word_grows : (k : Class) (r : Reader) (from b : ℕ) → HasDigit r.mode → Grows r.at (in_word_class k r from b)
+word_grows class.InWord r from b digit = (refl, digit)
+word_grows class.Blank r from b digit = outside_grows (class_of b) (word_ended r from) b tt
+word_grows class.Open r from b digit = outside_grows (class_of b) (word_ended r from) b tt
+word_grows class.Close r from b digit = outside_grows (class_of b) (word_ended r from) b tt
+word_grows class.Quote r from b digit = outside_grows (class_of b) (word_ended r from) b tt
+word_grows class.Stray r from b digit = outside_grows (class_of b) (word_ended r from) b tt
 
 end_grows : (r : Reader) (from : ℕ) (test : Bool) → is_utf8 r.value ≡ test → Grows r.at (end_str r from)
 end_grows r from true e = rw e (refl, tt)
 end_grows r from false e = rw e tt
 
-string_grows : (k : InStr) (r : Reader) (from b : ℕ) → Grows r.at (in_str_kind k r from b)
+string_grows : (k : InStr) (r : Reader) (from b : ℕ) → Grows r.at (in_str_class k r from b)
 string_grows str.Mark r from b = end_grows r from (is_utf8 r.value) refl
 string_grows str.Backslash r from b = (refl, tt)
 string_grows str.Control r from b = tt
 string_grows str.Plain r from b = (refl, tt)
 
-slash_grows : (k : Slashed) (r : Reader) (from slash : ℕ) → Grows r.at (slashed_kind k r from slash)
+slash_grows : (k : Slashed) (r : Reader) (from slash : ℕ) → Grows r.at (slashed_class k r from slash)
 slash_grows (slashed.Short value) r from slash = (refl, tt)
 slash_grows slashed.Hex r from slash = (refl, tt)
 slash_grows slashed.Wrong r from slash = tt
@@ -71,8 +70,8 @@ low_grows (Some low) r from slash high = (refl, tt)
 low_grows None r from slash high = tt
 
 step_in_grows : (m : Mode) (r : Reader) (b : ℕ) → HasDigit r.mode → Grows r.at (step_in m r b)
-step_in_grows mode.Between r b digit = outside_grows (kind_of b) r b digit
-step_in_grows (mode.Word from) r b digit = word_grows (kind_of b) r from b digit
+step_in_grows mode.Between r b digit = outside_grows (class_of b) r b digit
+step_in_grows (mode.Word from) r b digit = word_grows (class_of b) r from b digit
 step_in_grows (mode.Str from) r b digit = string_grows (in_str_of b) r from b
 step_in_grows (mode.Slash from slash) r b digit = slash_grows (slashed_of b) r from slash
 step_in_grows (mode.Hex from slash) r b digit = high_grows b (high_digit b) refl r from slash
@@ -81,32 +80,3 @@ step_in_grows (mode.Digit from slash high) r b digit = low_grows (low_digit b) r
 pub step_grows : (r : Reader) (b : ℕ) → HasDigit r.mode → Grows r.at (step r b)
 unfolding step
 step_grows r b digit = step_in_grows r.mode r b digit
-
-grown : (at : ℕ) (r : Reader) (made : Result Reader TextFault) → Grows at made → made ≡ Ok r → (r.at ≡ at + 1) × HasDigit r.mode
-grown at r made grows e = subst (Grows at) e grows
-
--- the bytes before a place were read
-abbrev pub ReadsBefore : List ℕ → ℕ → Reader → Type 0
-ReadsBefore bytes i r = (advance (take i bytes) (Ok start) ≡ Ok r) × (r.at ≡ i) × HasDigit r.mode
-
-pub reads_more : (bytes : List ℕ) (i : ℕ) (r next : Reader) → ReadsBefore bytes i r → i < length bytes → step r (get_or bytes i 0) ≡ Ok next → ReadsBefore bytes (i + 1) next
-reads_more bytes i r next before inside e =
-    let one = grown r.at next (step r (get_or bytes i 0)) (step_grows r (get_or bytes i 0) before.2) e in (
-      ap (λ bs. advance bs (Ok start)) (take_more bytes i 0 inside) ∙ advance-more (take i bytes) (get_or bytes i 0) (Ok start) r before.0 ∙ e,
-      one.0 ∙ ap (λ n. n + 1) before.1,
-      one.1,
-    )
-
--- a byte that stops the reader stops it for all of the bytes
-pub stops_all : (bytes : List ℕ) (i : ℕ) (r : Reader) (which : TextFault) → ReadsBefore bytes i r → i < length bytes → step r (get_or bytes i 0) ≡ Err which → verdict bytes ≡ Err which
-stops_all bytes i r which before inside e =
-    ap (λ bs. verdict bs) (sym (take-append-drop (i + 1) bytes))
-    ∙ ap verdict_of (advance-append (take (i + 1) bytes) (drop (i + 1) bytes) (Ok start)
-    ∙ ap (advance (drop (i + 1) bytes)) (ap (λ bs. advance bs (Ok start)) (take_more bytes i 0 inside) ∙ advance-more (take i bytes) (get_or bytes i 0) (Ok start) r before.0 ∙ e)
-    ∙ advance-err (drop (i + 1) bytes) which)
-
-pub reads_none : (bytes : List ℕ) → ReadsBefore bytes 0 start
-reads_none bytes = (advance-none (Ok start), refl, tt)
-
-pub reads_all : (bytes : List ℕ) (i : ℕ) (r : Reader) → length bytes ≤ i → ReadsBefore bytes i r → verdict bytes ≡ finish r
-reads_all bytes i r past before = ap (λ bs. verdict bs) (sym (take_all i bytes past)) ∙ ap verdict_of before.0

@@ -9,8 +9,8 @@ use Rattle.std.proofs.lemmas.Str.{IsUtf8-from_is_utf8, is_utf8-from_IsUtf8}
 use Rattle.ff_text.specs.declared.items.Sexp.{Sexp}
 use Rattle.ff_text.specs.declared.items.Sexp.TheVariants.{Word, Str, List as Parens}
 use Rattle.ff_text.specs.declared.items.TextFault.{TextFault}
-use Rattle.ff_text.specs.declared.bytes.Kind.{Kind}
-use Rattle.ff_text.specs.declared.bytes.Kind.TheVariants as kind
+use Rattle.ff_text.specs.declared.bytes.Class.{Class}
+use Rattle.ff_text.specs.declared.bytes.Class.TheVariants as class
 use Rattle.ff_text.specs.declared.bytes.InStr.{InStr}
 use Rattle.ff_text.specs.declared.bytes.InStr.TheVariants as str
 use Rattle.ff_text.specs.declared.bytes.Slashed.{Slashed}
@@ -20,31 +20,32 @@ use Rattle.ff_text.specs.declared.reader.Opened.{Opened}
 use Rattle.ff_text.specs.declared.reader.Mode.{Mode}
 use Rattle.ff_text.specs.declared.reader.Mode.TheVariants as mode
 use Rattle.ff_text.specs.Bytes.{is_word_byte}
-use Rattle.ff_text.specs.Kinds.{kind_of, in_str_of, slashed_of, high_digit, low_digit}
+use Rattle.ff_text.specs.Classes.{class_of, in_str_of, slashed_of, high_digit, low_digit}
 use Rattle.ff_text.specs.Notation.{span, hex_digit, IsWord, Escape, hex, Value, empty, plain, escaped, Spells, nothing, blank, a_word, a_string, a_list}
 use Rattle.ff_text.specs.Faults.{Unfinished, at_top, within, InString, in_string, InEscape, in_escape, Meets, extra, too_deep, bad_byte, bad_byte_in_string, bad_utf8, bad_escape}
-use Rattle.ff_text.specs.Machine.{step, outside_kind, open_list, list_closed, in_word_kind, in_str_kind, end_str, slashed_kind, high_taken, low_taken}
-use Rattle.ff_text.proofs.KindLemmas.{kind_fact, str_fact, slash_hex, high_small, high_is, low_small, low_is}
+use Rattle.ff_text.specs.Machine.{step, outside_class, open_list, list_closed, in_word_class, in_str_class, end_str, slashed_class, high_taken, low_taken}
+use Rattle.ff_text.proofs.ClassLemmas.{class_fact, str_fact, slash_hex, high_small, high_is, low_small, low_is}
 use Rattle.ff_text.proofs.Standing.{between, wording, in_mode, EndsWord, step_word}
 use Rattle.ff_text.proofs.Strings.{quoting}
 use Rattle.ff_text.proofs.Escapes.{EscapeMode, slash_read, x_read, digit_read, begins_from_mode, short_escape, none_follows}
 use Rattle.ff_text.proofs.NoEscape.{wrong_slashed, wrong_high, wrong_low}
+use Rattle.ff_text.specs.declared.reader.TheConstants.{MOST_DEPTH}
 
 -- the open lists with what stands before them, and the items of the innermost
 pub data Opens : List Opened → List Sexp → Bool → (to : ℕ) → List ℕ → Type 0 where
   top : (to : ℕ) (bytes : List ℕ) (items : List Sexp) (ended : Bool) → Spells 0 0 to bytes items ended → Opens [] items ended to bytes
-  inner : (opened : List Opened) (place to : ℕ) (bytes own : List ℕ) (before items : List Sexp) (before_ended ended : Bool) → Opens opened before before_ended place bytes → length opened < 64 → Spells (suc (length opened)) (place + 1) to own items ended → Opens (record { from = place; before = before } ∷ opened) items ended to (bytes ++ 40 ∷ own)
+  inner : (opened : List Opened) (place to : ℕ) (bytes own : List ℕ) (before items : List Sexp) (before_ended ended : Bool) → Opens opened before before_ended place bytes → length opened < MOST_DEPTH → Spells (suc (length opened)) (place + 1) to own items ended → Opens (record { from = place; before = before } ∷ opened) items ended to (bytes ++ 40 ∷ own)
 
 pub unfinished_from_opens : (opened : List Opened) (items : List Sexp) (ended : Bool) (to : ℕ) (bytes : List ℕ) → Opens opened items ended to bytes → Unfinished (map (λ (o : Opened). o.from) opened) to bytes
 unfinished_from_opens opened items ended to bytes (top to' bytes' items' ended' s) = at_top to' bytes' items' ended' s
 unfinished_from_opens opened items ended to bytes (inner opened' place to' bytes' own before items' before_ended ended' outer room s) =
     let depth = sym (length-map opened' (λ (o : Opened). o.from)) in
     within (map (λ (o : Opened). o.from) opened') place to' bytes' own items' ended' (unfinished_from_opens opened' before before_ended place bytes' outer)
-    (subst (λ n. n < 64) depth room) (subst (λ n. Spells (suc n) (place + 1) to' own items' ended') depth s)
+    (subst (λ n. n < MOST_DEPTH) depth room) (subst (λ n. Spells (suc n) (place + 1) to' own items' ended') depth s)
 
-most_levels : (opened : List Opened) (items : List Sexp) (ended : Bool) (to : ℕ) (bytes : List ℕ) → Opens opened items ended to bytes → length opened ≤ 64
-most_levels opened items ended to bytes (top to' bytes' items' ended' s) = omega arith
-most_levels opened items ended to bytes (inner opened' place to' bytes' own before items' before_ended ended' outer room s) = omega arith
+most_open : (opened : List Opened) (items : List Sexp) (ended : Bool) (to : ℕ) (bytes : List ℕ) → Opens opened items ended to bytes → length opened ≤ MOST_DEPTH
+most_open opened items ended to bytes (top to' bytes' items' ended' s) = omega arith
+most_open opened items ended to bytes (inner opened' place to' bytes' own before items' before_ended ended' outer room s) = omega arith
 
 -- the innermost items go on
 extend : (opened : List Opened) (items : List Sexp) (ended : Bool) (to : ℕ) (bytes : List ℕ) → Opens opened items ended to bytes → (more : List ℕ) (to' : ℕ) (items' : List Sexp) (ended' : Bool) → ((from : ℕ) (own : List ℕ) → Spells (length opened) from to own items ended → Spells (length opened) from to' (own ++ more) items' ended') → Opens opened items' ended' to' (bytes ++ more)
@@ -66,14 +67,14 @@ pub data Outcome (bytes : List ℕ) : Result Reader TextFault → Type 0 where
   goes : (r : Reader) → Holds r bytes → Outcome bytes (Ok r)
   stops : (which : TextFault) → Meets bytes which → Outcome bytes (Err which)
 
-open_sound : (opened : List Opened) (items : List Sexp) (ended : Bool) (at : ℕ) (bytes : List ℕ) → Opens opened items ended at bytes → (test : Bool) → nat_lt (length opened) 64 ≡ test → Outcome (bytes ++ 40 ∷ []) (open_list (between opened items at))
+open_sound : (opened : List Opened) (items : List Sexp) (ended : Bool) (at : ℕ) (bytes : List ℕ) → Opens opened items ended at bytes → (test : Bool) → nat_lt (length opened) MOST_DEPTH ≡ test → Outcome (bytes ++ 40 ∷ []) (open_list (between opened items at))
 open_sound opened items ended at bytes so_far true e =
-    let room : length opened < 64 = grind (arith, nat_tests) in
+    let room : length opened < MOST_DEPTH = grind (arith, nat_tests) in
     rw e (goes _ (holds_between (record { from = at; before = items } ∷ opened) [] false (at + 1) (bytes ++ 40 ∷ []) refl
     (inner opened at (at + 1) bytes [] items [] ended false so_far room (nothing (suc (length opened)) (at + 1)))))
 open_sound opened items ended at bytes so_far false e =
-    let most = most_levels opened items ended at bytes so_far in
-    let full : length opened ≡ 64 = grind (arith, nat_tests) in
+    let most = most_open opened items ended at bytes so_far in
+    let full : length opened ≡ MOST_DEPTH = grind (arith, nat_tests) in
     rw e (stops _ (too_deep (map (λ (o : Opened). o.from) opened) at bytes (unfinished_from_opens opened items ended at bytes so_far) (length-map opened (λ (o : Opened). o.from) ∙ full)))
 
 close_sound : (opened : List Opened) (items : List Sexp) (ended : Bool) (at : ℕ) (bytes : List ℕ) → Opens opened items ended at bytes → Outcome (bytes ++ 41 ∷ []) (list_closed opened (between opened items at))
@@ -89,38 +90,38 @@ abbrev After : List ℕ → ℕ → Result Reader TextFault → Type 0
 After bytes b made = Outcome (bytes ++ b ∷ []) made
 
 -- a byte after whole items, which ends a word
-outside_sound : (opened : List Opened) (items : List Sexp) (ended : Bool) (at : ℕ) (bytes : List ℕ) → Opens opened items ended at bytes → (b : ℕ) (k : Kind) → kind_of b ≡ k → EndsWord k → Outcome (bytes ++ b ∷ []) (outside_kind k (between opened items at) b)
-outside_sound opened items ended at bytes so_far b kind.Blank e ends =
-    let is : 32 ≡ b = sym (kind_fact b kind.Blank e) in
+outside_sound : (opened : List Opened) (items : List Sexp) (ended : Bool) (at : ℕ) (bytes : List ℕ) → Opens opened items ended at bytes → (b : ℕ) (k : Class) → class_of b ≡ k → EndsWord k → Outcome (bytes ++ b ∷ []) (outside_class k (between opened items at) b)
+outside_sound opened items ended at bytes so_far b class.Blank e ends =
+    let is : 32 ≡ b = sym (class_fact b class.Blank e) in
     goes _ (holds_between opened items false (at + 1) (bytes ++ b ∷ []) refl
     (subst (λ c. Opens opened items false (at + 1) (bytes ++ c ∷ [])) is
     (extend opened items ended at bytes so_far (32 ∷ []) (at + 1) items false (λ from own s. blank (length opened) from at own items ended s))))
-outside_sound opened items ended at bytes so_far b kind.Open e ends =
-    let is : 40 ≡ b = sym (kind_fact b kind.Open e) in
-    subst (λ c. Outcome (bytes ++ c ∷ []) (open_list (between opened items at))) is (open_sound opened items ended at bytes so_far (nat_lt (length opened) 64) refl)
-outside_sound opened items ended at bytes so_far b kind.Close e ends =
-    let is : 41 ≡ b = sym (kind_fact b kind.Close e) in
+outside_sound opened items ended at bytes so_far b class.Open e ends =
+    let is : 40 ≡ b = sym (class_fact b class.Open e) in
+    subst (λ c. Outcome (bytes ++ c ∷ []) (open_list (between opened items at))) is (open_sound opened items ended at bytes so_far (nat_lt (length opened) MOST_DEPTH) refl)
+outside_sound opened items ended at bytes so_far b class.Close e ends =
+    let is : 41 ≡ b = sym (class_fact b class.Close e) in
     subst (λ c. Outcome (bytes ++ c ∷ []) (list_closed opened (between opened items at))) is (close_sound opened items ended at bytes so_far)
-outside_sound opened items ended at bytes so_far b kind.Quote e ends =
-    let is : 34 ≡ b = sym (kind_fact b kind.Quote e) in
+outside_sound opened items ended at bytes so_far b class.Quote e ends =
+    let is : 34 ≡ b = sym (class_fact b class.Quote e) in
     let place : at + 1 + length {A = ℕ} [] ≡ at + 1 = add-zero (at + 1) in
     goes _ (holds_string opened items ended (at + 1) at bytes [] [] (bytes ++ b ∷ []) so_far empty place (ap (λ c. bytes ++ c ∷ []) is))
-outside_sound opened items ended at bytes so_far b kind.InWord e ends = absurd ends
-outside_sound opened items ended at bytes so_far b kind.Stray e ends =
-    stops _ (bad_byte (map (λ (o : Opened). o.from) opened) at bytes b (unfinished_from_opens opened items ended at bytes so_far) (kind_fact b kind.Stray e))
+outside_sound opened items ended at bytes so_far b class.InWord e ends = absurd ends
+outside_sound opened items ended at bytes so_far b class.Stray e ends =
+    stops _ (bad_byte (map (λ (o : Opened). o.from) opened) at bytes b (unfinished_from_opens opened items ended at bytes so_far) (class_fact b class.Stray e))
 
 one_byte_word : (b : ℕ) → is_word_byte b ≡ true → IsWord (b ∷ [])
 one_byte_word b h = record { some = λ e. cc; made_of = and_from _ _ h refl }
 
 -- a byte between items
-between_sound : (opened : List Opened) (items : List Sexp) (at : ℕ) (bytes : List ℕ) → Opens opened items false at bytes → (b : ℕ) (k : Kind) → kind_of b ≡ k → Outcome (bytes ++ b ∷ []) (outside_kind k (between opened items at) b)
-between_sound opened items at bytes so_far b kind.Blank e = outside_sound opened items false at bytes so_far b kind.Blank e tt
-between_sound opened items at bytes so_far b kind.Open e = outside_sound opened items false at bytes so_far b kind.Open e tt
-between_sound opened items at bytes so_far b kind.Close e = outside_sound opened items false at bytes so_far b kind.Close e tt
-between_sound opened items at bytes so_far b kind.Quote e = outside_sound opened items false at bytes so_far b kind.Quote e tt
-between_sound opened items at bytes so_far b kind.Stray e = outside_sound opened items false at bytes so_far b kind.Stray e tt
-between_sound opened items at bytes so_far b kind.InWord e =
-    goes _ (holds_word opened items (at + 1) at bytes (b ∷ []) (bytes ++ b ∷ []) so_far (one_byte_word b (kind_fact b kind.InWord e)) refl refl)
+between_sound : (opened : List Opened) (items : List Sexp) (at : ℕ) (bytes : List ℕ) → Opens opened items false at bytes → (b : ℕ) (k : Class) → class_of b ≡ k → Outcome (bytes ++ b ∷ []) (outside_class k (between opened items at) b)
+between_sound opened items at bytes so_far b class.Blank e = outside_sound opened items false at bytes so_far b class.Blank e tt
+between_sound opened items at bytes so_far b class.Open e = outside_sound opened items false at bytes so_far b class.Open e tt
+between_sound opened items at bytes so_far b class.Close e = outside_sound opened items false at bytes so_far b class.Close e tt
+between_sound opened items at bytes so_far b class.Quote e = outside_sound opened items false at bytes so_far b class.Quote e tt
+between_sound opened items at bytes so_far b class.Stray e = outside_sound opened items false at bytes so_far b class.Stray e tt
+between_sound opened items at bytes so_far b class.InWord e =
+    goes _ (holds_word opened items (at + 1) at bytes (b ∷ []) (bytes ++ b ∷ []) so_far (one_byte_word b (class_fact b class.InWord e)) refl refl)
 
 -- a byte in a word
 word_goes : (opened : List Opened) (items : List Sexp) (at from : ℕ) (bytes word whole : List ℕ) → Opens opened items false from bytes → IsWord word → from + length word ≡ at → bytes ++ word ≡ whole → (b : ℕ) → is_word_byte b ≡ true → Outcome (whole ++ b ∷ []) (Ok (wording opened items (at + 1) from (word ++ b ∷ [])))
@@ -137,15 +138,15 @@ word_whole opened items at from bytes word whole so_far w place joined =
     (extend opened items false from bytes so_far word (from + length word) (items ++ Word (span from (from + length word)) word ∷ []) true
     (λ begin own s. a_word (length opened) begin from own items word s w)))
 
-word_sound : (opened : List Opened) (items : List Sexp) (at from : ℕ) (bytes word whole : List ℕ) → Opens opened items false from bytes → IsWord word → from + length word ≡ at → bytes ++ word ≡ whole → (b : ℕ) (k : Kind) → kind_of b ≡ k → Outcome (whole ++ b ∷ []) (step (wording opened items at from word) b)
+word_sound : (opened : List Opened) (items : List Sexp) (at from : ℕ) (bytes word whole : List ℕ) → Opens opened items false from bytes → IsWord word → from + length word ≡ at → bytes ++ word ≡ whole → (b : ℕ) (k : Class) → class_of b ≡ k → Outcome (whole ++ b ∷ []) (step (wording opened items at from word) b)
 unfolding step
-word_sound opened items at from bytes word whole so_far w place joined b kind.InWord e =
-    subst (λ kk. Outcome (whole ++ b ∷ []) (in_word_kind kk (wording opened items at from word) from b)) (sym e) (word_goes opened items at from bytes word whole so_far w place joined b (kind_fact b kind.InWord e))
-word_sound opened items at from bytes word whole so_far w place joined b kind.Blank e = subst (Outcome (whole ++ b ∷ [])) (sym (step_word opened items at from word b kind.Blank e tt)) (outside_sound opened (items ++ Word (span from at) word ∷ []) true at whole (word_whole opened items at from bytes word whole so_far w place joined) b kind.Blank e tt)
-word_sound opened items at from bytes word whole so_far w place joined b kind.Open e = subst (Outcome (whole ++ b ∷ [])) (sym (step_word opened items at from word b kind.Open e tt)) (outside_sound opened (items ++ Word (span from at) word ∷ []) true at whole (word_whole opened items at from bytes word whole so_far w place joined) b kind.Open e tt)
-word_sound opened items at from bytes word whole so_far w place joined b kind.Close e = subst (Outcome (whole ++ b ∷ [])) (sym (step_word opened items at from word b kind.Close e tt)) (outside_sound opened (items ++ Word (span from at) word ∷ []) true at whole (word_whole opened items at from bytes word whole so_far w place joined) b kind.Close e tt)
-word_sound opened items at from bytes word whole so_far w place joined b kind.Quote e = subst (Outcome (whole ++ b ∷ [])) (sym (step_word opened items at from word b kind.Quote e tt)) (outside_sound opened (items ++ Word (span from at) word ∷ []) true at whole (word_whole opened items at from bytes word whole so_far w place joined) b kind.Quote e tt)
-word_sound opened items at from bytes word whole so_far w place joined b kind.Stray e = subst (Outcome (whole ++ b ∷ [])) (sym (step_word opened items at from word b kind.Stray e tt)) (outside_sound opened (items ++ Word (span from at) word ∷ []) true at whole (word_whole opened items at from bytes word whole so_far w place joined) b kind.Stray e tt)
+word_sound opened items at from bytes word whole so_far w place joined b class.InWord e =
+    subst (λ kk. Outcome (whole ++ b ∷ []) (in_word_class kk (wording opened items at from word) from b)) (sym e) (word_goes opened items at from bytes word whole so_far w place joined b (class_fact b class.InWord e))
+word_sound opened items at from bytes word whole so_far w place joined b class.Blank e = subst (Outcome (whole ++ b ∷ [])) (sym (step_word opened items at from word b class.Blank e tt)) (outside_sound opened (items ++ Word (span from at) word ∷ []) true at whole (word_whole opened items at from bytes word whole so_far w place joined) b class.Blank e tt)
+word_sound opened items at from bytes word whole so_far w place joined b class.Open e = subst (Outcome (whole ++ b ∷ [])) (sym (step_word opened items at from word b class.Open e tt)) (outside_sound opened (items ++ Word (span from at) word ∷ []) true at whole (word_whole opened items at from bytes word whole so_far w place joined) b class.Open e tt)
+word_sound opened items at from bytes word whole so_far w place joined b class.Close e = subst (Outcome (whole ++ b ∷ [])) (sym (step_word opened items at from word b class.Close e tt)) (outside_sound opened (items ++ Word (span from at) word ∷ []) true at whole (word_whole opened items at from bytes word whole so_far w place joined) b class.Close e tt)
+word_sound opened items at from bytes word whole so_far w place joined b class.Quote e = subst (Outcome (whole ++ b ∷ [])) (sym (step_word opened items at from word b class.Quote e tt)) (outside_sound opened (items ++ Word (span from at) word ∷ []) true at whole (word_whole opened items at from bytes word whole so_far w place joined) b class.Quote e tt)
+word_sound opened items at from bytes word whole so_far w place joined b class.Stray e = subst (Outcome (whole ++ b ∷ [])) (sym (step_word opened items at from word b class.Stray e tt)) (outside_sound opened (items ++ Word (span from at) word ∷ []) true at whole (word_whole opened items at from bytes word whole so_far w place joined) b class.Stray e tt)
 
 -- the bytes end in the string
 pub inside_string : (opened : List Opened) (items : List Sexp) (ended : Bool) (at from : ℕ) (bytes body value whole : List ℕ) → Opens opened items ended from bytes → Value body value → from + 1 + length body ≡ at → bytes ++ 34 ∷ body ≡ whole → InString from at value whole
@@ -167,7 +168,7 @@ end_sound opened items ended at from bytes body value whole so_far v place joine
     (λ good. let test : is_utf8 value ≡ true = is_utf8-from_IsUtf8 value good in cc)))
 
 -- a byte in a string
-string_sound : (opened : List Opened) (items : List Sexp) (ended : Bool) (at from : ℕ) (bytes body value whole : List ℕ) → Opens opened items ended from bytes → Value body value → from + 1 + length body ≡ at → bytes ++ 34 ∷ body ≡ whole → (b : ℕ) (k : InStr) → in_str_of b ≡ k → Outcome (whole ++ b ∷ []) (in_str_kind k (quoting opened items at from value) from b)
+string_sound : (opened : List Opened) (items : List Sexp) (ended : Bool) (at from : ℕ) (bytes body value whole : List ℕ) → Opens opened items ended from bytes → Value body value → from + 1 + length body ≡ at → bytes ++ 34 ∷ body ≡ whole → (b : ℕ) (k : InStr) → in_str_of b ≡ k → Outcome (whole ++ b ∷ []) (in_str_class k (quoting opened items at from value) from b)
 string_sound opened items ended at from bytes body value whole so_far v place joined b str.Mark e =
     let is : 34 ≡ b = sym (str_fact b str.Mark e) in
     subst (λ c. Outcome (whole ++ c ∷ []) (end_str (quoting opened items at from value) from)) is (end_sound opened items ended at from bytes body value whole so_far v place joined (is_utf8 value) refl)
@@ -207,7 +208,7 @@ escape_goes opened items ended at from slash bytes body value begun whole so_far
     goes _ (holds_string opened items ended (at + 1) from bytes (body ++ 92 ∷ (begun ++ b ∷ [])) (value ++ made ∷ []) (whole ++ b ∷ []) so_far (escaped body value (begun ++ b ∷ []) made v escape) last
     (escape_joined bytes body begun whole b joined))
 
-slash_sound : (opened : List Opened) (items : List Sexp) (ended : Bool) (at from slash : ℕ) (bytes body value whole : List ℕ) → Opens opened items ended from bytes → Value body value → from + 1 + length body ≡ slash → slash + 1 + 0 ≡ at → (bytes ++ 34 ∷ body) ++ 92 ∷ [] ≡ whole → (b : ℕ) (k : Slashed) → slashed_of b ≡ k → Outcome (whole ++ b ∷ []) (slashed_kind k (in_mode (mode.Slash from slash) opened items at value) from slash)
+slash_sound : (opened : List Opened) (items : List Sexp) (ended : Bool) (at from slash : ℕ) (bytes body value whole : List ℕ) → Opens opened items ended from bytes → Value body value → from + 1 + length body ≡ slash → slash + 1 + 0 ≡ at → (bytes ++ 34 ∷ body) ++ 92 ∷ [] ≡ whole → (b : ℕ) (k : Slashed) → slashed_of b ≡ k → Outcome (whole ++ b ∷ []) (slashed_class k (in_mode (mode.Slash from slash) opened items at value) from slash)
 slash_sound opened items ended at from slash bytes body value whole so_far v place next joined b (slashed.Short made) e =
     escape_goes opened items ended at from slash bytes body value [] whole so_far v place next joined b made (short_escape b made e)
 slash_sound opened items ended at from slash bytes body value whole so_far v place next joined b slashed.Hex e =
@@ -241,7 +242,7 @@ escape_sound opened items ended at from slash bytes body value begun whole m so_
 -- one byte
 pub step_sound : (r : Reader) (bytes : List ℕ) → Holds r bytes → (b : ℕ) → Outcome (bytes ++ b ∷ []) (step r b)
 unfolding step
-step_sound r whole (holds_between opened items ended at bytes e so_far) b = between_sound opened items at bytes (subst (λ t. Opens opened items t at bytes) e so_far) b (kind_of b) refl
-step_sound r whole (holds_word opened items at from bytes word whole' so_far w place joined) b = word_sound opened items at from bytes word whole' so_far w place joined b (kind_of b) refl
+step_sound r whole (holds_between opened items ended at bytes e so_far) b = between_sound opened items at bytes (subst (λ t. Opens opened items t at bytes) e so_far) b (class_of b) refl
+step_sound r whole (holds_word opened items at from bytes word whole' so_far w place joined) b = word_sound opened items at from bytes word whole' so_far w place joined b (class_of b) refl
 step_sound r whole (holds_string opened items ended at from bytes body value whole' so_far v place joined) b = string_sound opened items ended at from bytes body value whole' so_far v place joined b (in_str_of b) refl
 step_sound r whole (holds_escape opened items ended at from slash bytes body value begun whole' m so_far v place is next joined) b = escape_sound opened items ended at from slash bytes body value begun whole' m so_far v place is next joined b

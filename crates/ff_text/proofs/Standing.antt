@@ -5,17 +5,17 @@ use Rattle.std.proofs.lemmas.Bool.{and_parts}
 use Rattle.ff_text.specs.declared.items.Sexp.{Sexp}
 use Rattle.ff_text.specs.declared.items.Sexp.TheVariants.{Word}
 use Rattle.ff_text.specs.declared.items.TextFault.{TextFault}
-use Rattle.ff_text.specs.declared.bytes.Kind.{Kind}
-use Rattle.ff_text.specs.declared.bytes.Kind.TheVariants as kind
+use Rattle.ff_text.specs.declared.bytes.Class.{Class}
+use Rattle.ff_text.specs.declared.bytes.Class.TheVariants as class
 use Rattle.ff_text.specs.declared.reader.Reader.{Reader}
 use Rattle.ff_text.specs.declared.reader.Opened.{Opened}
 use Rattle.ff_text.specs.declared.reader.Mode.{Mode}
 use Rattle.ff_text.specs.declared.reader.Mode.TheVariants as mode
 use Rattle.ff_text.specs.Bytes.{is_word_byte}
-use Rattle.ff_text.specs.Kinds.{kind_of}
+use Rattle.ff_text.specs.Classes.{class_of}
 use Rattle.ff_text.specs.Notation.{span, IsWord}
-use Rattle.ff_text.specs.Machine.{advance, step, outside_kind, finish, end_items}
-use Rattle.ff_text.proofs.KindLemmas.{kind_of-word}
+use Rattle.ff_text.specs.Machine.{advance, step, outside_class, finish, end_items}
+use Rattle.ff_text.proofs.ClassLemmas.{class_of-word}
 
 -- the reader between items, in a word and in a string
 abbrev pub between : List Opened → List Sexp → ℕ → Reader
@@ -75,33 +75,33 @@ advance-more bytes b begin r h = advance-append bytes (b ∷ []) begin ∙ ap (a
 pub advance-then : (xs ys : List ℕ) (begin : Result Reader TextFault) (r : Reader) (end : Result Reader TextFault) → advance xs begin ≡ Ok r → advance ys (Ok r) ≡ end → advance (xs ++ ys) begin ≡ end
 advance-then xs ys begin r end h k = advance-append xs ys begin ∙ ap (advance ys) h ∙ k
 
-abbrev pub EndsWord : Kind → Type 0
-EndsWord kind.Blank = Unit {0}
-EndsWord kind.Open = Unit {0}
-EndsWord kind.Close = Unit {0}
-EndsWord kind.Quote = Unit {0}
-EndsWord kind.InWord = ⊥
-EndsWord kind.Stray = Unit {0}
+abbrev pub EndsWord : Class → Type 0
+EndsWord class.Blank = Unit {0}
+EndsWord class.Open = Unit {0}
+EndsWord class.Close = Unit {0}
+EndsWord class.Quote = Unit {0}
+EndsWord class.InWord = ⊥
+EndsWord class.Stray = Unit {0}
 
-step_between : (opened : List Opened) (items : List Sexp) (at b : ℕ) (k : Kind) → kind_of b ≡ k → step (between opened items at) b ≡ outside_kind k (between opened items at) b
+step_between : (opened : List Opened) (items : List Sexp) (at b : ℕ) (k : Class) → class_of b ≡ k → step (between opened items at) b ≡ outside_class k (between opened items at) b
 unfolding step
-step_between opened items at b k e = ap (λ (kk : Kind). outside_kind kk (between opened items at) b) e
+step_between opened items at b k e = ap (λ (kk : Class). outside_class kk (between opened items at) b) e
 
-pub step_word : (opened : List Opened) (items : List Sexp) (at from : ℕ) (word : List ℕ) (b : ℕ) (k : Kind) → kind_of b ≡ k → EndsWord k → step (wording opened items at from word) b ≡ outside_kind k (between opened (items ++ Word (span from at) word ∷ []) at) b
+pub step_word : (opened : List Opened) (items : List Sexp) (at from : ℕ) (word : List ℕ) (b : ℕ) (k : Class) → class_of b ≡ k → EndsWord k → step (wording opened items at from word) b ≡ outside_class k (between opened (items ++ Word (span from at) word ∷ []) at) b
 unfolding step
-step_word opened items at from word b kind.Blank e ends = rw (e, e)
-step_word opened items at from word b kind.Open e ends = rw (e, e)
-step_word opened items at from word b kind.Close e ends = rw (e, e)
-step_word opened items at from word b kind.Quote e ends = rw (e, e)
-step_word opened items at from word b kind.InWord e ends = absurd ends
-step_word opened items at from word b kind.Stray e ends = rw (e, e)
+step_word opened items at from word b class.Blank e ends = rw (e, e)
+step_word opened items at from word b class.Open e ends = rw (e, e)
+step_word opened items at from word b class.Close e ends = rw (e, e)
+step_word opened items at from word b class.Quote e ends = rw (e, e)
+step_word opened items at from word b class.InWord e ends = absurd ends
+step_word opened items at from word b class.Stray e ends = rw (e, e)
 
 -- a byte that ends a word is read as after the whole items
-pub step_stands : (opened : List Opened) (at : ℕ) (items : List Sexp) (ended : Bool) (r : Reader) (b : ℕ) (k : Kind) → Stands opened at items ended r → kind_of b ≡ k → EndsWord k → step r b ≡ outside_kind k (between opened items at) b
-step_stands opened at items false r b k stands e ends = subst (λ s. step s b ≡ outside_kind k (between opened items at) b) (sym stands) (step_between opened items at b k e)
+pub step_stands : (opened : List Opened) (at : ℕ) (items : List Sexp) (ended : Bool) (r : Reader) (b : ℕ) (k : Class) → Stands opened at items ended r → class_of b ≡ k → EndsWord k → step r b ≡ outside_class k (between opened items at) b
+step_stands opened at items false r b k stands e ends = subst (λ s. step s b ≡ outside_class k (between opened items at) b) (sym stands) (step_between opened items at b k e)
 step_stands opened at items true r b k stands e ends =
-    subst (λ s. step s b ≡ outside_kind k (between opened items at) b) (sym stands.is)
-    (subst (λ all. step (wording opened stands.before at stands.from stands.word) b ≡ outside_kind k (between opened all at) b) stands.last
+    subst (λ s. step s b ≡ outside_class k (between opened items at) b) (sym stands.is)
+    (subst (λ all. step (wording opened stands.before at stands.from stands.word) b ≡ outside_class k (between opened all at) b) stands.last
     (step_word opened stands.before at stands.from stands.word b k e ends))
 
 -- the end of the bytes is read as after the whole items
@@ -120,7 +120,7 @@ word_more opened items at from done (b ∷ more) h =
     let parts = and_parts (is_word_byte b) (list_all is_word_byte more) h in
     let place : at + 1 + length more ≡ at + suc (length more) = omega arith in
     let bytes : (done ++ b ∷ []) ++ more ≡ done ++ b ∷ more = append_assoc done (b ∷ []) more in
-    rw (kind_of-word b parts.0)
+    rw (class_of-word b parts.0)
     (word_more opened items (at + 1) from (done ++ b ∷ []) more parts.1
     ∙ ap (λ n. Ok (wording opened items n from ((done ++ b ∷ []) ++ more))) place
     ∙ ap (λ bs. Ok (wording opened items (at + suc (length more)) from bs)) bytes)
@@ -131,6 +131,6 @@ word_run opened items at [] h = absurd (h.some refl)
 word_run opened items at (b ∷ more) h =
     let parts = and_parts (is_word_byte b) (list_all is_word_byte more) h.made_of in
     let place : at + 1 + length more ≡ at + suc (length more) = omega arith in
-    rw (kind_of-word b parts.0)
+    rw (class_of-word b parts.0)
     (word_more opened items (at + 1) at (b ∷ []) more parts.1
     ∙ ap (λ n. Ok (wording opened items n at (b ∷ more))) place)

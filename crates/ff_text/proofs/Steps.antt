@@ -1,4 +1,4 @@
--- What one byte does, by the kind of the byte.
+-- What one byte does, by the class of the byte.
 use Rattle.std.proofs.Common.{◌≡◌, ℕ, true, false, Ok, Err}
 use Rattle.std.specs.Str.{is_utf8}
 use Rattle.ff_text.specs.Machine.{end_str, str_ended}

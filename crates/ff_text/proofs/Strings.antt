@@ -4,10 +4,10 @@ use Rattle.ff_text.specs.declared.items.Sexp.{Sexp}
 use Rattle.ff_text.specs.declared.reader.Reader.{Reader}
 use Rattle.ff_text.specs.declared.reader.Opened.{Opened}
 use Rattle.ff_text.specs.declared.reader.Mode.TheVariants as mode
-use Rattle.ff_text.specs.Kinds.{in_str_of, slashed_of}
+use Rattle.ff_text.specs.Classes.{in_str_of, slashed_of}
 use Rattle.ff_text.specs.Notation.{hex_digit, Escape, mark, backslash, newline, tab, hex, IsPlain, Value, empty, plain, escaped}
 use Rattle.ff_text.specs.Machine.{advance, step, high_taken, low_taken}
-use Rattle.ff_text.proofs.KindLemmas.{in_str_of-plain, high_digit-digit, low_digit-digit}
+use Rattle.ff_text.proofs.ClassLemmas.{in_str_of-plain, high_digit-digit, low_digit-digit}
 use Rattle.ff_text.proofs.Standing.{in_mode, advance-none, advance-step, advance-more, advance-then}
 
 abbrev pub quoting : List Opened → List Sexp → (at from : ℕ) → List ℕ → Reader

@@ -1,6 +1,7 @@
 -- The reader's answer is what the grammar says: the items that are spelled, or the first fault.
 use Rattle.std.proofs.Common.{◌≡◌, ◌⊎◌, ◌≤◌, ◌+◌, ℕ, suc, zero, Bool, true, false, Result, Ok, Err, IfOk, IfErr, List, [], ◌∷◌, ◌++◌, length, map, take, drop, refl, sym, ◌∙◌, ap, subst, inl, inr, arith, append_assoc, append-nil, length-append}
 use Rattle.std.proofs.lemmas.List.{take-append-le, take_all}
+use Rattle.ff_contract.specs.Answering.{Answers}
 use Rattle.ff_text.specs.declared.items.Sexp.{Sexp}
 use Rattle.ff_text.specs.declared.items.TextFault.{TextFault}
 use Rattle.ff_text.specs.declared.items.TextFault.TheVariants as fault
@@ -9,7 +10,7 @@ use Rattle.ff_text.specs.declared.reader.Opened.{Opened}
 use Rattle.ff_text.specs.declared.items.Sexp.TheVariants.{Word}
 use Rattle.ff_text.specs.Notation.{span, nothing, SpellsItems}
 use Rattle.ff_text.specs.Faults.{Meets, IsUnclosed, in_a_list, in_a_string, in_an_escape, NoneBelow, FirstFault, at_prefix, at_end, SingleFault, of_text, no_item, second_item, from_of}
-use Rattle.ff_text.specs.Machine.{advance, step, start, finish, items_ended, verdict, verdict_of, Answers, one_of, one_in, AnswersOne}
+use Rattle.ff_text.specs.Machine.{advance, step, start, finish, items_ended, verdict, verdict_of, one_of, one_in}
 use Rattle.ff_text.proofs.Standing.{advance-append, advance-err, advance-none, advance-step, advance-stop, advance-more, between, wording}
 use Rattle.ff_text.proofs.Complete.{verdict_from_spelled}
 use Rattle.ff_text.proofs.Meeting.{meets_err, unclosed_verdict, finish_string, finish_escape}
@@ -138,29 +139,30 @@ verdict_from_fault bytes which (at_prefix n found within meets none) = ap verdic
 verdict_from_fault bytes which (at_end place none unclosed) = unclosed_verdict bytes place unclosed
 
 -- the clauses of a call that answers what the reader does
-pub found_items : (bytes : List ℕ) (answer : Result (List Sexp) TextFault) → Answers answer (verdict bytes) → IfOk answer (SpellsItems bytes)
-found_items bytes (Ok items) same = spelled_from_verdict bytes items same
-found_items bytes (Err which) same = tt
+pub found_items : (bytes : List ℕ) (answer : Result (List Sexp) TextFault) → Answers answer (verdict bytes) (Err fault.NoMemory) → IfOk answer (SpellsItems bytes)
+found_items bytes answer (inl is) = of_answer answer is where
+  of_answer : (found : Result (List Sexp) TextFault) → found ≡ verdict bytes → IfOk found (SpellsItems bytes)
+  of_answer (Ok items) is = spelled_from_verdict bytes items (sym is)
+  of_answer (Err which) is = tt
+found_items bytes answer (inr none) = subst (λ found. IfOk found (SpellsItems bytes)) (sym none) tt
 
-pub only_items : (bytes : List ℕ) (answer : Result (List Sexp) TextFault) → Answers answer (verdict bytes) → (items : List Sexp) → SpellsItems bytes items → (answer ≡ Ok items) ⊎ (answer ≡ Err fault.NoMemory)
-only_items bytes (Ok found) same items spelled = inl (ap Ok (ok_items found items (verdict bytes) same (verdict_from_spelled bytes items spelled)))
-only_items bytes (Err which) same items spelled = elim same [
-  | inl memory ↦ inr (ap Err memory)
-  | inr wrong ↦ absurd (not_ok which items (verdict bytes) wrong (verdict_from_spelled bytes items spelled))
+pub only_items : (bytes : List ℕ) (answer : Result (List Sexp) TextFault) → Answers answer (verdict bytes) (Err fault.NoMemory) → (items : List Sexp) → SpellsItems bytes items → Answers answer (Ok items) (Err fault.NoMemory)
+only_items bytes answer same items spelled = elim same [
+  | inl is ↦ inl (is ∙ verdict_from_spelled bytes items spelled)
+  | inr none ↦ inr none
 ]
 
-pub first_fault : (bytes : List ℕ) (answer : Result (List Sexp) TextFault) → Answers answer (verdict bytes) → IfErr answer (λ which. (which ≡ fault.NoMemory) ⊎ FirstFault bytes which)
-first_fault bytes (Ok items) same = tt
-first_fault bytes (Err which) same = elim same [
-  | inl memory ↦ inl memory
-  | inr wrong ↦ inr (fault_from_verdict bytes which wrong)
-]
+pub first_fault : (bytes : List ℕ) (answer : Result (List Sexp) TextFault) → Answers answer (verdict bytes) (Err fault.NoMemory) → IfErr answer (λ which. (which ≡ fault.NoMemory) ⊎ FirstFault bytes which)
+first_fault bytes answer (inl is) = of_answer answer is where
+  of_answer : (found : Result (List Sexp) TextFault) → found ≡ verdict bytes → IfErr found (λ which. (which ≡ fault.NoMemory) ⊎ FirstFault bytes which)
+  of_answer (Ok items) is = tt
+  of_answer (Err which) is = inr (fault_from_verdict bytes which (sym is))
+first_fault bytes answer (inr none) = subst (λ found. IfErr found (λ which. (which ≡ fault.NoMemory) ⊎ FirstFault bytes which)) (sym none) (inl refl)
 
-pub exact_fault : (bytes : List ℕ) (answer : Result (List Sexp) TextFault) → Answers answer (verdict bytes) → (which : TextFault) → FirstFault bytes which → (answer ≡ Err which) ⊎ (answer ≡ Err fault.NoMemory)
-exact_fault bytes (Ok items) same which first = absurd (not_ok which items (verdict bytes) (verdict_from_fault bytes which first) same)
-exact_fault bytes (Err other) same which first = elim same [
-  | inl memory ↦ inr (ap Err memory)
-  | inr wrong ↦ inl (ap Err (err_fault other which (verdict bytes) wrong (verdict_from_fault bytes which first)))
+pub exact_fault : (bytes : List ℕ) (answer : Result (List Sexp) TextFault) → Answers answer (verdict bytes) (Err fault.NoMemory) → (which : TextFault) → FirstFault bytes which → Answers answer (Err which) (Err fault.NoMemory)
+exact_fault bytes answer same which first = elim same [
+  | inl is ↦ inl (is ∙ verdict_from_fault bytes which first)
+  | inr none ↦ inr none
 ]
 
 -- one item
@@ -190,27 +192,28 @@ one_fault_from : (bytes : List ℕ) (which : TextFault) (answer : Result (List S
 one_fault_from bytes which (Ok items) e same = fault_of bytes items (spelled_from_verdict bytes items e) which same
 one_fault_from bytes which (Err other) e same = subst (SingleFault bytes) (one_fault other which (one_in (Err other)) refl same) (of_text other (fault_from_verdict bytes other e))
 
-pub found_item : (bytes : List ℕ) (answer : Result Sexp TextFault) → AnswersOne answer (one_in (verdict bytes)) → IfOk answer (λ item. SpellsItems bytes (item ∷ []))
-found_item bytes (Ok item) same = one_item_from bytes item (verdict bytes) refl same
-found_item bytes (Err which) same = tt
+pub found_item : (bytes : List ℕ) (answer : Result Sexp TextFault) → Answers answer (one_in (verdict bytes)) (Err fault.NoMemory) → IfOk answer (λ item. SpellsItems bytes (item ∷ []))
+found_item bytes answer (inl is) = of_answer answer is where
+  of_answer : (found : Result Sexp TextFault) → found ≡ one_in (verdict bytes) → IfOk found (λ item. SpellsItems bytes (item ∷ []))
+  of_answer (Ok item) is = one_item_from bytes item (verdict bytes) refl (sym is)
+  of_answer (Err which) is = tt
+found_item bytes answer (inr none) = subst (λ found. IfOk found (λ item. SpellsItems bytes (item ∷ []))) (sym none) tt
 
-pub only_item : (bytes : List ℕ) (answer : Result Sexp TextFault) → AnswersOne answer (one_in (verdict bytes)) → (item : Sexp) → SpellsItems bytes (item ∷ []) → (answer ≡ Ok item) ⊎ (answer ≡ Err fault.NoMemory)
-only_item bytes (Ok found) same item spelled = inl (sym same ∙ single_item bytes item spelled)
-only_item bytes (Err which) same item spelled = elim same [
-  | inl memory ↦ inr (ap Err memory)
-  | inr wrong ↦ inl (sym wrong ∙ single_item bytes item spelled)
+pub only_item : (bytes : List ℕ) (answer : Result Sexp TextFault) → Answers answer (one_in (verdict bytes)) (Err fault.NoMemory) → (item : Sexp) → SpellsItems bytes (item ∷ []) → Answers answer (Ok item) (Err fault.NoMemory)
+only_item bytes answer same item spelled = elim same [
+  | inl is ↦ inl (is ∙ single_item bytes item spelled)
+  | inr none ↦ inr none
 ]
 
-pub one_first_fault : (bytes : List ℕ) (answer : Result Sexp TextFault) → AnswersOne answer (one_in (verdict bytes)) → IfErr answer (λ which. (which ≡ fault.NoMemory) ⊎ SingleFault bytes which)
-one_first_fault bytes (Ok item) same = tt
-one_first_fault bytes (Err which) same = elim same [
-  | inl memory ↦ inl memory
-  | inr wrong ↦ inr (one_fault_from bytes which (verdict bytes) refl wrong)
-]
+pub one_first_fault : (bytes : List ℕ) (answer : Result Sexp TextFault) → Answers answer (one_in (verdict bytes)) (Err fault.NoMemory) → IfErr answer (λ which. (which ≡ fault.NoMemory) ⊎ SingleFault bytes which)
+one_first_fault bytes answer (inl is) = of_answer answer is where
+  of_answer : (found : Result Sexp TextFault) → found ≡ one_in (verdict bytes) → IfErr found (λ which. (which ≡ fault.NoMemory) ⊎ SingleFault bytes which)
+  of_answer (Ok item) is = tt
+  of_answer (Err which) is = inr (one_fault_from bytes which (verdict bytes) refl (sym is))
+one_first_fault bytes answer (inr none) = subst (λ found. IfErr found (λ which. (which ≡ fault.NoMemory) ⊎ SingleFault bytes which)) (sym none) (inl refl)
 
-pub one_exact_fault : (bytes : List ℕ) (answer : Result Sexp TextFault) → AnswersOne answer (one_in (verdict bytes)) → (which : TextFault) → SingleFault bytes which → (answer ≡ Err which) ⊎ (answer ≡ Err fault.NoMemory)
-one_exact_fault bytes (Ok item) same which first = inl (sym same ∙ single_fault bytes which first)
-one_exact_fault bytes (Err other) same which first = elim same [
-  | inl memory ↦ inr (ap Err memory)
-  | inr wrong ↦ inl (sym wrong ∙ single_fault bytes which first)
+pub one_exact_fault : (bytes : List ℕ) (answer : Result Sexp TextFault) → Answers answer (one_in (verdict bytes)) (Err fault.NoMemory) → (which : TextFault) → SingleFault bytes which → Answers answer (Err which) (Err fault.NoMemory)
+one_exact_fault bytes answer same which first = elim same [
+  | inl is ↦ inl (is ∙ single_fault bytes which first)
+  | inr none ↦ inr none
 ]

@@ -7,12 +7,13 @@ use Rattle.ff_text.specs.declared.items.Sexp.{Sexp, out-Sexp}
 use Rattle.ff_text.specs.declared.items.Sexp.TheOpen.{Sexp-F}
 use Rattle.ff_text.specs.declared.items.TextFault.{TextFault}
 use Rattle.ff_text.specs.declared.items.TextFault.TheVariants as fault
+use Rattle.ff_text.specs.declared.reader.TheConstants.{MOST_DEPTH}
 
 -- Bytes that end outside strings, before this place: whole items, and lists that are open. The open lists go by the
 -- places of their parentheses, the innermost first.
 pub data Unfinished : List ℕ → (to : ℕ) → List ℕ → Type 0 where
   at_top : (to : ℕ) (bytes : List ℕ) (items : List Sexp) (ended : Bool) → Spells 0 0 to bytes items ended → Unfinished [] to bytes
-  within : (opens : List ℕ) (place to : ℕ) (bytes inner : List ℕ) (items : List Sexp) (ended : Bool) → Unfinished opens place bytes → length opens < 64 → Spells (suc (length opens)) (place + 1) to inner items ended → Unfinished (place ∷ opens) to (bytes ++ 40 ∷ inner)
+  within : (opens : List ℕ) (place to : ℕ) (bytes inner : List ℕ) (items : List Sexp) (ended : Bool) → Unfinished opens place bytes → length opens < MOST_DEPTH → Spells (suc (length opens)) (place + 1) to inner items ended → Unfinished (place ∷ opens) to (bytes ++ 40 ∷ inner)
 
 -- bytes that end in a string whose mark is at the first place, before the second place, with this value so far
 pub data InString : (place to : ℕ) → List ℕ → List ℕ → Type 0 where
@@ -37,7 +38,7 @@ pub record IsStray (b : ℕ) : Type 0 where
 -- the last byte of the prefix makes the fault
 pub data Meets : List ℕ → TextFault → Type 0 where
   extra : (to : ℕ) (bytes : List ℕ) → Unfinished [] to bytes → Meets (bytes ++ 41 ∷ []) (fault.Extra to)
-  too_deep : (opens : List ℕ) (to : ℕ) (bytes : List ℕ) → Unfinished opens to bytes → length opens ≡ 64 → Meets (bytes ++ 40 ∷ []) (fault.TooDeep to)
+  too_deep : (opens : List ℕ) (to : ℕ) (bytes : List ℕ) → Unfinished opens to bytes → length opens ≡ MOST_DEPTH → Meets (bytes ++ 40 ∷ []) (fault.TooDeep to)
   bad_byte : (opens : List ℕ) (to : ℕ) (bytes : List ℕ) (b : ℕ) → Unfinished opens to bytes → IsStray b → Meets (bytes ++ b ∷ []) (fault.BadByte to)
   bad_byte_in_string : (place to : ℕ) (value bytes : List ℕ) (b : ℕ) → InString place to value bytes → is_ascii_control b ≡ true → Meets (bytes ++ b ∷ []) (fault.BadByte to)
   bad_utf8 : (place to : ℕ) (value bytes : List ℕ) → InString place to value bytes → ¬ IsUtf8 value → Meets (bytes ++ 34 ∷ []) (fault.BadUtf8 place)

@@ -1,6 +1,6 @@
 pub mod Bytes
 pub mod Faults
-pub mod Kinds
+pub mod Classes
 pub mod Machine
 pub mod Notation
 pub mod Printed

@@ -7,6 +7,7 @@ use Rattle.ff_text.specs.Bytes.{is_word_byte}
 use Rattle.ff_text.specs.declared.items.Span.{Span}
 use Rattle.ff_text.specs.declared.items.Sexp.{Sexp}
 use Rattle.ff_text.specs.declared.items.Sexp.TheVariants.{Word, Str, List as Parens}
+use Rattle.ff_text.specs.declared.reader.TheConstants.{MOST_DEPTH}
 
 abbrev pub span : ℕ → ℕ → Span
 span from to = record { from = from; to = to }
@@ -42,12 +43,12 @@ pub data Value : List ℕ → List ℕ → Type 0 where
 
 -- Bytes that begin at one place, inside so many open lists, end before another place, and spell items with their
 -- places. The last index says whether they end in a word: between two words stands a blank.
-pub data Spells : (level from to : ℕ) → List ℕ → List Sexp → Bool → Type 0 where
-  nothing : (level from : ℕ) → Spells level from from [] [] false
-  blank : (level from to : ℕ) (bytes : List ℕ) (items : List Sexp) (ended : Bool) → Spells level from to bytes items ended → Spells level from (to + 1) (bytes ++ 32 ∷ []) items false
-  a_word : (level from to : ℕ) (bytes : List ℕ) (items : List Sexp) (word : List ℕ) → Spells level from to bytes items false → IsWord word → Spells level from (to + length word) (bytes ++ word) (items ++ Word (span to (to + length word)) word ∷ []) true
-  a_string : (level from to : ℕ) (bytes : List ℕ) (items : List Sexp) (ended : Bool) (body value : List ℕ) → Spells level from to bytes items ended → Value body value → IsUtf8 value → Spells level from (to + 1 + length body + 1) (bytes ++ (34 ∷ (body ++ 34 ∷ []))) (items ++ Str (span to (to + 1 + length body + 1)) value ∷ []) false
-  a_list : (level from to close : ℕ) (bytes inner : List ℕ) (items parts : List Sexp) (ended inner_ended : Bool) → Spells level from to bytes items ended → level < 64 → Spells (suc level) (to + 1) close inner parts inner_ended → Spells level from (close + 1) (bytes ++ (40 ∷ (inner ++ 41 ∷ []))) (items ++ Parens (span to (close + 1)) parts ∷ []) false
+pub data Spells : (deep from to : ℕ) → List ℕ → List Sexp → Bool → Type 0 where
+  nothing : (deep from : ℕ) → Spells deep from from [] [] false
+  blank : (deep from to : ℕ) (bytes : List ℕ) (items : List Sexp) (ended : Bool) → Spells deep from to bytes items ended → Spells deep from (to + 1) (bytes ++ 32 ∷ []) items false
+  a_word : (deep from to : ℕ) (bytes : List ℕ) (items : List Sexp) (word : List ℕ) → Spells deep from to bytes items false → IsWord word → Spells deep from (to + length word) (bytes ++ word) (items ++ Word (span to (to + length word)) word ∷ []) true
+  a_string : (deep from to : ℕ) (bytes : List ℕ) (items : List Sexp) (ended : Bool) (body value : List ℕ) → Spells deep from to bytes items ended → Value body value → IsUtf8 value → Spells deep from (to + 1 + length body + 1) (bytes ++ (34 ∷ (body ++ 34 ∷ []))) (items ++ Str (span to (to + 1 + length body + 1)) value ∷ []) false
+  a_list : (deep from to close : ℕ) (bytes inner : List ℕ) (items parts : List Sexp) (ended inner_ended : Bool) → Spells deep from to bytes items ended → deep < MOST_DEPTH → Spells (suc deep) (to + 1) close inner parts inner_ended → Spells deep from (close + 1) (bytes ++ (40 ∷ (inner ++ 41 ∷ []))) (items ++ Parens (span to (close + 1)) parts ∷ []) false
 
 -- the whole of a text spells the items
 pub record SpellsItems (bytes : List ℕ) (items : List Sexp) : Type 0 where

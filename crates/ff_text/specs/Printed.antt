@@ -1,15 +1,15 @@
 -- The canonical spelling of items.
-use Rattle.std.specs.Prelude.{◌≡◌, ◌/◌, ◌%◌, ℕ, suc, Bool, false, ◌&&◌, ◌==◌, nat_lt, if◌then◌else◌, Result, Ok, Err, List, [], ◌∷◌, ◌++◌, map, IsTrue}
+use Rattle.std.specs.Prelude.{◌≡◌, ◌/◌, ◌%◌, ℕ, suc, Bool, false, ◌&&◌, ◌==◌, nat_lt, if◌then◌else◌, List, [], ◌∷◌, ◌++◌, map, IsTrue}
 use Rattle.std.specs.List.{list_all, flat_map, join_with_byte}
 use Rattle.std.specs.Str.{is_utf8}
 use Rattle.std.specs.Char.{is_ascii_control}
-use Rattle.ff_name.specs.Output.{AppendsFront}
 use Rattle.ff_text.specs.Bytes.{is_word_byte}
 use Rattle.ff_text.specs.Notation.{span, hex_digit, SpellsItems}
 use Rattle.ff_text.specs.declared.items.Sexp.{Sexp}
 use Rattle.ff_text.specs.declared.items.Sexp.TheVariants as sexp
 use Rattle.ff_text.specs.declared.items.Sexp.TheOpen.{Sexp-F}
 use Rattle.ff_text.specs.declared.items.Sexp.TheFolds.{fold-Sexp}
+use Rattle.ff_text.specs.declared.reader.TheConstants.{MOST_DEPTH}
 
 -- a byte of a string's value: four have short escapes, the other control bytes have `\x` and two digits
 abbrev pub spelled_byte : ℕ → List ℕ
@@ -44,15 +44,15 @@ abbrev pub bare : Sexp → Sexp
 bare = fold-Sexp Sexp bare_step
 
 -- whether an item that stands in so many lists is well spelled: its words are words, its strings are UTF-8, and its
--- lists nest at most 64 deep
+-- lists nest no more than so deep
 abbrev pub is_word : List ℕ → Bool
 is_word [] = false
 is_word (b ∷ bytes) = list_all is_word_byte (b ∷ bytes)
 
 abbrev pub fits_step : Sexp-F (ℕ → Bool) → ℕ → Bool
-fits_step (Sexp-F.Word at text) level = is_word text
-fits_step (Sexp-F.Str at value) level = is_utf8 value
-fits_step (Sexp-F.List at parts) level = nat_lt level 64 && list_all (λ part. part (suc level)) parts
+fits_step (Sexp-F.Word at text) deep = is_word text
+fits_step (Sexp-F.Str at value) deep = is_utf8 value
+fits_step (Sexp-F.List at parts) deep = nat_lt deep MOST_DEPTH && list_all (λ part. part (suc deep)) parts
 
 abbrev pub fits_at : Sexp → ℕ → Bool
 fits_at = fold-Sexp (ℕ → Bool) fits_step
@@ -68,16 +68,6 @@ pub record ReadsBack (bytes : List ℕ) (item : Sexp) : Type 0 where
   pub again : Sexp
   pub spells : SpellsItems bytes (again ∷ [])
   pub same : bare again ≡ bare item
-
--- the new items are the old ones and these, and after a refusal a front of these
-abbrev pub Appends : {X E : Type 0} → Result X E → List ℕ → List ℕ → List ℕ → Type 0
-Appends (Ok done) old new items = new ≡ old ++ items
-Appends (Err refused) old new items = AppendsFront old new items
-
--- after a refusal nothing was appended
-abbrev pub AppendsAll : {X E : Type 0} → Result X E → List ℕ → List ℕ → List ℕ → Type 0
-AppendsAll (Ok done) old new items = new ≡ old ++ items
-AppendsAll (Err refused) old new items = new ≡ old
 
 -- what stands before the item at a place
 abbrev pub blank_before : ℕ → List ℕ

@@ -1,10 +1,13 @@
-ghost use Rattle.std.specs.Prelude.{◌≡◌, ◌<◌, IsTrue, IfSome};
-ghost use Rattle.ff_text.specs.Bytes.{is_word_byte};
-ghost use Rattle.ff_text.specs.Kinds as kinds;
+ghost use Rattle.std.specs.Prelude.{◌≡◌, ◌<◌, ◌≤◌, false, get_or, length, take, IsTrue, IfSome};
+ghost use Rattle.std.specs.List.{list_all};
+ghost use Rattle.ff_text.specs.Bytes as bytes;
+ghost use Rattle.ff_text.specs.Classes as classes;
+
+use crate::escaped::is_plain;
 
 /// What a byte outside strings is.
 #[derive(Clone, Copy)]
-pub(crate) enum Kind {
+pub(crate) enum Class {
     Blank,
     Open,
     Close,
@@ -13,24 +16,61 @@ pub(crate) enum Kind {
     Stray,
 }
 
-#[tactic(auto, unfolding(crate::specs::Kinds::kind_of))]
-pub(crate) fn kind_of(b: u8) -> Kind
-    ensures kind { result ≡ kinds.kind_of b }
-    ensures word { kinds.kind_of b ≡ Kind.InWord → IsTrue (is_word_byte b) }
+#[tactic(auto, unfolding(crate::specs::Classes::class_of))]
+pub(crate) fn class_of(b: u8) -> Class
+    ensures class { result ≡ classes.class_of b }
+    ensures word { classes.class_of b ≡ Class.InWord → IsTrue (bytes.is_word_byte b) }
 {
     if b == b' ' {
-        Kind::Blank
+        Class::Blank
     } else if b == b'(' {
-        Kind::Open
+        Class::Open
     } else if b == b')' {
-        Kind::Close
+        Class::Close
     } else if b == b'"' {
-        Kind::Quote
+        Class::Quote
     } else if b.is_ascii_graphic() {
-        Kind::InWord
+        Class::InWord
     } else {
-        Kind::Stray
+        Class::Stray
     }
+}
+
+/// Whether a byte may stand in a word.
+pub(crate) fn is_word_byte(b: u8) -> bool
+    ensures { result ≡ bytes.is_word_byte b }
+{
+    if b > b')' {
+        b < 127
+    } else {
+        b > b' ' && b != b'(' && b != b')' && b != b'"'
+    }
+}
+
+/// How many bytes at the front may stand in a word.
+pub(crate) fn word_front(text: &[u8]) -> usize
+    ensures bound { result ≤ length text.now }
+    ensures word { IsTrue (list_all bytes.is_word_byte (take result text.now)) }
+    ensures longest { result < length text.now → bytes.is_word_byte (get_or text.now result 0) ≡ false }
+{
+    let mut n = 0;
+    while n < text.len() && is_word_byte(text[n]) {
+        n += 1;
+    }
+    n
+}
+
+/// How many bytes at the front stand for themselves in a string.
+pub(crate) fn plain_front(text: &[u8]) -> usize
+    ensures bound { result ≤ length text.now }
+    ensures plain { IsTrue (list_all bytes.is_plain_byte (take result text.now)) }
+    ensures longest { result < length text.now → bytes.is_plain_byte (get_or text.now result 0) ≡ false }
+{
+    let mut n = 0;
+    while n < text.len() && is_plain(text[n]) {
+        n += 1;
+    }
+    n
 }
 
 /// What a byte in a string is, outside its escapes.
@@ -42,9 +82,9 @@ pub(crate) enum InStr {
     Plain,
 }
 
-#[tactic(auto, unfolding(crate::specs::Kinds::in_str_of))]
+#[tactic(auto, unfolding(crate::specs::Classes::in_str_of))]
 pub(crate) fn in_str_of(b: u8) -> InStr
-    ensures { result ≡ kinds.in_str_of b }
+    ensures { result ≡ classes.in_str_of b }
 {
     if b == b'"' {
         InStr::Mark
@@ -65,9 +105,9 @@ pub(crate) enum Slashed {
     Wrong,
 }
 
-#[tactic(auto, unfolding(crate::specs::Kinds::slashed_of))]
+#[tactic(auto, unfolding(crate::specs::Classes::slashed_of))]
 pub(crate) fn slashed_of(b: u8) -> Slashed
-    ensures { result ≡ kinds.slashed_of b }
+    ensures { result ≡ classes.slashed_of b }
 {
     if b == b'"' || b == b'\\' {
         Slashed::Short(b)
@@ -83,9 +123,9 @@ pub(crate) fn slashed_of(b: u8) -> Slashed
 }
 
 /// The value of the first digit after `\x`, which is one of 0 to 7, or `None` for another byte.
-#[tactic(auto, unfolding(crate::specs::Kinds::high_digit))]
+#[tactic(auto, unfolding(crate::specs::Classes::high_digit))]
 pub(crate) fn high_digit(b: u8) -> Option<u8>
-    ensures { result ≡ kinds.high_digit b }
+    ensures { result ≡ classes.high_digit b }
 {
     if (b'0'..=b'7').contains(&b) {
         Some(b - b'0')
@@ -95,9 +135,9 @@ pub(crate) fn high_digit(b: u8) -> Option<u8>
 }
 
 /// The value of the second digit after `\x`.
-#[tactic(auto, unfolding(crate::specs::Kinds::low_digit))]
+#[tactic(auto, unfolding(crate::specs::Classes::low_digit))]
 pub(crate) fn low_digit(b: u8) -> Option<u8>
-    ensures digit { result ≡ kinds.low_digit b }
+    ensures digit { result ≡ classes.low_digit b }
     ensures low { IfSome result (λ digit. digit < 16) }
 {
     if b.is_ascii_digit() {

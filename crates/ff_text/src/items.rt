@@ -1,8 +1,5 @@
-ghost use Rattle.std.specs.Prelude.{◌≡◌, IfOk};
-
-use crate::NoMemory;
 use ff_name::Text;
-use ff_shared::SharedList;
+use ff_shared::OwnedList;
 use thiserror::Error;
 
 /// Where an item stands, in bytes from 0: the places of its first byte and of the byte after its
@@ -16,7 +13,7 @@ pub struct Span {
 }
 
 /// The items of a list or of a text, in their order.
-pub type Items = SharedList<Sexp>;
+pub type Items = OwnedList<Sexp>;
 
 /// An item of the notation.
 #[derive(Debug, PartialEq, Eq, Drop)]
@@ -29,43 +26,30 @@ pub enum Sexp {
     List(Span, Items),
 }
 
-impl Sexp {
-    /// An equal item. It shares all content and takes no memory.
-    pub fn copy(&self) -> Result<Sexp, NoMemory>
-        ensures { IfOk result (λ item. item ≡ self.now) }
-    {
-        match self {
-            Sexp::Word(span, text) => Ok(Sexp::Word(*span, text.copy()?)),
-            Sexp::Str(span, text) => Ok(Sexp::Str(*span, text.copy()?)),
-            Sexp::List(span, items) => Ok(Sexp::List(*span, items.copy()?)),
-        }
-    }
-}
-
 /// Why bytes are not read as items. Places are in bytes from 0.
 #[derive(Clone, Copy, Debug, PartialEq, Eq, Error)]
 pub enum TextFault {
     /// One item was wanted, and there is none.
-    #[error("no item")]
+    #[error("text empty")]
     Empty,
     /// The text ends inside the string whose opening mark is at this place, or else inside lists of
     /// which the innermost opens here.
-    #[error("unclosed at {0}")]
+    #[error("text unclosed at {0}")]
     Unclosed(u32),
     /// A `)` at this place closes no list, or, where one item was wanted, the second begins here.
-    #[error("extra at {0}")]
+    #[error("text extra at {0}")]
     Extra(u32),
     /// The byte at this place may not stand there.
-    #[error("a bad byte at {0}")]
+    #[error("text bad-byte at {0}")]
     BadByte(u32),
     /// The backslash at this place begins no escape.
-    #[error("a bad escape at {0}")]
+    #[error("text bad-escape at {0}")]
     BadEscape(u32),
     /// The value of the string whose opening mark is at this place is not UTF-8.
-    #[error("bad UTF-8 at {0}")]
+    #[error("text bad-utf8 at {0}")]
     BadUtf8(u32),
-    /// The `(` at this place would open a 65th level.
-    #[error("too deep at {0}")]
+    /// The `(` at this place would open one list more than may stand in one another.
+    #[error("text too-deep at {0}")]
     TooDeep(u32),
     /// There was no memory for the items.
     #[error("out of memory")]

@@ -5,6 +5,7 @@
 #![tactic(auto)]
 
 mod bytes;
+mod escaped;
 mod items;
 mod printing;
 mod reader;
@@ -13,7 +14,9 @@ mod rows;
 #[cfg(test)]
 mod tests;
 
+pub use escaped::{Escaped, MOST_ESCAPED_BYTES, is_plain};
 pub use ff_name::{NoMemory, Text};
 pub use items::{Items, Sexp, Span, TextFault};
 pub use printing::{print, quote};
+pub use reader::MOST_DEPTH;
 pub use reading::{MOST_BYTES, read, read_items};

@@ -1,16 +1,22 @@
-ghost use Rattle.std.specs.Prelude.{◌≡◌, ◌<◌, ◌+◌, ◌-◌, ◌^◌, IsTrue};
-ghost use Rattle.ff_text.specs.Bytes.{is_word_byte};
+ghost use Rattle.std.specs.Prelude.{◌≡◌, ◌<◌, ◌+◌, ◌-◌, ◌^◌, ℕ, true, get_or, length, IsTrue};
+ghost use Rattle.std.specs.List.{list_all};
+ghost use Rattle.ff_contract.specs.Answering.{Answers};
+ghost use Rattle.ff_text.specs.Bytes as bytes;
 ghost use Rattle.ff_text.specs.Machine as machine;
-ghost use Rattle.ff_text.specs.Machine.{Makes, Answers, HasDigit};
+ghost use Rattle.ff_text.specs.Machine.{Makes, MakesSome, HasDigit};
 
-use crate::bytes::{InStr, Kind, Slashed, high_digit, in_str_of, kind_of, low_digit, slashed_of};
+use crate::bytes::{
+    Class, InStr, Slashed, class_of, high_digit, in_str_of, is_word_byte, low_digit, plain_front,
+    slashed_of, word_front,
+};
+use crate::escaped::is_plain;
 use crate::items::{Items, Sexp, Span, TextFault};
 use crate::rows::{Row, Stack, WordBytes};
 use ff_name::Text;
 use std::alloc::Global;
 
-/// How many lists may stand in one another.
-const MOST_LEVELS: usize = 64;
+/// The most lists that may stand in one another.
+pub const MOST_DEPTH: usize = 64;
 
 /// A list that is open: where it begins, and the items that stand before it.
 #[derive(Drop)]
@@ -62,6 +68,94 @@ impl Reader {
         }
     }
 
+    /// Reads some bytes from the front: a word with the byte after it, a run of a string's plain bytes,
+    /// or else one byte. Answers how many.
+    pub(crate) fn take_some(&mut self, alloc: Global, left: &[u8]) -> Result<usize, TextFault>
+        requires some { 0 < length left.now }
+        requires at { self.old.at + length left.now < 2 ^ 32 }
+        requires digit { HasDigit self.old.mode }
+        ensures { MakesSome result self.old self.new left.now }
+    {
+        match self.mode {
+            Mode::Between if left[0] == b' ' => {
+                self.at += 1;
+                Ok(1)
+            }
+            Mode::Between if is_word_byte(left[0]) => self.take_word(alloc, left),
+            Mode::Str(_) if is_plain(left[0]) => self.take_plain(left),
+            _ => {
+                self.take(alloc, left[0])?;
+                Ok(1)
+            }
+        }
+    }
+
+    /// Reads a word, and the byte after it, if there is one.
+    fn take_word(&mut self, alloc: Global, left: &[u8]) -> Result<usize, TextFault>
+        requires mode { self.old.mode ≡ Mode.Between }
+        requires at { self.old.at + length left.now < 2 ^ 32 }
+        requires some { 0 < length left.now }
+        requires word { bytes.is_word_byte (get_or left.now 0 0) ≡ true }
+        ensures { MakesSome result self.old self.new left.now }
+    {
+        let n = word_front(left);
+        if n == left.len() || !self.word.is_empty() {
+            self.begin_run(&left[..n])?;
+            return Ok(n);
+        }
+        self.put_word(alloc, &left[..n])?;
+        if left[n] == b' ' {
+            self.at += 1;
+            return Ok(n + 1);
+        }
+        self.take_outside(alloc, left[n])?;
+        Ok(n + 1)
+    }
+
+    /// Puts a word that ends.
+    fn put_word(&mut self, alloc: Global, word: &[u8]) -> Result<(), TextFault>
+        requires at { self.old.at + length word.now < 2 ^ 32 }
+        requires word { IsTrue (list_all bytes.is_word_byte word.now) }
+        ensures { Makes result self.new (Ok (machine.word_put self.old word.now)) }
+    {
+        let Ok(text) = Text::of_utf8(alloc, word) else {
+            return Err(TextFault::NoMemory);
+        };
+        let from = self.at;
+        self.at += word.len() as u32;
+        self.put(Sexp::Word(Span { from, to: self.at }, text))
+    }
+
+    /// The bytes with which a word begins that may go on.
+    fn begin_run(&mut self, run: &[u8]) -> Result<(), TextFault>
+        requires at { self.old.at + length run.now < 2 ^ 32 }
+        requires word { IsTrue (list_all bytes.is_word_byte run.now) }
+        ensures { Makes result self.new (Ok (machine.word_run self.old run.now)) }
+    {
+        if self.word.extend(run).is_err() {
+            return Err(TextFault::NoMemory);
+        }
+        self.mode = Mode::Word(self.at);
+        self.at += run.len() as u32;
+        Ok(())
+    }
+
+    /// Reads the bytes at the front that stand for themselves in a string.
+    fn take_plain(&mut self, left: &[u8]) -> Result<usize, TextFault>
+        requires mode { (from : ℕ) × (self.old.mode ≡ Mode.Str from) }
+        requires at { self.old.at + length left.now < 2 ^ 32 }
+        requires some { 0 < length left.now }
+        requires plain { bytes.is_plain_byte (get_or left.now 0 0) ≡ true }
+        ensures { MakesSome result self.old self.new left.now }
+    {
+        let n = plain_front(left);
+        if self.value.extend(&left[..n]).is_err() {
+            return Err(TextFault::NoMemory);
+        }
+        self.at += n as u32;
+        Ok(n)
+    }
+
     /// Reads one byte.
     #[tactic(auto, unfolding(crate::specs::Machine::step))]
     pub(crate) fn take(&mut self, alloc: Global, b: u8) -> Result<(), TextFault>
@@ -84,26 +178,26 @@ impl Reader {
         requires { self.old.at < 2 ^ 32 - 1 }
         ensures { Makes result self.new (machine.outside self.old b) }
     {
-        match kind_of(b) {
-            Kind::Blank => {
+        match class_of(b) {
+            Class::Blank => {
                 self.at += 1;
                 Ok(())
             }
-            Kind::Open => self.open(alloc),
-            Kind::Close => self.close(alloc),
-            Kind::Quote => {
+            Class::Open => self.open(alloc),
+            Class::Close => self.close(alloc),
+            Class::Quote => {
                 self.mode = Mode::Str(self.at);
                 self.at += 1;
                 Ok(())
             }
-            Kind::InWord => self.begin_word(b),
-            Kind::Stray => Err(TextFault::BadByte(self.at)),
+            Class::InWord => self.begin_word(b),
+            Class::Stray => Err(TextFault::BadByte(self.at)),
         }
     }
 
     fn begin_word(&mut self, b: u8) -> Result<(), TextFault>
         requires at { self.old.at < 2 ^ 32 - 1 }
-        requires word { IsTrue (is_word_byte b) }
+        requires word { IsTrue (bytes.is_word_byte b) }
         ensures { Makes result self.new (Ok (machine.word_begun self.old b)) }
     {
         if self.word.push(b).is_err() {
@@ -118,7 +212,7 @@ impl Reader {
         requires { self.old.at < 2 ^ 32 - 1 }
         ensures { Makes result self.new (machine.open_list self.old) }
     {
-        if self.opened.len() >= MOST_LEVELS {
+        if self.opened.len() >= MOST_DEPTH {
             return Err(TextFault::TooDeep(self.at));
         }
         let before = self.items.take(alloc);
@@ -145,9 +239,7 @@ impl Reader {
             from,
             to: self.at + 1,
         };
-        let Ok(parts) = self.items.take(alloc).share(alloc) else {
-            return Err(TextFault::NoMemory);
-        };
+        let parts = self.items.take(alloc).list();
         self.items = before;
         self.at += 1;
         self.put(Sexp::List(span, parts))
@@ -167,8 +259,8 @@ impl Reader {
         requires { self.old.at < 2 ^ 32 - 1 }
         ensures { Makes result self.new (machine.in_word self.old from b) }
     {
-        match kind_of(b) {
-            Kind::InWord => self.lengthen_word(b),
+        match class_of(b) {
+            Class::InWord => self.lengthen_word(b),
             _ => {
                 self.end_word(alloc, from)?;
                 self.take_outside(alloc, b)
@@ -178,7 +270,7 @@ impl Reader {
 
     fn lengthen_word(&mut self, b: u8) -> Result<(), TextFault>
         requires at { self.old.at < 2 ^ 32 - 1 }
-        requires word { IsTrue (is_word_byte b) }
+        requires word { IsTrue (bytes.is_word_byte b) }
         ensures { Makes result self.new (Ok (machine.word_longer self.old b)) }
     {
         if self.word.push(b).is_err() {
@@ -219,12 +311,12 @@ impl Reader {
         requires { self.old.at < 2 ^ 32 - 1 }
         ensures { Makes result self.new (machine.end_str self.old from) }
     {
-        let value = self.value.take(alloc);
-        let text = match Text::of(alloc, value.as_slice()) {
+        let text = match Text::of(alloc, self.value.as_slice()) {
             Ok(Some(text)) => text,
             Ok(None) => return Err(TextFault::BadUtf8(from)),
             Err(_) => return Err(TextFault::NoMemory),
         };
+        self.value.clear();
         self.mode = Mode::Between;
         self.at += 1;
         let span = Span { from, to: self.at };
@@ -287,28 +379,25 @@ impl Reader {
     /// The items, where the text ends here.
     #[tactic(auto, unfolding(crate::specs::Machine::finish))]
     pub(crate) fn end(mut self, alloc: Global) -> Result<Items, TextFault>
-        ensures { Answers result (machine.finish self) }
+        ensures { Answers result (machine.finish self) (Err TextFault.NoMemory) }
     {
         match self.mode {
-            Mode::Between => self.end_items(alloc),
+            Mode::Between => self.end_items(),
             Mode::Word(from) => {
                 self.end_word(alloc, from)?;
-                self.end_items(alloc)
+                self.end_items()
             }
             Mode::Str(from) | Mode::Slash(from, _) | Mode::Hex(from, _) | Mode::Digit(from, _, _) =>
                 { Err(TextFault::Unclosed(from)) }
         }
     }
 
-    fn end_items(self, alloc: Global) -> Result<Items, TextFault>
-        ensures { Answers result (machine.end_items self) }
+    fn end_items(self) -> Result<Items, TextFault>
+        ensures { Answers result (machine.end_items self) (Err TextFault.NoMemory) }
     {
         if let Some(opened) = self.opened.top() {
             return Err(TextFault::Unclosed(opened.from));
         }
-        match self.items.share(alloc) {
-            Ok(items) => Ok(items),
-            Err(_) => Err(TextFault::NoMemory),
-        }
+        Ok(self.items.list())
     }
 }

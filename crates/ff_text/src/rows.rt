@@ -1,10 +1,10 @@
-ghost use Rattle.std.specs.Prelude.{◌≡◌, ◌<◌, ◌++◌, ◌∷◌, [], List, ℕ, IfOk, OnOk, IsTrue, MatchOption, length, reverse};
+ghost use Rattle.std.specs.Prelude.{◌≡◌, ◌↔◌, ◌<◌, ◌++◌, ◌∷◌, [], List, ℕ, IfOk, OnOk, IsTrue, MatchOption, length, reverse};
 ghost use Rattle.std.specs.List.{list_all};
 ghost use Rattle.ff_text.specs.Bytes.{is_word_byte};
 
 use crate::NoMemory;
 use ff_name::Text;
-use ff_shared::SharedList;
+use ff_shared::OwnedList;
 use std::alloc::Global;
 use std::marker::Model;
 use std::mem;
@@ -42,6 +42,15 @@ impl<T: Drop> Row<T> {
         Ok(())
     }
 
+    /// Puts all of these bytes last, or none where memory is refused.
+    pub(crate) fn extend(&mut self, run: &[T]) -> Result<(), NoMemory>
+    where
+        T: Copy,
+        ensures { OnOk result (self.new ≡ self.old ++ run.now) }
+    {
+        self.items.extend_from_slice(run)
+    }
+
     /// All the items, which leaves none.
     pub(crate) fn take(&mut self, alloc: Global) -> Row<T>
         ensures taken { result ≡ self.old }
@@ -50,16 +59,24 @@ impl<T: Drop> Row<T> {
         mem::replace(self, Row::new(alloc))
     }
 
+    /// Leaves no items, and keeps the room for them.
+    pub(crate) fn clear(&mut self)
+        ensures { self.new ≡ [] }
+    {
+        self.items.clear();
+    }
+
     pub(crate) fn as_slice(&self) -> &[T]
         ensures { result.now ≡ self.now }
     {
         self.items.as_slice()
     }
 
-    pub(crate) fn share(self, alloc: Global) -> Result<SharedList<T>, NoMemory>
-        ensures { IfOk result (λ items. items ≡ self) }
+    /// The items as a list.
+    pub(crate) fn list(self) -> OwnedList<T>
+        ensures { result ≡ self }
     {
-        SharedList::from_vec(alloc, self.items)
+        OwnedList::from_vec(self.items)
     }
 }
 
@@ -143,12 +160,26 @@ impl WordBytes {
         }
     }
 
+    pub(crate) fn is_empty(&self) -> bool
+        ensures { IsTrue result ↔ (self.now ≡ []) }
+    {
+        self.bytes.is_empty()
+    }
+
     pub(crate) fn push(&mut self, b: u8) -> Result<(), NoMemory>
         requires { IsTrue (is_word_byte b) }
         ensures { OnOk result (self.new ≡ self.old ++ b ∷ []) }
     {
         self.bytes.push(b)?;
         Ok(())
+    }
+
+    /// Puts all of these bytes last, or none where memory is refused.
+    pub(crate) fn extend(&mut self, run: &[u8]) -> Result<(), NoMemory>
+        requires { IsTrue (list_all is_word_byte run.now) }
+        ensures { OnOk result (self.new ≡ self.old ++ run.now) }
+    {
+        self.bytes.extend_from_slice(run)
     }
 
     /// The word as a text, which leaves no bytes.

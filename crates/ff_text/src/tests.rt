@@ -1,4 +1,4 @@
-use crate::{NoMemory, Sexp, Text, TextFault, print, quote, read, read_items};
+use crate::{Escaped, NoMemory, Sexp, Text, TextFault, is_plain, print, quote, read, read_items};
 use std::alloc::Global;
 
 /// Whether the bytes are read as this fault, or else printed so.
@@ -64,12 +64,12 @@ fn items_and_faults(rt: HostRuntime) -> Result<(), NoMemory> {
 }
 
 /// The fault of so many lists in one another.
-fn fault_of_levels(alloc: Global, levels: u32) -> Result<Option<TextFault>, NoMemory> {
+fn fault_of_nested(alloc: Global, count: u32) -> Result<Option<TextFault>, NoMemory> {
     let mut text = Vec::new(alloc);
-    for _ in 0..levels {
+    for _ in 0..count {
         text.push(b'(')?;
     }
-    for _ in 0..levels {
+    for _ in 0..count {
         text.push(b')')?;
     }
     if text.len() > 1000 {
@@ -80,8 +80,8 @@ fn fault_of_levels(alloc: Global, levels: u32) -> Result<Option<TextFault>, NoMe
 
 #[test]
 fn the_deepest_list(rt: HostRuntime) -> Result<(), NoMemory> {
-    for (levels, want) in [(64, None), (65, Some(TextFault::TooDeep(64)))] {
-        assert_eq!(rt; fault_of_levels(rt.alloc(), levels)?, want, "{levels}");
+    for (count, want) in [(64, None), (65, Some(TextFault::TooDeep(64)))] {
+        assert_eq!(rt; fault_of_nested(rt.alloc(), count)?, want, "{count}");
     }
     Ok(())
 }
@@ -105,4 +105,21 @@ fn quoted_strings(rt: HostRuntime) -> Result<(), NoMemory> {
         assert!(rt; quotes_as(rt.alloc(), value, want)?, "{value:?}");
     }
     Ok(())
+}
+
+#[test]
+fn what_stands_for_a_byte(rt: HostRuntime) {
+    let cases: [(u8, &[u8]); 7] = [
+        (b'a', b"a"),
+        (0xff, b"\xff"),
+        (b'"', b"\\\""),
+        (b'\\', b"\\\\"),
+        (b'\n', b"\\n"),
+        (b'\t', b"\\t"),
+        (0x7f, b"\\x7f"),
+    ];
+    for (b, want) in cases {
+        let alike = Escaped::of(b).as_slice() == want && is_plain(b) == (want.len() == 1);
+        assert!(rt; alike, "{b}");
+    }
 }

@@ -1,11 +1,11 @@
 -- Items that are printed with blanks between them are read back, in all but their places.
-use Rattle.std.proofs.Common.{◌≡◌, ◌+◌, ℕ, suc, Bool, true, false, ◌&&◌, List, [], ◌∷◌, ◌++◌, length, map, refl, sym, ap, ◌∙◌, subst, append_assoc, append-nil}
-use Rattle.std.specs.List.{join_with_byte, list_all}
+use Rattle.std.proofs.Common.{◌≡◌, ◌+◌, ℕ, suc, Bool, true, false, List, [], ◌∷◌, ◌++◌, length, map, refl, sym, ap, ◌∙◌, subst, append_assoc, append-nil}
+use Rattle.std.specs.List.{list_all}
 use Rattle.std.proofs.lemmas.Bool.{and_parts}
 use Rattle.ff_text.specs.declared.items.Sexp.{Sexp}
 use Rattle.ff_text.specs.declared.items.Sexp.TheVariants as sexp
-use Rattle.ff_text.specs.Notation.{span, IsWord, Value, Spells, nothing, blank, a_word, a_string, a_list, SpellsItems}
-use Rattle.ff_text.specs.Printed.{spelled, bare, fits_at, IsWellSpelled, AreWellSpelled, ReadsBack}
+use Rattle.ff_text.specs.Notation.{span, Spells, nothing, blank, a_word, a_string, a_list, SpellsItems}
+use Rattle.ff_text.specs.Printed.{spelled, bare, fits_at, IsWellSpelled, AreWellSpelled}
 use Rattle.ff_text.proofs.Back.{reads_back}
 use Rattle.ff_text.proofs.Layers.{bare-Word, bare-Str, bare-List}
 use Rattle.ff_trace.specs.Printed.{joined}

@@ -1,12 +1,12 @@
 -- What an item is, known in all but its places.
-use Rattle.std.proofs.Common.{◌≡◌, ℕ, List, [], ◌∷◌, map, refl, sym, ap, ◌∙◌}
+use Rattle.std.proofs.Common.{◌≡◌, ℕ, List, [], ◌∷◌, map, ap, ◌∙◌}
 use Rattle.ff_text.specs.declared.items.Span.{Span}
 use Rattle.ff_text.specs.declared.items.Sexp.{Sexp, out-Sexp}
 use Rattle.ff_text.specs.declared.items.Sexp.TheVariants as sexp
 use Rattle.ff_text.specs.declared.items.Sexp.TheOpen.{Sexp-F}
 use Rattle.ff_text.specs.Printed.{bare}
-use Rattle.ff_syntax.specs.Canonical.{word, string}
-use Rattle.ff_syntax.proofs.Bare.{word_item, string_item}
+use Rattle.ff_forms.specs.Canonical.{word, string}
+use Rattle.ff_printing.proofs.Bare.{word_item, string_item}
 
 -- the item is this word, at some place
 pub record IsWordOf (item : Sexp) (text : List ℕ) : Type 0 where

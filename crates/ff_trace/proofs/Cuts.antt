@@ -8,10 +8,10 @@ use Rattle.ff_text.proofs.Layers.{spelled-Word}
 use Rattle.ff_value.specs.declared.input.Act.{Act}
 use Rattle.ff_value.specs.declared.input.Act.TheVariants as act
 use Rattle.ff_value.specs.declared.input.Input.{Input}
-use Rattle.ff_syntax.specs.Canonical.{word}
-use Rattle.ff_trace.specs.declared.kind.Kind.{Kind}
-use Rattle.ff_trace.specs.declared.kind.Kind.TheVariants as kind
-use Rattle.ff_trace.specs.Kinds.{word_of}
+use Rattle.ff_forms.specs.Canonical.{word}
+use Rattle.ff_value.specs.declared.kind.Kind.{Kind}
+use Rattle.ff_value.specs.declared.kind.Kind.TheVariants as kind
+use Rattle.ff_value.specs.Kinds.{word_of}
 use Rattle.ff_trace.specs.Pieces.{tag_text}
 use Rattle.ff_trace.specs.Printed.{act_items, tag_items, input_text, joined}
 

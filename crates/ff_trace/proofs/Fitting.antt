@@ -1,11 +1,13 @@
 -- The items of inputs are well spelled, and the lines of inputs and outputs hold no newline.
-use Rattle.std.proofs.Common.{◌≡◌, ◌≢◌, ◌<◌, ◌^◌, ◌&&◌, ℕ, Bool, true, List, [], ◌∷◌, ◌++◌, length, map, get_or, Option, Some, None, refl, sym, ap, ◌∙◌, subst, arith, codes}
-use Rattle.std.specs.List.{All, AllByRecursion, list_all, join_with_byte}
+use Rattle.std.specs.Prelude.{IfSome, take_while}
+use Rattle.std.proofs.Common.{◌≡◌, ◌≢◌, ◌<◌, ◌+◌, ◌^◌, ◌==◌, ℕ, suc, Bool, true, false, not, List, [], ◌∷◌, ◌++◌, length, map, get_or, Option, Some, None, refl, ap, subst, arith, codes}
+use Rattle.std.specs.List.{All, AllByRecursion, list_all, prefix_len}
 use Rattle.std.specs.Str.{IsUtf8}
 use Rattle.std.proofs.lemmas.Bool.{and_parts}
 use Rattle.std.proofs.lemmas.List.{get_or_default}
 use Rattle.std.proofs.lemmas.List.Elements.{All-cons, All-append}
-use Rattle.ff_lattice.specs.Order.{Order, size, name, IsOrder}
+use Rattle.std.proofs.lemmas.Bool.Decides.{nat_tests}
+use Rattle.ff_lattice.specs.Order.{Order, size, name, IsOrder, IsTag}
 use Rattle.ff_lattice.proofs.Callers.{name_graphic}
 use Rattle.ff_name.specs.Address.{printed}
 use Rattle.ff_name.proofs.Ascii.{IsUtf8-from_request}
@@ -22,15 +24,14 @@ use Rattle.ff_value.specs.declared.input.Act.TheVariants as act
 use Rattle.ff_value.specs.declared.input.Input.{Input}
 use Rattle.ff_value.specs.declared.output.Out.{Out}
 use Rattle.ff_value.specs.declared.output.Out.TheVariants as out
-use Rattle.ff_syntax.specs.Canonical.{word, string}
-use Rattle.ff_syntax.proofs.OneLine.{spelled_one_line, shown_one_line, pairs_one_line}
-use Rattle.ff_syntax.proofs.WordTexts.{url_word}
-use Rattle.ff_trace.specs.Kinds.{word_of}
-use Rattle.ff_trace.specs.Lines.{IsTag}
-use Rattle.ff_trace.specs.Printed.{number, act_items, tag_items, input_items, input_text, out_items, out_text, joined, in_key_order}
-use Rattle.ff_trace.specs.declared.kind.Kind.{Kind}
-use Rattle.ff_trace.specs.declared.kind.Kind.TheVariants as kind
-use Rattle.ff_syntax.proofs.Fitting.{resp_item_well_spelled}
+use Rattle.ff_forms.specs.Canonical.{word, string}
+use Rattle.ff_printing.proofs.OneLine.{spelled_one_line, shown_one_line, pairs_one_line}
+use Rattle.ff_printing.proofs.WordTexts.{url_word}
+use Rattle.ff_value.specs.Kinds.{word_of}
+use Rattle.ff_trace.specs.Printed.{number, act_items, tag_items, input_items, input_text, out_items, out_text, joined, in_key_order, headed, out_line}
+use Rattle.ff_value.specs.declared.kind.Kind.{Kind}
+use Rattle.ff_value.specs.declared.kind.Kind.TheVariants as kind
+use Rattle.ff_printing.proofs.Fitting.{resp_item_well_spelled}
 use Rattle.ff_trace.proofs.Worded.{number_word, domain_word, tag_is_word, fits_word, fits_string, fits_more, fits_none}
 
 kind_is_word : (k : Kind) → is_word (word_of k) ≡ true
@@ -69,14 +70,14 @@ act_fit (act.Replies domain request resp) well =
 act_fits : (one : Act) → IsWellSpelledAct one → AreWellSpelled (act_items one)
 act_fits one well = all_fit (act_items one) (act_fit one well)
 
-tagged_fits : (order : Order) → IsOrder order → (tag : Option Level) → IsTag order tag → (items : List Sexp) → AreWellSpelled items → AreWellSpelled (tag_items order tag ++ items)
-tagged_fits order valid None is_tag items well = well
-tagged_fits order valid (Some level) is_tag items well =
+tagged_fits : (order : Order) (tag : Option Level) → IfSome tag (λ _. IsOrder order) → IsTag order tag → (items : List Sexp) → AreWellSpelled items → AreWellSpelled (tag_items order tag ++ items)
+tagged_fits order None valid is_tag items well = well
+tagged_fits order (Some level) valid is_tag items well =
     fits_more (word (64 ∷ name order level.0)) items (fits_word (64 ∷ name order level.0) (tag_is_word order valid level.0 is_tag)) well
 
 -- the items of an input are well spelled
-pub input_fits : (order : Order) → IsOrder order → (input : Input) → IsTag order input.tag → IsWellSpelledInput input → AreWellSpelled (input_items order input)
-input_fits order valid input is_tag well = tagged_fits order valid input.tag is_tag (act_items input.act) (act_fits input.act well)
+pub input_fits : (order : Order) (input : Input) → IfSome input.tag (λ _. IsOrder order) → IsTag order input.tag → IsWellSpelledInput input → AreWellSpelled (input_items order input)
+input_fits order input valid is_tag well = tagged_fits order input.tag valid is_tag (act_items input.act) (act_fits input.act well)
 
 -- ---- one line
 
@@ -104,8 +105,8 @@ lines_of (item ∷ items) well =
     (spelled_one_line item tests.0, lines_of items tests.1)
 
 -- the line of an input holds no newline
-pub input_one_line : (order : Order) → IsOrder order → (input : Input) → IsTag order input.tag → IsWellSpelledInput input → IsOneLine (input_text order input)
-input_one_line order valid input is_tag well = joined_line (input_items order input) (lines_of (input_items order input) (input_fits order valid input is_tag well))
+pub input_one_line : (order : Order) (input : Input) → IfSome input.tag (λ _. IsOrder order) → IsTag order input.tag → IsWellSpelledInput input → IsOneLine (input_text order input)
+input_one_line order input valid is_tag well = joined_line (input_items order input) (lines_of (input_items order input) (input_fits order input valid is_tag well))
 
 word_line : (text : List ℕ) → is_word text ≡ true → IsOneLine (spelled (word text))
 word_line text is = spelled_one_line (word text) (fits_word text is)
@@ -152,7 +153,28 @@ no_blank_byte : (b : ℕ) → 32 < b → (b ≢ 32) × (b ≢ 10)
 no_blank_byte b above = (λ e. absurd (omega (arith, e, above)), λ e. absurd (omega (arith, e, above)))
 
 -- the name of a level holds neither a blank nor a newline
-pub name_headed : (order : Order) → IsOrder order → (l : ℕ) → l < size order → All (λ b. (b ≢ 32) × (b ≢ 10)) (name order l)
-name_headed order valid l inside k d at =
+name_bytes : (order : Order) → IsOrder order → (l : ℕ) → l < size order → All (λ b. (b ≢ 32) × (b ≢ 10)) (name order l)
+name_bytes order valid l inside k d at =
     let high = (name_graphic (name order l) (valid.named l inside) k at).0 in
     subst (λ b. (b ≢ 32) × (b ≢ 10)) (get_or_default (name order l) k 0 d at) (no_blank_byte (get_or (name order l) k 0) high)
+
+-- an output with its level's name holds no newline
+pub headed_one_line : (order : Order) (l : ℕ) (one : Out) → IsOrder order → l < size order → IsWellSpelledOut one → IsOneLine (headed order l one)
+headed_one_line order l one valid inside well =
+    All-append (λ b. b ≢ 10) (name order l) (32 ∷ out_text one) (λ k d at. (name_bytes order valid l inside k d at).1)
+    (All-cons (λ b. b ≢ 10) 32 (out_text one) (λ e. cc) (out_one_line one well))
+
+no_blank : (b : ℕ) → b ≢ 32 → (b == 32) ≡ false
+no_blank b other = grind (arith, nat_tests)
+
+before_blank : (text rest last : List ℕ) → ((k : ℕ) → k < length text → get_or text k 0 ≢ 32) → take_while (λ b. not (b == 32)) ((text ++ 32 ∷ rest) ++ last) ≡ text
+before_blank [] rest last other = refl
+before_blank (b ∷ text) rest last other =
+    let test : (b == 32) ≡ false = no_blank b (other 0 (omega arith)) in
+    let n = prefix_len (λ b. not (b == 32)) ((text ++ 32 ∷ rest) ++ last) in
+    let next : 1 + n ≡ suc n = omega arith in
+    rw (test, next) (ap (λ (bs : List ℕ). b ∷ bs) (before_blank text rest last (λ k inside. other (suc k) (omega arith))))
+
+-- what stands before the first blank of an output's line is the name of its level
+pub name_first : (order : Order) (l : ℕ) (one : Out) → IsOrder order → l < size order → take_while (λ b. not (b == 32)) (out_line order l one) ≡ name order l
+name_first order l one valid inside = before_blank (name order l) (out_text one) (10 ∷ []) (λ k at. (name_bytes order valid l inside k 0 at).0)

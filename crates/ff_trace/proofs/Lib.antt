@@ -2,11 +2,10 @@ pub mod Back
 pub mod Bare
 pub mod Cuts
 pub mod Fitting
-pub mod Named
+pub mod LineFaults
 pub mod Numbers
 pub mod Once
 pub mod Reread
-pub mod Sequence
 pub mod Sorting
 pub mod Spelt
 pub mod Worded

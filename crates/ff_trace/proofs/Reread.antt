@@ -1,7 +1,7 @@
 -- What is read from the items of an input is the input.
-use Rattle.std.proofs.Common.{◌≡◌, ◌<◌, ◌^◌, ◌==◌, ℕ, Bool, true, false, List, [], ◌∷◌, ◌++◌, map, Option, Some, None, Result, Ok, Err, codes, refl, sym, ap, ◌∙◌, subst}
-use Rattle.std.specs.Str.{IsUtf8}
-use Rattle.ff_lattice.specs.Order.{Order, size, name, IsOrder}
+use Rattle.std.proofs.Common.{◌≡◌, ◌<◌, ◌^◌, ◌==◌, ℕ, true, false, List, [], ◌∷◌, ◌++◌, map, Option, Some, None, Result, Ok, codes, refl, sym, ap, ◌∙◌, subst}
+use Rattle.std.specs.Prelude.{IfSome}
+use Rattle.ff_lattice.specs.Order.{Order, name, level_named, IsTag, IsOrder}
 use Rattle.ff_name.specs.Address.{printed, as_printed}
 use Rattle.ff_name.specs.Address as address
 use Rattle.ff_name.specs.Spelling.{IsDomain}
@@ -10,32 +10,31 @@ use Rattle.ff_name.specs.declared.urls.Url.{Url}
 use Rattle.ff_number.specs.Decimal.{nat_text}
 use Rattle.ff_text.specs.Notation.{span}
 use Rattle.ff_text.proofs.Layers.{spelled-Word}
-use Rattle.ff_text.specs.Printed.{bare, AreWellSpelled}
+use Rattle.ff_text.specs.Printed.{bare}
 use Rattle.ff_text.specs.declared.items.Sexp.{Sexp, out-Sexp}
-use Rattle.ff_text.specs.declared.items.Sexp.TheOpen.{Sexp-F}
 use Rattle.ff_value.specs.Spelled.{IsWellSpelledAct, IsWellSpelledInput, IsWellSpelledResp}
 use Rattle.ff_value.specs.declared.input.Act.{Act}
 use Rattle.ff_value.specs.declared.input.Act.TheVariants as act
 use Rattle.ff_value.specs.declared.input.Input.{Input}
 use Rattle.ff_value.specs.declared.reply.Resp.{Resp}
-use Rattle.ff_syntax.specs.Canonical.{word, string, resp_item}
-use Rattle.ff_syntax.specs.Words.{is_domain, address_of}
-use Rattle.ff_syntax.proofs.Addressing.{address_found}
-use Rattle.ff_syntax.proofs.Rereading.{resp_again}
-use Rattle.ff_trace.proofs.Spelt.{is_domain-from}
+use Rattle.ff_forms.specs.Canonical.{word, string, resp_item}
+use Rattle.ff_name.specs.Reading.{is_domain, read_url}
+use Rattle.ff_name.proofs.Reading.{read_url_found, is_domain-from}
+use Rattle.ff_reading.proofs.Completes.{resp_complete}
+use Rattle.ff_printing.proofs.Respelled.{resp_respelled}
 use Rattle.ff_trace.specs.declared.fault.LineFault.{LineFault}
 use Rattle.ff_trace.specs.declared.fault.LineFault.TheVariants as fault
-use Rattle.ff_trace.specs.declared.kind.Kind.{Kind}
-use Rattle.ff_trace.specs.declared.kind.Kind.TheVariants as kind
-use Rattle.ff_trace.specs.Kinds.{word_of, kind_named}
-use Rattle.ff_trace.specs.Lines.{act_in, act_of, act_or_kind, kind_of, kind_word, after_at, tag_word, by_tag, tagged, with_tag, input_in, IsTag, level_named, of_one, of_two, of_three, is_silent, ReadsLine, as_items}
+use Rattle.ff_value.specs.declared.kind.Kind.{Kind}
+use Rattle.ff_value.specs.declared.kind.Kind.TheVariants as kind
+use Rattle.ff_value.specs.Kinds.{word_of, own_word}
+use Rattle.ff_trace.specs.Lines.{act_in, act_of, act_or_kind, kind_of, kind_word, after_at, tag_word, by_tag, tagged, with_tag, input_in, of_one, of_two, of_three, is_silent, ReadsLine, as_items}
 use Rattle.ff_trace.specs.Parts.{number_of, domain_of, by_word, by_string, or_fault, or_syntax, number_in, address_in, domain_in, string_in, response_in}
 use Rattle.ff_trace.specs.Printed.{number, act_items, tag_items, input_items, input_text, joined}
 use Rattle.ff_trace.proofs.Back.{line_back}
 use Rattle.ff_trace.proofs.Fitting.{input_fits}
-use Rattle.ff_trace.proofs.Cuts.{Begun, act_begun}
-use Rattle.ff_trace.proofs.Bare.{IsWordOf, IsStringOf, word_from, string_from, Again, none, more, again_from}
-use Rattle.ff_trace.proofs.Named.{level_found}
+use Rattle.ff_trace.proofs.Cuts.{act_begun}
+use Rattle.ff_trace.proofs.Bare.{word_from, string_from, Again, none, more, again_from}
+use Rattle.ff_lattice.proofs.Named.{level_found}
 use Rattle.ff_trace.proofs.Numbers.{number_spelled}
 
 -- ---- one part
@@ -49,7 +48,7 @@ number_again : (item : Sexp) (n : ℕ) → n < 2 ^ 32 → bare item ≡ bare (nu
 number_again item n small same = read_again fault.Number number_of item (nat_text n) n same (number_spelled n (nat_text n) small refl)
 
 address_again : (item : Sexp) (url : Url) → address.IsWellSpelled url → bare item ≡ bare (word (printed url)) → address_in item ≡ Ok url
-address_again item url well same = read_again fault.Url address_of item (printed url) url same (address_found (printed url) url (as_printed url well))
+address_again item url well same = read_again fault.Url read_url item (printed url) url same (read_url_found (printed url) url (as_printed url well))
 
 domain_spelled : (text : List ℕ) → IsDomain text → domain_of text ≡ Some text
 domain_spelled text h = let test : is_domain text ≡ true = is_domain-from text h in rw test refl
@@ -61,19 +60,10 @@ string_again : (item : Sexp) (value : List ℕ) → bare item ≡ bare (string v
 string_again item value same = let is = string_from item value same in ap by_string is.is
 
 response_again : (item : Sexp) (resp : Resp) → IsWellSpelledResp resp → bare item ≡ bare (resp_item resp) → response_in item ≡ Ok resp
-response_again item resp well same = ap or_syntax (resp_again resp well item same)
-
-kind_known : (k : Kind) → kind_named (word_of k) ≡ Some k
-kind_known kind.Open = refl
-kind_known kind.Go = refl
-kind_known kind.Link = refl
-kind_known kind.Close = refl
-kind_known kind.Type = refl
-kind_known kind.Click = refl
-kind_known kind.Reply = refl
+response_again item resp well same = ap or_syntax (resp_complete item resp (resp_respelled resp well.spelled item same))
 
 kind_again : (item : Sexp) (k : Kind) → bare item ≡ bare (word (word_of k)) → kind_of item ≡ Some k
-kind_again item k same = let is = word_from item (word_of k) same in ap kind_word is.is ∙ kind_known k
+kind_again item k same = let is = word_from item (word_of k) same in ap kind_word is.is ∙ own_word k
 
 begun_again : (item : Sexp) (parts : List Sexp) (k : Kind) → bare item ≡ bare (word (word_of k)) → act_in (item ∷ parts) ≡ act_of k parts
 begun_again item parts k same = ap (λ (found : Option Kind). act_or_kind found parts) (kind_again item k same)
@@ -130,16 +120,16 @@ tag_again order items others text level one named (more item _ rest _ e again) e
     ∙ ap (λ (found : Option Level). tagged found rest) named
     ∙ ap (with_tag (Some level)) (each rest again)
 
-input_by : (order : Order) → IsOrder order → (tag : Option Level) (one : Act) → IsTag order tag → IsWellSpelledAct one → (items : List Sexp) → Again items (tag_items order tag ++ act_items one) → input_in order items ≡ Ok (Some (record { tag = tag; act = one }))
-input_by order valid None one is_tag well items again =
+input_by : (order : Order) (tag : Option Level) (one : Act) → IfSome tag (λ _. IsOrder order) → IsTag order tag → IsWellSpelledAct one → (items : List Sexp) → Again items (tag_items order tag ++ act_items one) → input_in order items ≡ Ok (Some (record { tag = tag; act = one }))
+input_by order None one valid is_tag well items again =
     let begun = act_begun one in
     no_tag_again order items begun.parts begun.first (subst (Again items) begun.is again) ∙ ap (with_tag None) (act_again items one well again)
-input_by order valid (Some level) one is_tag well items again =
-    tag_again order items (act_items one) (name order level.0) level one (level_found order valid (name order level.0) level is_tag refl) again (λ rest same. act_again rest one well same)
+input_by order (Some level) one valid is_tag well items again =
+    tag_again order items (act_items one) (name order level.0) level one (level_found order (name order level.0) level valid is_tag refl) again (λ rest same. act_again rest one well same)
 
 -- what is read from the items of an input, whatever their places, is the input
-pub input_again : (order : Order) → IsOrder order → (input : Input) → IsTag order input.tag → IsWellSpelledInput input → (items : List Sexp) → map bare items ≡ map bare (input_items order input) → input_in order items ≡ Ok (Some input)
-input_again order valid input is_tag well items same = input_by order valid input.tag input.act is_tag well items (again_from items (input_items order input) same)
+pub input_again : (order : Order) (input : Input) → IfSome input.tag (λ _. IsOrder order) → IsTag order input.tag → IsWellSpelledInput input → (items : List Sexp) → map bare items ≡ map bare (input_items order input) → input_in order items ≡ Ok (Some input)
+input_again order input valid is_tag well items same = input_by order input.tag input.act valid is_tag well items (again_from items (input_items order input) same)
 
 -- ---- a line
 
@@ -168,7 +158,7 @@ speaks order None one = let begun = act_begun one in ap (λ (items : List Sexp).
 speaks order (Some level) one = not_silent _ 64 (joined_begins (64 ∷ name order level.0) 64 (name order level.0) (act_items one) refl) refl refl
 
 -- what is printed for an input is read as the input
-pub line_again : (order : Order) → IsOrder order → (input : Input) → IsTag order input.tag → IsWellSpelledInput input → ReadsLine order (input_text order input) (Ok (Some input))
-line_again order valid input is_tag well =
-    let back = line_back (input_items order input) (input_fits order valid input is_tag well) in
-    as_items back.again (Ok (Some input)) (speaks order input.tag input.act) back.spells (sym (input_again order valid input is_tag well back.again back.same))
+pub line_again : (order : Order) (input : Input) → IfSome input.tag (λ _. IsOrder order) → IsTag order input.tag → IsWellSpelledInput input → ReadsLine order (input_text order input) (Ok (Some input))
+line_again order input valid is_tag well =
+    let back = line_back (input_items order input) (input_fits order input valid is_tag well) in
+    as_items back.again (Ok (Some input)) (speaks order input.tag input.act) back.spells (sym (input_again order input valid is_tag well back.again back.same))

@@ -1,34 +1,18 @@
 -- What reading a word as an address or a domain answers.
-use Rattle.std.proofs.Common.{◌≡◌, ◌≢◌, ◌⊎◌, ◌↔◌, ◌≤◌, ◌==◌, nat_le, length, arith, ℕ, Bool, true, false, List, Option, Some, None, Result, Ok, Err, cond, inl, inr, refl, sym, ap, ◌∙◌, subst}
+use Rattle.std.proofs.Common.{◌≡◌, ◌≢◌, ◌⊎◌, ◌↔◌, ℕ, Bool, true, false, List, Option, Some, None, Result, Ok, Err, cond, inl, inr, refl, ap, subst}
 use Rattle.std.specs.Prelude.{MatchOption}
-use Rattle.std.specs.List.{list_all, slice_split}
-use Rattle.std.proofs.lemmas.Bool.{and_parts, and_from}
-use Rattle.std.proofs.lemmas.Bool.Decides.{nat_tests}
 use Rattle.ff_name.specs.Address.{Spells}
-use Rattle.ff_name.specs.Spelling.{IsDomain, is_label}
+use Rattle.ff_name.specs.Spelling.{IsDomain}
 use Rattle.ff_name.specs.declared.urls.Url.{Url}
 use Rattle.ff_name.specs.declared.urls.UrlFault.{UrlFault}
 use Rattle.ff_name.specs.declared.urls.UrlFault.TheVariants as url_fault
-use Rattle.ff_name.proofs.Labels.{IsDomain-from_parts, parts_from_IsDomain}
-use Rattle.ff_syntax.specs.Words.{is_domain, address_of}
-use Rattle.ff_syntax.proofs.Addressing.{address_found, address_spelled}
+use Rattle.ff_name.specs.Reading.{is_domain, read_url}
+use Rattle.ff_name.proofs.Reading.{read_url_found, read_url_spelled, is_domain-from, IsDomain-from}
 use Rattle.ff_trace.specs.Parts.{domain_of, or_fault}
 use Rattle.ff_trace.specs.declared.fault.LineFault.{LineFault}
 
-pub is_domain-from : (text : List ℕ) → IsDomain text → is_domain text ≡ true
-is_domain-from text h =
-    let short : length text ≤ 253 = h.short in
-    let test : nat_le (length text) 253 ≡ true = grind (arith, nat_tests) in
-    and_from _ _ test (parts_from_IsDomain text h)
-
-pub IsDomain-from : (text : List ℕ) → is_domain text ≡ true → IsDomain text
-IsDomain-from text h =
-    let parts = and_parts (nat_le (length text) 253) (list_all is_label (slice_split (λ b. b == 46) text)) h in
-    let test : nat_le (length text) 253 ≡ true = parts.0 in
-    IsDomain-from_parts text (grind (arith, nat_tests)) parts.1
-
-pub address_read : (which : LineFault) (text : List ℕ) (url : Url) → Spells text url → or_fault which (address_of text) ≡ Ok url
-address_read which text url spells = ap (or_fault which) (address_found text url spells)
+pub address_read : (which : LineFault) (text : List ℕ) (url : Url) → Spells text url → or_fault which (read_url text) ≡ Ok url
+address_read which text url spells = ap (or_fault which) (read_url_found text url spells)
 
 abbrev Only : List ℕ → Result Url UrlFault → Type 0
 Only text answer = (url : Url) → Spells text url → (answer ≡ Ok url) ⊎ (answer ≡ Err url_fault.NoMemory)
@@ -40,10 +24,10 @@ same_fault : (fault : UrlFault) (answer : Result Url UrlFault) → answer ≡ Er
 same_fault fault answer e f = cc
 
 -- bytes that are refused for another cause than memory are no address
-pub address_refused : (which : LineFault) (text : List ℕ) (answer : Result Url UrlFault) (fault : UrlFault) → answer ≡ Err fault → fault ≢ url_fault.NoMemory → Only text answer → or_fault which (address_of text) ≡ Err which
-address_refused which text answer fault e other only = go (address_of text) refl where
-  go : (found : Option Url) → address_of text ≡ found → or_fault which found ≡ Err which
-  go (Some url) is = elim (only url (address_spelled text url is)) [
+pub address_refused : (which : LineFault) (text : List ℕ) (answer : Result Url UrlFault) (fault : UrlFault) → answer ≡ Err fault → fault ≢ url_fault.NoMemory → Only text answer → or_fault which (read_url text) ≡ Err which
+address_refused which text answer fault e other only = go (read_url text) refl where
+  go : (found : Option Url) → read_url text ≡ found → or_fault which found ≡ Err which
+  go (Some url) is = elim (only url (read_url_spelled text url is)) [
     | inl ok ↦ absurd (not_read fault url answer e ok)
     | inr memory ↦ absurd (other (same_fault fault answer e memory))
   ]
@@ -71,8 +55,8 @@ domain_some which text domain answer e told given = domain_read which text domai
 pub domain_none : (which : LineFault) (text : List ℕ) (answer : Option (List ℕ)) → answer ≡ None → Tells text answer → or_fault which (domain_of text) ≡ Err which
 domain_none which text answer e told = domain_refused which text (subst (Tells text) e told)
 
-pub address_exactly : (text : List ℕ) (url : Url) → (address_of text ≡ Some url) ↔ Spells text url
-address_exactly text url = (address_spelled text url, address_found text url)
+pub address_exactly : (text : List ℕ) (url : Url) → (read_url text ≡ Some url) ↔ Spells text url
+address_exactly text url = (read_url_spelled text url, read_url_found text url)
 
 domain_back : (text domain : List ℕ) → domain_of text ≡ Some domain → IsDomain text × (domain ≡ text)
 domain_back text domain e = go (is_domain text) refl e where

@@ -1,19 +1,14 @@
 -- The items of a line are well spelled.
-use Rattle.std.proofs.Common.{◌≡◌, ◌≢◌, ◌<◌, ◌≤◌, ◌^◌, ◌==◌, ℕ, Bool, true, false, not, ◌&&◌, ◌||◌, List, [], ◌∷◌, ◌++◌, length, map, refl, sym, ap, ◌∙◌, subst, arith}
-use Rattle.std.specs.List.{All, AllByRecursion, list_all, join_with_byte}
-use Rattle.std.specs.Char.{is_ascii_digit, is_ascii_graphic, is_ascii_alphabetic}
-use Rattle.std.specs.Str.{is_utf8, IsUtf8}
+use Rattle.std.proofs.Common.{◌≡◌, ◌≢◌, ◌<◌, ◌^◌, ℕ, Bool, true, ◌&&◌, List, [], ◌∷◌, map, refl, sym, ap, ◌∙◌, subst, arith}
+use Rattle.std.specs.List.{list_all, join_with_byte}
+use Rattle.std.specs.Char.{is_ascii_digit, is_ascii_alphabetic}
+use Rattle.std.specs.Str.{IsUtf8}
 use Rattle.std.proofs.lemmas.Bool.{and_parts, and_from}
 use Rattle.std.proofs.lemmas.Bool.Decides.{nat_tests}
 use Rattle.std.proofs.lemmas.List.Folds.{list_all-append}
 use Rattle.std.proofs.lemmas.Str.{is_utf8-from_IsUtf8}
 use Rattle.ff_lattice.specs.Order.{Order, size, name, is_level_name, IsOrder}
-use Rattle.ff_name.specs.Address.{blank, scheme, printed, stands_in_request, IsRequest}
-use Rattle.ff_name.specs.Address as address
 use Rattle.ff_name.specs.Spelling.{IsDomain, is_label, stands_in_label, stands_in_name}
-use Rattle.ff_name.specs.declared.levels.Level.{Level}
-use Rattle.ff_name.specs.declared.urls.Url.{Url}
-use Rattle.ff_name.specs.declared.urls.Url.TheVariants.{Blank, At}
 use Rattle.ff_name.proofs.Ascii.{label_bytes, list_all-wider}
 use Rattle.ff_number.specs.Decimal.{nat_text}
 use Rattle.ff_number.proofs.Texts.{digits-nat_text, BeginsWithDigit-nat_text}
@@ -22,8 +17,7 @@ use Rattle.ff_text.specs.Notation.{span}
 use Rattle.ff_text.specs.Printed.{fits_at, is_word, AreWellSpelled, IsWellSpelled}
 use Rattle.ff_text.specs.declared.items.Sexp.{Sexp}
 use Rattle.ff_text.proofs.Layers.{fits_at-Word, fits_at-Str}
-use Rattle.ff_syntax.specs.Canonical as canonical
-use Rattle.ff_trace.specs.Lines.{IsTag}
+use Rattle.ff_forms.specs.Canonical as canonical
 
 word_from : (text : List ℕ) → list_all is_word_byte text ≡ true → text ≢ [] → is_word text ≡ true
 word_from [] all some = absurd (some refl)

@@ -1,4 +1,4 @@
-pub mod Kinds
+pub mod Faults
 pub mod Lines
 pub mod Parts
 pub mod Pieces

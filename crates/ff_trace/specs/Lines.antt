@@ -1,8 +1,7 @@
 -- What a line of a trace says: an input, nothing, or what is wrong with it.
-use Rattle.std.specs.Prelude.{◌≡◌, ◌<◌, ◌⊎◌, ℕ, Bool, true, false, ◌==◌, if◌then◌else◌, Option, Some, None, Result, Ok, Err, List, [], ◌∷◌}
-use Rattle.std.specs.List.{position_from}
-use Rattle.std.specs.Str.{bytes_eq}
-use Rattle.ff_lattice.specs.Order.{Order, size}
+use Rattle.std.specs.Prelude.{◌≡◌, ℕ, Bool, true, false, ◌==◌, if◌then◌else◌, Option, Some, None, Result, Ok, Err, List, [], ◌∷◌}
+use Rattle.ff_contract.specs.Answering.{Answers}
+use Rattle.ff_lattice.specs.Order.{Order, level_named, IsTag}
 use Rattle.ff_name.specs.declared.levels.Level.{Level}
 use Rattle.ff_text.specs.Notation.{SpellsItems}
 use Rattle.ff_text.specs.Faults.{FirstFault}
@@ -15,9 +14,9 @@ use Rattle.ff_value.specs.declared.input.Act.TheVariants as act
 use Rattle.ff_value.specs.declared.input.Input.{Input}
 use Rattle.ff_trace.specs.declared.fault.LineFault.{LineFault}
 use Rattle.ff_trace.specs.declared.fault.LineFault.TheVariants as fault
-use Rattle.ff_trace.specs.declared.kind.Kind.{Kind}
-use Rattle.ff_trace.specs.declared.kind.Kind.TheVariants as kind
-use Rattle.ff_trace.specs.Kinds.{kind_named}
+use Rattle.ff_value.specs.declared.kind.Kind.{Kind}
+use Rattle.ff_value.specs.declared.kind.Kind.TheVariants as kind
+use Rattle.ff_value.specs.Kinds.{kind_named}
 use Rattle.ff_trace.specs.Parts.{number_in, address_in, domain_in, string_in, response_in}
 
 -- a line that gives no input: blanks alone, or blanks, then `#`, and then any bytes
@@ -80,14 +79,6 @@ tag_word (Sexp-F.List at parts) = None
 abbrev pub tag_of : Sexp → Option (List ℕ)
 tag_of item = tag_word (out-Sexp item)
 
-abbrev pub level_at : Option ℕ → Option Level
-level_at None = None
-level_at (Some place) = Some (record { 0 = place })
-
--- the level of this name
-abbrev pub level_named : Order → List ℕ → Option Level
-level_named order text = level_at (position_from (λ name. bytes_eq name text) 0 order.names)
-
 abbrev pub with_tag : Option Level → Result Act LineFault → Result (Option Input) LineFault
 with_tag tag (Ok act) = Ok (Some (record { tag = tag; act = act }))
 with_tag tag (Err which) = Err which
@@ -111,15 +102,9 @@ pub data ReadsLine (order : Order) (line : List ℕ) : Result (Option Input) Lin
   bad_text : (which : TextFault) → is_silent line ≡ false → FirstFault line which → ReadsLine order line (Err (fault.Text which))
   as_items : (items : List Sexp) (answer : Result (Option Input) LineFault) → is_silent line ≡ false → SpellsItems line items → answer ≡ input_in order items → ReadsLine order line answer
 
--- the answer, unless memory ran out
-abbrev pub Answers : {A : Type 0} → Result A LineFault → Result A LineFault → Type 0
-Answers (Ok value) answer = answer ≡ Ok value
-Answers (Err which) answer = (which ≡ fault.NoMemory) ⊎ (answer ≡ Err which)
-
--- no tag, or the tag of a level
-abbrev pub IsTag : Order → Option Level → Type 0
-IsTag order None = Unit {0}
-IsTag order (Some level) = level.0 < size order
+-- the answer, or else want of memory
+abbrev pub Gives : {A : Type 0} → Result A LineFault → Result A LineFault → Type 0
+Gives result answer = Answers result answer (Err fault.NoMemory)
 
 -- an input that lines spell, with a tag of the lattice
 pub record IsInputOf (order : Order) (input : Input) : Type 0 where

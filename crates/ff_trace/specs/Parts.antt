@@ -7,10 +7,10 @@ use Rattle.ff_number.specs.Decimal.{nat_text}
 use Rattle.ff_text.specs.declared.items.Sexp.{Sexp, out-Sexp}
 use Rattle.ff_text.specs.declared.items.Sexp.TheOpen.{Sexp-F}
 use Rattle.ff_value.specs.declared.reply.Resp.{Resp}
-use Rattle.ff_syntax.specs.Grammar.{resp_in}
-use Rattle.ff_syntax.specs.Words.{is_domain, address_of}
-use Rattle.ff_syntax.specs.declared.fault.SyntaxFault.{SyntaxFault}
-use Rattle.ff_syntax.specs.declared.fault.SyntaxFault.TheVariants as syntax
+use Rattle.ff_forms.specs.Grammar.{resp_in}
+use Rattle.ff_name.specs.Reading.{is_domain, read_url}
+use Rattle.ff_forms.specs.declared.fault.SyntaxFault.{SyntaxFault}
+use Rattle.ff_forms.specs.declared.fault.SyntaxFault.TheVariants as syntax
 use Rattle.ff_trace.specs.declared.fault.LineFault.{LineFault}
 use Rattle.ff_trace.specs.declared.fault.LineFault.TheVariants as fault
 
@@ -40,7 +40,7 @@ abbrev pub number_in : Sexp → Result ℕ LineFault
 number_in item = by_word fault.Number number_of (out-Sexp item)
 
 abbrev pub address_in : Sexp → Result Url LineFault
-address_in item = by_word fault.Url address_of (out-Sexp item)
+address_in item = by_word fault.Url read_url (out-Sexp item)
 
 abbrev pub domain_in : Sexp → Result (List ℕ) LineFault
 domain_in item = by_word fault.Url domain_of (out-Sexp item)

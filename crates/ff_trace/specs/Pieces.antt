@@ -2,7 +2,7 @@
 use Rattle.std.specs.Prelude.{ℕ, Option, Some, None, List, [], ◌∷◌, ◌++◌, map}
 use Rattle.ff_lattice.specs.Order.{Order, name}
 use Rattle.ff_name.specs.declared.levels.Level.{Level}
-use Rattle.ff_syntax.specs.Canonical.{word, string, address, resp_item, shown_item, pairs_item}
+use Rattle.ff_forms.specs.Canonical.{word, string, address, resp_item, shown_item, pairs_item}
 use Rattle.ff_text.specs.declared.items.Sexp.{Sexp}
 use Rattle.ff_trace.specs.Printed.{number}
 use Rattle.ff_trace.specs.declared.pieces.Part.{Part}

@@ -1,35 +1,39 @@
 -- The lines of inputs and outputs: their items, with one blank between each two.
-use Rattle.std.specs.Prelude.{◌≡◌, ℕ, Bool, if◌then◌else◌, Option, Some, None, List, [], ◌∷◌, ◌++◌, map, codes}
+use Rattle.std.specs.Prelude.{ℕ, Bool, if◌then◌else◌, Option, Some, None, List, [], ◌∷◌, ◌++◌, map, codes}
 use Rattle.std.specs.List.{join_with_byte}
 use Rattle.std.specs.Ordering.{is_lt, nat_cmp}
 use Rattle.std.specs.Cmp.Lexicographic.{slice_cmp}
 use Rattle.ff_lattice.specs.Order.{Order, name}
 use Rattle.ff_name.specs.declared.levels.Level.{Level}
 use Rattle.ff_number.specs.Decimal.{nat_text}
-use Rattle.ff_syntax.specs.Canonical.{word, string, address, resp_item, shown_item, pairs_item}
+use Rattle.ff_forms.specs.Canonical.{word, string, address, resp_item, shown_item, pairs_item}
 use Rattle.ff_text.specs.Printed.{spelled}
 use Rattle.ff_text.specs.declared.items.Sexp.{Sexp}
 use Rattle.ff_value.specs.Faults as faults
+use Rattle.ff_value.specs.Kinds.{word_of, kind_of}
 use Rattle.ff_value.specs.declared.input.Act.{Act}
 use Rattle.ff_value.specs.declared.input.Act.TheVariants as act
 use Rattle.ff_value.specs.declared.input.Input.{Input}
 use Rattle.ff_value.specs.declared.output.Out.{Out}
 use Rattle.ff_value.specs.declared.output.Out.TheVariants as out
 use Rattle.ff_value.specs.declared.output.Pair.{Pair}
-use Rattle.ff_trace.specs.Kinds.{word_of}
-use Rattle.ff_trace.specs.declared.kind.Kind.TheVariants as kind
 
 abbrev pub number : ℕ → Sexp
 number n = word (nat_text n)
 
+-- what follows the kind of an act
+abbrev pub act_parts : Act → List Sexp
+act_parts (act.Opens url) = address url ∷ []
+act_parts (act.Goes win url) = number win ∷ address url ∷ []
+act_parts (act.Links win link) = number win ∷ number link ∷ []
+act_parts (act.Closes win) = number win ∷ []
+act_parts (act.Types win field text) = number win ∷ number field ∷ string text ∷ []
+act_parts (act.Clicks win button) = number win ∷ number button ∷ []
+act_parts (act.Replies domain request resp) = word domain ∷ number request ∷ resp_item resp ∷ []
+
+-- the items of an act: its kind and its parts
 abbrev pub act_items : Act → List Sexp
-act_items (act.Opens url) = word (word_of kind.Open) ∷ address url ∷ []
-act_items (act.Goes win url) = word (word_of kind.Go) ∷ number win ∷ address url ∷ []
-act_items (act.Links win link) = word (word_of kind.Link) ∷ number win ∷ number link ∷ []
-act_items (act.Closes win) = word (word_of kind.Close) ∷ number win ∷ []
-act_items (act.Types win field text) = word (word_of kind.Type) ∷ number win ∷ number field ∷ string text ∷ []
-act_items (act.Clicks win button) = word (word_of kind.Click) ∷ number win ∷ number button ∷ []
-act_items (act.Replies domain request resp) = word (word_of kind.Reply) ∷ word domain ∷ number request ∷ resp_item resp ∷ []
+act_items one = word (word_of (kind_of one)) ∷ act_parts one
 
 -- a tag: `@` and the level's name
 abbrev pub tag_items : Order → Option Level → List Sexp
@@ -47,6 +51,10 @@ joined items = join_with_byte 32 (map spelled items)
 -- an input's line
 abbrev pub input_text : Order → Input → List ℕ
 input_text order input = joined (input_items order input)
+
+-- and its newline
+abbrev pub input_line : Order → Input → List ℕ
+input_line order input = input_text order input ++ 10 ∷ []
 
 -- whether the key of the first pair is below that of the second, in the order of bytes
 abbrev pub key_below : Pair → Pair → Bool
@@ -75,3 +83,11 @@ out_items (out.Send domain request cookies body) = word (codes "send") ∷ word 
 -- an output's line, after the name of its level and a blank
 abbrev pub out_text : Out → List ℕ
 out_text one = joined (out_items one)
+
+-- the name of the level, a blank and the output
+abbrev pub headed : Order → ℕ → Out → List ℕ
+headed order level one = name order level ++ 32 ∷ out_text one
+
+-- and a newline
+abbrev pub out_line : Order → ℕ → Out → List ℕ
+out_line order level one = headed order level one ++ 10 ∷ []

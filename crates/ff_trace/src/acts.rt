@@ -1,20 +1,20 @@
 ghost use Rattle.std.specs.Prelude.{◌≡◌, IfOk};
 ghost use Rattle.ff_text.specs.Printed.{AreWellSpelled};
 ghost use Rattle.ff_value.specs.Spelled.{IsWellSpelledAct};
-ghost use Rattle.ff_trace.specs.declared.kind.Kind.TheVariants as kinds;
-ghost use Rattle.ff_trace.specs.Lines.{Answers, act_of, act_in};
+ghost use Rattle.ff_value.specs.declared.kind.Kind.TheVariants as kinds;
+ghost use Rattle.ff_trace.specs.Lines.{Gives, act_of, act_in};
 ghost use Rattle.ff_trace.specs.Lines as lines;
 
 use crate::LineFault;
-use crate::kind::Kind;
 use crate::parts::{read_address, read_domain, read_number, read_response, read_string};
+use ff_name::by_word;
 use ff_text::Sexp;
-use ff_value::Act;
+use ff_value::{Act, Kind};
 use std::alloc::Global;
 
 /// The act of a kind and its parts.
 pub(crate) fn read_act(alloc: Global, items: &[Sexp]) -> Result<Act, LineFault>
-    ensures value { Answers result (act_in items.now) }
+    ensures value { Gives result (act_in items.now) }
     ensures well_spelled { AreWellSpelled items.now → IfOk result IsWellSpelledAct }
 {
     match items.split_first() {
@@ -31,13 +31,13 @@ fn kind_of(item: &Sexp) -> Option<Kind>
     ensures { result ≡ lines.kind_of item.now }
 {
     match item {
-        Sexp::Word(_, text) => Kind::by_word(text.as_bytes()),
+        Sexp::Word(_, text) => by_word(text.as_bytes()),
         _ => None,
     }
 }
 
 fn read_kind(alloc: Global, kind: Kind, parts: &[Sexp]) -> Result<Act, LineFault>
-    ensures value { Answers result (act_of kind parts.now) }
+    ensures value { Gives result (act_of kind parts.now) }
     ensures well_spelled { AreWellSpelled parts.now → IfOk result IsWellSpelledAct }
 {
     match kind {
@@ -52,7 +52,7 @@ fn read_kind(alloc: Global, kind: Kind, parts: &[Sexp]) -> Result<Act, LineFault
 }
 
 fn read_open(alloc: Global, parts: &[Sexp]) -> Result<Act, LineFault>
-    ensures value { Answers result (act_of kinds.Open parts.now) }
+    ensures value { Gives result (act_of kinds.Open parts.now) }
     ensures well_spelled { IfOk result IsWellSpelledAct }
 {
     match parts {
@@ -62,7 +62,7 @@ fn read_open(alloc: Global, parts: &[Sexp]) -> Result<Act, LineFault>
 }
 
 fn read_go(alloc: Global, parts: &[Sexp]) -> Result<Act, LineFault>
-    ensures value { Answers result (act_of kinds.Go parts.now) }
+    ensures value { Gives result (act_of kinds.Go parts.now) }
     ensures well_spelled { IfOk result IsWellSpelledAct }
 {
     match parts {
@@ -72,7 +72,7 @@ fn read_go(alloc: Global, parts: &[Sexp]) -> Result<Act, LineFault>
 }
 
 fn read_link(parts: &[Sexp]) -> Result<Act, LineFault>
-    ensures value { Answers result (act_of kinds.Link parts.now) }
+    ensures value { Gives result (act_of kinds.Link parts.now) }
     ensures well_spelled { IfOk result IsWellSpelledAct }
 {
     match parts {
@@ -82,7 +82,7 @@ fn read_link(parts: &[Sexp]) -> Result<Act, LineFault>
 }
 
 fn read_close(parts: &[Sexp]) -> Result<Act, LineFault>
-    ensures value { Answers result (act_of kinds.Close parts.now) }
+    ensures value { Gives result (act_of kinds.Close parts.now) }
     ensures well_spelled { IfOk result IsWellSpelledAct }
 {
     match parts {
@@ -92,7 +92,7 @@ fn read_close(parts: &[Sexp]) -> Result<Act, LineFault>
 }
 
 fn read_type(parts: &[Sexp]) -> Result<Act, LineFault>
-    ensures value { Answers result (act_of kinds.Type parts.now) }
+    ensures value { Gives result (act_of kinds.Type parts.now) }
     ensures well_spelled { IfOk result IsWellSpelledAct }
 {
     match parts {
@@ -106,7 +106,7 @@ fn read_type(parts: &[Sexp]) -> Result<Act, LineFault>
 }
 
 fn read_click(parts: &[Sexp]) -> Result<Act, LineFault>
-    ensures value { Answers result (act_of kinds.Click parts.now) }
+    ensures value { Gives result (act_of kinds.Click parts.now) }
     ensures well_spelled { IfOk result IsWellSpelledAct }
 {
     match parts {
@@ -116,7 +116,7 @@ fn read_click(parts: &[Sexp]) -> Result<Act, LineFault>
 }
 
 fn read_reply(alloc: Global, parts: &[Sexp]) -> Result<Act, LineFault>
-    ensures value { Answers result (act_of kinds.Reply parts.now) }
+    ensures value { Gives result (act_of kinds.Reply parts.now) }
     ensures well_spelled { AreWellSpelled parts.now → IfOk result IsWellSpelledAct }
 {
     match parts {

@@ -1,7 +1,7 @@
 ghost use Rattle.ff_trace.specs.declared.fault.LineFault.TheVariants.{NoMemory};
 ghost use Rattle.std.specs.Prelude.{◌≡◌};
 
-use ff_syntax::SyntaxFault;
+use ff_forms::SyntaxFault;
 use ff_text::TextFault;
 use std::alloc::{AllocError, AllocFailed};
 use thiserror::Error;

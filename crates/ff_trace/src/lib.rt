@@ -3,9 +3,7 @@
 
 mod acts;
 mod fault;
-mod kind;
 mod law;
-mod levels;
 mod pairs;
 mod parts;
 mod pieces;
@@ -16,6 +14,9 @@ mod tests;
 
 pub use fault::LineFault;
 pub use ff_name::NoMemory;
-pub use law::{a_line_is_read_in_one_way, pairs_are_put_in_order, what_is_spelled_is_a_part};
+pub use law::{
+    a_line_is_read_in_one_way, pairs_are_put_in_order, the_first_fault_of_a_line_decides,
+    what_is_spelled_is_a_part,
+};
 pub use printing::{print_input, print_out};
 pub use reading::read_input;

@@ -5,15 +5,16 @@ ghost use Rattle.ff_name.specs.Spelling.{IsDomain};
 ghost use Rattle.ff_text.specs.Printed.{IsWellSpelled};
 ghost use Rattle.ff_value.specs.Spelled.{IsNat, IsWellSpelledResp};
 ghost use Rattle.ff_trace.specs.declared.fault.LineFault.TheVariants.{Url as BadUrl};
-ghost use Rattle.ff_trace.specs.Lines.{Answers};
+ghost use Rattle.ff_trace.specs.Lines.{Gives};
 ghost use Rattle.ff_trace.specs.Parts.{number_in, address_in, domain_in, string_in, response_in, or_fault};
-ghost use Rattle.ff_syntax.specs.Words.{address_of};
+ghost use Rattle.ff_name.specs.Reading.{read_url};
 ghost use Rattle.ff_trace.specs.Parts as parts;
 
 use crate::LineFault;
+use ff_forms::SyntaxFault;
 use ff_name::{Domain, Text, Url, UrlFault};
 use ff_number::read_nat;
-use ff_syntax::{SyntaxFault, read_resp};
+use ff_reading::read_resp;
 use ff_text::Sexp;
 use ff_value::Resp;
 use std::alloc::Global;
@@ -23,7 +24,7 @@ const MOST_NUMBER: u64 = 4_294_967_295;
 
 /// The number below 2^32 that a word spells.
 pub(crate) fn read_number(item: &Sexp) -> Result<u32, LineFault>
-    ensures value { Answers result (number_in item.now) }
+    ensures value { Gives result (number_in item.now) }
     ensures within { IfOk result IsNat }
 {
     match item {
@@ -53,7 +54,7 @@ fn number_of(bytes: &[u8]) -> Option<u32>
 
 /// The address that a word spells.
 pub(crate) fn read_address(alloc: Global, item: &Sexp) -> Result<Url, LineFault>
-    ensures value { Answers result (address_in item.now) }
+    ensures value { Gives result (address_in item.now) }
     ensures well_spelled { IfOk result IsWellSpelledUrl }
 {
     match item {
@@ -63,7 +64,7 @@ pub(crate) fn read_address(alloc: Global, item: &Sexp) -> Result<Url, LineFault>
 }
 
 fn address_spelled(alloc: Global, bytes: &[u8]) -> Result<Url, LineFault>
-    ensures value { Answers result (or_fault BadUrl (address_of bytes.now)) }
+    ensures value { Gives result (or_fault BadUrl (read_url bytes.now)) }
     ensures well_spelled { IfOk result IsWellSpelledUrl }
 {
     match Url::read(alloc, bytes) {
@@ -77,7 +78,7 @@ fn address_spelled(alloc: Global, bytes: &[u8]) -> Result<Url, LineFault>
 
 /// The domain that a word spells.
 pub(crate) fn read_domain(alloc: Global, item: &Sexp) -> Result<Domain, LineFault>
-    ensures value { Answers result (domain_in item.now) }
+    ensures value { Gives result (domain_in item.now) }
     ensures spelled { IfOk result IsDomain }
 {
     match item {
@@ -87,7 +88,7 @@ pub(crate) fn read_domain(alloc: Global, item: &Sexp) -> Result<Domain, LineFaul
 }
 
 fn domain_of(alloc: Global, bytes: &[u8]) -> Result<Domain, LineFault>
-    ensures value { Answers result (or_fault BadUrl (parts.domain_of bytes.now)) }
+    ensures value { Gives result (or_fault BadUrl (parts.domain_of bytes.now)) }
     ensures spelled { IfOk result IsDomain }
 {
     match Domain::of(alloc, bytes) {
@@ -101,7 +102,7 @@ fn domain_of(alloc: Global, bytes: &[u8]) -> Result<Domain, LineFault>
 
 /// The value of a string.
 pub(crate) fn read_string(item: &Sexp) -> Result<Text, LineFault>
-    ensures value { Answers result (string_in item.now) }
+    ensures value { Gives result (string_in item.now) }
     ensures utf8 { IfOk result IsUtf8 }
 {
     match item {
@@ -116,7 +117,7 @@ pub(crate) fn read_string(item: &Sexp) -> Result<Text, LineFault>
 
 /// The response that an item spells.
 pub(crate) fn read_response(alloc: Global, item: &Sexp) -> Result<Resp, LineFault>
-    ensures value { Answers result (response_in item.now) }
+    ensures value { Gives result (response_in item.now) }
     ensures well_spelled { IsWellSpelled item.now → IfOk result IsWellSpelledResp }
 {
     match read_resp(alloc, item) {

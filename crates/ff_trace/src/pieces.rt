@@ -1,11 +1,12 @@
-ghost use Rattle.ff_text.specs.Printed.{Appends, AppendsAll, blank_before, spelled};
+ghost use Rattle.ff_contract.specs.Appending.{Appends, AppendsAll};
+ghost use Rattle.ff_text.specs.Printed.{blank_before, spelled};
 ghost use Rattle.ff_trace.specs.Pieces.{part_item, part_items};
 ghost use Rattle.ff_trace.specs.Printed.{joined};
 
 use crate::NoMemory;
 use ff_name::{Text, Url};
 use ff_number::print_nat;
-use ff_syntax::{print_pairs, print_resp, print_shown};
+use ff_printing::{print_pairs, print_resp, print_shown};
 use ff_text::quote;
 use ff_value::{Pairs, Resp, Shown};
 

@@ -1,37 +1,35 @@
-ghost use Rattle.std.specs.Prelude.{◌≡◌, ◌≢◌, ◌<◌, ◌++◌, ◌∷◌, [], Ok, Some, All, OnOk, OnErr};
-ghost use Rattle.ff_lattice.specs.Order.{name, size};
-ghost use Rattle.ff_name.specs.Output.{AppendsFront};
-ghost use Rattle.ff_text.specs.Printed.{Appends};
+ghost use Rattle.std.specs.Prelude.{◌≡◌, ◌≢◌, ◌<◌, ◌==◌, ◌++◌, ◌∷◌, [], Ok, Some, All, IfSome, not, take_while};
+ghost use Rattle.ff_contract.specs.Appending.{Appends};
+ghost use Rattle.ff_forms.specs.Canonical.{word};
+ghost use Rattle.ff_lattice.specs.Order.{name, size, IsTag, IsOrder};
 ghost use Rattle.ff_value.specs.Spelled.{IsWellSpelledInput, IsWellSpelledOut};
 ghost use Rattle.ff_value.specs.declared.output.Out.TheVariants as sent;
-ghost use Rattle.ff_trace.specs.Lines.{IsTag, ReadsLine};
+ghost use Rattle.ff_trace.specs.Lines.{ReadsLine};
 ghost use Rattle.ff_trace.specs.Pieces.{tag_text};
-ghost use Rattle.ff_trace.specs.Printed.{act_items, input_text, joined, out_text};
+ghost use Rattle.ff_trace.specs.Printed.{act_items, act_parts, headed, input_line, input_text, joined, out_line, out_text};
 
 use crate::NoMemory;
-use crate::levels::know_order;
 use crate::pairs::in_key_order;
 use crate::pieces::{Part, print_parts, put_all};
 use ff_lattice::Lattice;
 use ff_name::{Domain, Level, Text};
-use ff_value::{Act, Input, Out, Pairs};
+use ff_value::{Act, Input, Out, Pairs, Worded};
 
 /// Appends an input as a line with its newline. After `NoMemory` a front of it was appended.
 pub fn print_input(input: &Input, lattice: &Lattice, out: &mut Vec<u8>) -> Result<(), NoMemory>
     requires { IsTag lattice.now input.now.tag }
-    ensures ok { OnOk result (out.new.items ≡ out.old.items ++ (input_text lattice.now input.now ++ 10 ∷ [])) }
-    ensures err { OnErr result (AppendsFront out.old.items out.new.items (input_text lattice.now input.now ++ 10 ∷ [])) }
+    ensures appends { Appends result out.old.items out.new.items (input_line lattice.now input.now) }
     // What is printed is read back as the same input.
     ensures again { IsWellSpelledInput input.now → ReadsLine lattice.now (input_text lattice.now input.now) (Ok (Some input.now)) }
     ensures one_line { IsWellSpelledInput input.now → All (λ b. b ≢ 10) (input_text lattice.now input.now) }
 {
-    know_order(lattice);
     print_input_line(input, lattice, out)
 }
 
 fn print_input_line(input: &Input, lattice: &Lattice, out: &mut Vec<u8>) -> Result<(), NoMemory>
     requires { IsTag lattice.now input.now.tag }
-    ensures { Appends result out.old.items out.new.items (input_text lattice.now input.now ++ 10 ∷ []) }
+    ensures appends { Appends result out.old.items out.new.items (input_line lattice.now input.now) }
+    ensures known { IfSome input.now.tag (λ _. IsOrder lattice.now) }
 {
     print_tag(input.tag, lattice, out)?;
     print_act(&input.act, out)?;
@@ -41,21 +39,32 @@ fn print_input_line(input: &Input, lattice: &Lattice, out: &mut Vec<u8>) -> Resu
 /// Appends a tag and a blank, and nothing for no tag.
 fn print_tag(tag: Option<Level>, lattice: &Lattice, out: &mut Vec<u8>) -> Result<(), NoMemory>
     requires { IsTag lattice.now tag }
-    ensures { Appends result out.old.items out.new.items (tag_text lattice.now tag) }
+    ensures appends { Appends result out.old.items out.new.items (tag_text lattice.now tag) }
+    ensures known { IfSome tag (λ _. IsOrder lattice.now) }
 {
     match tag {
-        Some(level) => {
-            put_all(b"@", out)?;
-            print_name(level, lattice, out)
-        }
+        Some(level) => print_at(level, lattice, out),
         None => Ok(()),
     }
+}
+
+/// Appends `@`, the name of a level and a blank.
+fn print_at(level: Level, lattice: &Lattice, out: &mut Vec<u8>) -> Result<(), NoMemory>
+    requires { level.0 < size lattice.now }
+    ensures appends { Appends result out.old.items out.new.items (64 ∷ (name lattice.now level.0 ++ 32 ∷ [])) }
+    ensures known { IsOrder lattice.now }
+{
+    let name = lattice.name(level);
+    put_all(b"@", out)?;
+    put_all(name.as_bytes(), out)?;
+    put_all(b" ", out)
 }
 
 /// Appends the name of a level and a blank.
 fn print_name(level: Level, lattice: &Lattice, out: &mut Vec<u8>) -> Result<(), NoMemory>
     requires { level.0 < size lattice.now }
-    ensures { Appends result out.old.items out.new.items (name lattice.now level.0 ++ 32 ∷ []) }
+    ensures appends { Appends result out.old.items out.new.items (name lattice.now level.0 ++ 32 ∷ []) }
+    ensures known { IsOrder lattice.now }
 {
     put_all(lattice.name(level).as_bytes(), out)?;
     put_all(b" ", out)
@@ -64,20 +73,28 @@ fn print_name(level: Level, lattice: &Lattice, out: &mut Vec<u8>) -> Result<(), 
 fn print_act(act: &Act, out: &mut Vec<u8>) -> Result<(), NoMemory>
     ensures { Appends result out.old.items out.new.items (joined (act_items act.now)) }
 {
+    let kind = act.kind();
+    print_kind(kind.word().as_bytes(), act, out)
+}
+
+/// Appends a word and the parts of an act.
+fn print_kind<'a>(head: &'a [u8], act: &'a Act, out: &mut Vec<u8>) -> Result<(), NoMemory>
+    ensures { Appends result out.old.items out.new.items (joined (word head.now ∷ act_parts act.now)) }
+{
     match act {
-        Act::Opens(url) => print_parts(&[Part::Word(b"open"), Part::Address(url)], out),
+        Act::Opens(url) => print_parts(&[Part::Word(head), Part::Address(url)], out),
         Act::Goes(win, url) => print_parts(
-            &[Part::Word(b"go"), Part::Number(*win), Part::Address(url)],
+            &[Part::Word(head), Part::Number(*win), Part::Address(url)],
             out,
         ),
         Act::Links(win, link) => print_parts(
-            &[Part::Word(b"link"), Part::Number(*win), Part::Number(*link)],
+            &[Part::Word(head), Part::Number(*win), Part::Number(*link)],
             out,
         ),
-        Act::Closes(win) => print_parts(&[Part::Word(b"close"), Part::Number(*win)], out),
+        Act::Closes(win) => print_parts(&[Part::Word(head), Part::Number(*win)], out),
         Act::Types(win, field, text) => print_parts(
             &[
-                Part::Word(b"type"),
+                Part::Word(head),
                 Part::Number(*win),
                 Part::Number(*field),
                 Part::Str(text),
@@ -85,16 +102,12 @@ fn print_act(act: &Act, out: &mut Vec<u8>) -> Result<(), NoMemory>
             out,
         ),
         Act::Clicks(win, button) => print_parts(
-            &[
-                Part::Word(b"click"),
-                Part::Number(*win),
-                Part::Number(*button),
-            ],
+            &[Part::Word(head), Part::Number(*win), Part::Number(*button)],
             out,
         ),
         Act::Replies(domain, request, resp) => print_parts(
             &[
-                Part::Word(b"reply"),
+                Part::Word(head),
                 Part::Word(domain.text().as_bytes()),
                 Part::Number(*request),
                 Part::Resp(resp),
@@ -114,13 +127,11 @@ pub fn print_out(
     out: &mut Vec<u8>,
 ) -> Result<(), NoMemory>
     requires { level.0 < size lattice.now }
-    ensures ok { OnOk result (out.new.items ≡ out.old.items ++ ((name lattice.now level.0 ++ 32 ∷ out_text one.now) ++ 10 ∷ [])) }
-    ensures err { OnErr result (AppendsFront out.old.items out.new.items ((name lattice.now level.0 ++ 32 ∷ out_text one.now) ++ 10 ∷ [])) }
-    ensures one_line { IsWellSpelledOut one.now → All (λ b. b ≢ 10) (out_text one.now) }
-    // The name ends where the first blank of the line stands.
-    ensures headed { All (λ b. (b ≢ 32) × (b ≢ 10)) (name lattice.now level.0) }
+    ensures appends { Appends result out.old.items out.new.items (out_line lattice.now level.0 one.now) }
+    ensures one_line { IsWellSpelledOut one.now → All (λ b. b ≢ 10) (headed lattice.now level.0 one.now) }
+    // The name of the level is what stands before the first blank of the line.
+    ensures headed { take_while (λ b. not (b == 32)) (out_line lattice.now level.0 one.now) ≡ name lattice.now level.0 }
 {
-    know_order(lattice);
     print_out_line(level, lattice, one, out)
 }
 
@@ -131,7 +142,8 @@ fn print_out_line(
     out: &mut Vec<u8>,
 ) -> Result<(), NoMemory>
     requires { level.0 < size lattice.now }
-    ensures { Appends result out.old.items out.new.items ((name lattice.now level.0 ++ 32 ∷ out_text one.now) ++ 10 ∷ []) }
+    ensures appends { Appends result out.old.items out.new.items (out_line lattice.now level.0 one.now) }
+    ensures known { IsOrder lattice.now }
 {
     print_name(level, lattice, out)?;
     print_output(one, out)?;

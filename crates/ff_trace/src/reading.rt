@@ -1,27 +1,40 @@
-ghost use Rattle.std.specs.Prelude.{◌≡◌, ◌≤◌, ◌⊎◌, Result, Option, length, IfOk, IfSome, MatchOption, IsTrue};
+ghost use Rattle.std.specs.Prelude.{◌≡◌, ◌≤◌, ◌⊎◌, Option, length, IfOk, IfErr, IfSome, MatchOption};
+ghost use Rattle.ff_text.specs.declared.reading.TheConstants.{MOST_BYTES};
 ghost use Rattle.ff_text.specs.Printed.{AreWellSpelled};
 ghost use Rattle.ff_value.specs.declared.input.Input.{Input};
 ghost use Rattle.ff_trace.specs.declared.fault.LineFault.{LineFault};
-ghost use Rattle.ff_trace.specs.Lines.{Answers, IsInputOf, ReadsLine, input_in, tag_of};
+ghost use Rattle.ff_trace.specs.Lines.{Gives, IsInputOf, ReadsLine, input_in, tag_of};
 ghost use Rattle.ff_trace.specs.Lines as lines;
 
 use crate::LineFault;
 use crate::acts::read_act;
-use crate::levels::level_named;
 use ff_lattice::Lattice;
 use ff_text::{Sexp, TextFault, read_items};
 use ff_value::Input;
 use std::alloc::Global;
 
-/// The input of a line of at most 1,048,576 bytes, without its newline. `None` for a line of blanks
-/// alone, and for a comment: a line whose first byte that isn't a blank is `#`. The refusals, the
-/// first of which decides: the line isn't a text of items; its tag names no level of the lattice; no
-/// kind follows, or none of the seven; a wrong number of parts; a part that is no number below 2^32,
-/// no address or domain, no string or no response, the parts from left to right.
+/// The input of a line of at most `ff_text::MOST_BYTES` bytes, without its newline. `None` for a line
+/// of blanks alone, and for a comment: a line whose first byte that isn't a blank is `#`. The
+/// refusals, the first of which decides: the line isn't a text of items; its tag names no level of
+/// the lattice; no kind follows, or none of the seven; a wrong number of parts; a part that is no
+/// number below 2^32, no address or domain, no string or no response, the parts from left to right.
 pub fn read_input(alloc: Global, line: &[u8], lattice: &Lattice) -> Result<Option<Input>, LineFault>
-    requires { length line.now ≤ 1048576 }
-    ensures found { (result ≡ Err LineFault.NoMemory) ⊎ ReadsLine lattice.now line.now result }
-    ensures exact { (answer : Result (Option Input) LineFault) → ReadsLine lattice.now line.now answer → (result ≡ answer) ⊎ (result ≡ Err LineFault.NoMemory) }
+    requires { length line.now ≤ MOST_BYTES }
+    ensures found { IfOk result (λ answer. ReadsLine lattice.now line.now (Ok answer)) }
+    ensures well_spelled { IfOk result (λ answer. IfSome answer (IsInputOf lattice.now)) }
+    // What is spelled so is read.
+    ensures only { (answer : Option Input) → ReadsLine lattice.now line.now (Ok answer) → Gives result (Ok answer) }
+    ensures fault { IfErr result (λ which. (which ≡ LineFault.NoMemory) ⊎ ReadsLine lattice.now line.now (Err which)) }
+    // Where this is the first fault, it is answered.
+    ensures exact { (which : LineFault) → ReadsLine lattice.now line.now (Err which) → Gives result (Err which) }
+{
+    first_read(alloc, line, lattice)
+}
+
+/// The input or the first fault.
+fn first_read(alloc: Global, line: &[u8], lattice: &Lattice) -> Result<Option<Input>, LineFault>
+    requires { length line.now ≤ MOST_BYTES }
+    ensures found { ReadsLine lattice.now line.now result ⊎ (result ≡ Err LineFault.NoMemory) }
     ensures well_spelled { IfOk result (λ answer. IfSome answer (IsInputOf lattice.now)) }
 {
     if is_silent(line) {
@@ -50,12 +63,12 @@ fn is_silent(line: &[u8]) -> bool
 
 /// The input of a line's items: a tag or none, and an act.
 fn read_tagged(alloc: Global, items: &[Sexp], lattice: &Lattice) -> Result<Option<Input>, LineFault>
-    ensures value { Answers result (input_in lattice.now items.now) }
+    ensures value { Gives result (input_in lattice.now items.now) }
     ensures well_spelled { AreWellSpelled items.now → IfOk result (λ answer. IfSome answer (IsInputOf lattice.now)) }
 {
     match items.split_first() {
         Some((first, rest)) => match tag_of(first) {
-            Some(name) => match level_named(lattice, name) {
+            Some(name) => match lattice.by_name(name) {
                 Some(level) => {
                     let act = read_act(alloc, rest)?;
                     Ok(Some(Input {

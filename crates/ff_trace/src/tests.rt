@@ -1,8 +1,8 @@
 //! Lines as they are read and printed, against answers worked out by hand.
 use crate::{LineFault, NoMemory, print_input, print_out, read_input};
+use ff_forms::SyntaxFault;
 use ff_lattice::Lattice;
 use ff_name::{Domain, Level, Text, Url};
-use ff_syntax::SyntaxFault;
 use ff_text::TextFault;
 use ff_value::{Fault, Out, Pair, Pairs, Seen, Shown};
 use std::alloc::Global;

@@ -1,3 +1,4 @@
 pub mod Ops
 pub mod Spelled
 pub mod Weight
+pub mod Words

@@ -1,7 +1,7 @@
-ghost use Rattle.std.specs.Prelude.{◌≡◌, ◌↔◌, find};
-ghost use Rattle.std.specs.Str.{bytes_eq};
-ghost use Rattle.ff_tree.specs.Ops.{word_of, arity_of, is_pure_op};
-ghost use Rattle.ff_tree.specs.declared.op.Op.{Op};
+ghost use Rattle.std.specs.Prelude.{◌≡◌};
+ghost use Rattle.ff_tree.specs.Ops.{arity_of, is_pure_op};
+
+use ff_name::Worded;
 
 /// An operator of the script language.
 #[derive(Clone, Copy, Debug, PartialEq, Eq)]
@@ -47,7 +47,7 @@ pub enum Op {
 }
 
 /// Every operator, in the order of `Op`.
-pub(crate) const ALL: [Op; 38] = [
+const ALL: [Op; 38] = [
     Op::Add,
     Op::Sub,
     Op::Mul,
@@ -88,11 +88,23 @@ pub(crate) const ALL: [Op; 38] = [
     Op::Ask,
 ];
 
-impl Op {
-    /// The operator's word in the notation.
-    pub fn word(self) -> &'static str
-        ensures { result.now ≡ word_of self }
-    {
+/// Each operator has a word in the notation.
+impl Worded for Op {
+    ghost use Rattle.ff_tree.specs.Ops.{word_of};
+    ghost use Rattle.ff_tree.specs.declared.op.TheConstants.{ALL};
+    ghost use Rattle.ff_tree.specs.Words.{own_word};
+
+    ghost word_of = { word_of };
+
+    ghost each = { ALL };
+
+    ghost own = { own_word };
+
+    fn all() -> &'static [Op] {
+        &ALL
+    }
+
+    fn word(self) -> &'static str {
         match self {
             Op::Add => "+",
             Op::Sub => "-",
@@ -134,14 +146,9 @@ impl Op {
             Op::Ask => "ask",
         }
     }
+}
 
-    /// The operator with that word, or `None` where no operator has it.
-    pub fn by_word(word: &[u8]) -> Option<Op>
-        ensures { (op : Op) → (result ≡ Some op) ↔ (word_of op ≡ word.now) }
-    {
-        find_word(&ALL, word)
-    }
-
+impl Op {
     /// How many operands the operator takes, from 0 to 3.
     pub fn arity(&self) -> u32
         ensures { result ≡ arity_of self.now }
@@ -192,11 +199,4 @@ impl Op {
                 | Op::Num
         )
     }
-}
-
-/// The first of some operators that has the word.
-fn find_word(ops: &[Op], word: &[u8]) -> Option<Op>
-    ensures { result ≡ find (λ op. bytes_eq (word_of op) word.now) ops.now }
-{
-    ops.iter().copied().find(|op| op.word().as_bytes() == word)
 }

@@ -1,5 +1,6 @@
 ghost use Rattle.std.specs.Prelude.{◌≡◌, ◌↔◌, ◌∷◌, ◌++◌, [], IfOk, IsTrue, OnOk, OnErr};
 
+use crate::kind::Kind;
 use crate::reply::Resp;
 use ff_name::{Domain, Level, NoMemory, Text, Url};
 use std::alloc::Global;
@@ -26,6 +27,23 @@ pub enum Act {
 }
 
 impl Act {
+    ghost use Rattle.ff_value.specs.Kinds.{kind_of};
+
+    /// What the act does.
+    pub fn kind(&self) -> Kind
+        ensures { result ≡ kind_of self.now }
+    {
+        match self {
+            Act::Opens(_) => Kind::Open,
+            Act::Goes(_, _) => Kind::Go,
+            Act::Links(_, _) => Kind::Link,
+            Act::Closes(_) => Kind::Close,
+            Act::Types(_, _, _) => Kind::Type,
+            Act::Clicks(_, _) => Kind::Click,
+            Act::Replies(_, _, _) => Kind::Reply,
+        }
+    }
+
     /// An equal act that shares its content. Its one refusal is a count of owners that is full.
     pub fn copy(&self) -> Result<Act, NoMemory>
         ensures { IfOk result (λ act. act ≡ self.now) }

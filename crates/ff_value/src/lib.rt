@@ -7,6 +7,7 @@
 mod fault;
 mod ids;
 mod input;
+mod kind;
 mod output;
 mod reply;
 #[cfg(test)]
@@ -15,11 +16,12 @@ mod value;
 mod weigh;
 
 pub use fault::Fault;
-pub use ff_name::{Domain, Level, Name, NoMemory, Text, Url, UrlFault};
+pub use ff_name::{Domain, Level, Name, NoMemory, Text, Url, UrlFault, Worded, by_word};
 pub use ff_shared::{Shared, SharedList};
 pub use ff_tree::{Body, Doc, Docs, Expr, Exprs, Handler, Handlers, Lit, Names, Op, weight_doc};
 pub use ids::{ActId, Ids, NodeId, PageId, WinId};
 pub use input::{Act, Input, Offers};
+pub use kind::Kind;
 pub use output::{Out, Pair, Pairs, Seen, Shown};
 pub use reply::{CookieOp, Cookies, Resp};
 pub use value::{Code, Codes, Val, Vals};

@@ -1,4 +1,4 @@
-use Rattle.std.proofs.Common.{◌≡◌, ◌∷◌, ◌++◌, [], List, ℕ, sym, ap, ◌∙◌, subst}
+use Rattle.std.proofs.Common.{◌∷◌, ◌++◌, [], List, ℕ, sym, ap, ◌∙◌, subst}
 use Rattle.ff_policy.specs.Members.{Named}
 use Rattle.ff_policy.proofs.Apart.{named_apart}
 use Rattle.ff_policy.proofs.Arrays.{Entry, Gathers, named_shape, named_stop, named_step, named_done}
@@ -13,9 +13,9 @@ pub loop-key-preserved : goal.loop-key-preserved
 loop-key-preserved c =
     let e : Entry = (c.in-Some.key.now, c.in-Some.value.now) in
     subst (λ (named : List Named). Gathers named_shape c.args.members.now.entries named c.next.new.self)
-    (ap (λ (level : List ℕ). c.loop-key.named.items ++ record { key = c.in_ok-text_of-in-Some-as_str.field-0; level = level } ∷ []) (sym c.in_ok-text_of-in-Some-as_str-2.ensures) ∙ sym c.in_ok-push-in-Some-as_str.ensures.items)
-    (named_step c.args.members.now.entries c.loop-key.named.items c.loop-key.key-iterator c.next.new.self e c.in_ok-text_of-in-Some-as_str.field-0 c.in-Some-as_str.level.now
-    c.loop-key.invariant c.in-Some.ensures.steps (sym c.in-Some-as_str.ensures) (c.in_ok-text_of-in-Some-as_str.ensures ∙ c.as_str-in-Some-as_str.ensures.value))
+    (ap (λ (level : List ℕ). c.loop-key.named.items ++ record { key = c.in_ok-of_str-in-Some-as_str.field-0; level = level } ∷ []) (sym c.in_ok-of_str-in-Some-as_str-2.ensures) ∙ sym c.in_ok-push-in-Some-as_str.ensures.items)
+    (named_step c.args.members.now.entries c.loop-key.named.items c.loop-key.key-iterator c.next.new.self e c.in_ok-of_str-in-Some-as_str.field-0 c.in-Some-as_str.level.now
+    c.loop-key.invariant c.in-Some.ensures.steps (sym c.in-Some-as_str.ensures) (c.in_ok-of_str-in-Some-as_str.ensures ∙ c.as_str-in-Some-as_str.ensures.value))
 
 pub returns-clause-value : goal.returns-clause-value
 returns-clause-value c = sym (named_done c.args.members.now.entries c.loop-key.named.items c.loop-key.key-iterator c.loop-key.invariant c.in-None.ensures.steps.0)

@@ -1,4 +1,4 @@
-use Rattle.std.proofs.Common.{◌≡◌, ◌∷◌, ◌++◌, ◌+◌, [], List, drop, sym, ap, ◌∙◌, subst, arith}
+use Rattle.std.proofs.Common.{◌+◌, List, drop, sym, ◌∙◌, subst, arith}
 use Rattle.ff_lattice.specs.declared.pair.Pair.{Pair}
 use Rattle.ff_policy.proofs.Arrays.{Gathers, pair_shape, pairs_stop, pairs_step, pairs_done}
 use Rattle.ff_policy.proofs.members.pairs_of.Goals as goal

@@ -1,8 +1,9 @@
-use Rattle.std.proofs.Common.{◌≡◌, ◌∙◌, sym, ap, ◌+◌, ℕ, List, ◌∷◌, ◌++◌, [], take, get_or, refl, append-nil, append_assoc}
+use Rattle.std.proofs.Common.{◌∙◌, sym, ap, ◌+◌, List, ◌∷◌, ◌++◌, [], take, get_or, append-nil, append_assoc}
 use Rattle.ff_text.specs.declared.items.Sexp.{Sexp}
 use Rattle.ff_text.specs.Printed.{spelled, blank_before}
 use Rattle.ff_text.proofs.Layers.{spelled-Word, spelled-List}
-use Rattle.ff_text.proofs.Appending.{front_done, front_after, appends_err, appends_last, append_three, joined, joined_more, joined_front, joined_cut, joined_all}
+use Rattle.ff_contract.proofs.Sequence.{front_done, front_middle, appends_front, appends_last}
+use Rattle.ff_text.proofs.Appending.{append_three, joined, joined_more, joined_front, joined_cut, joined_all}
 use Rattle.ff_text.proofs.printing.+print.Goals as goal
 
 pub print_item-returns-in-Word : goal.print_item-returns-in-Word
@@ -21,7 +22,7 @@ print_item-returns-in_ok-print_parts-in-List t c =
 pub print_parts-returns-in_err-put_blank : goal.print_parts-returns-in_err-put_blank
 print_parts-returns-in_err-put_blank t c =
     let front = joined_front c.args.parts.now c.loop-i.i in
-    appends_err c.from_residual.result c.args.out.now.items c.put_blank.new.out.items (joined c.args.parts.now) c.from_residual.ensures.0
+    appends_front c.from_residual.result c.args.out.now.items c.put_blank.new.out.items (joined c.args.parts.now) c.from_residual.ensures.0
     (front_done c.args.out.now.items c.put_blank.new.out.items (joined c.args.parts.now) (joined (take c.loop-i.i c.args.parts.now)) front.rest
     (c.in_err-put_blank.ensures ∙ c.loop-i.invariant) front.cut)
 
@@ -29,10 +30,10 @@ pub print_parts-returns-in_err-print_item : goal.print_parts-returns-in_err-prin
 print_parts-returns-in_err-print_item t c =
     let whole = joined_cut c.args.parts.now c.loop-i.i c.index-parts-i.result c.loop-i-test.true in
     let done = joined (take c.loop-i.i c.args.parts.now) ++ blank_before c.loop-i.i in
-    appends_err c.from_residual-in_err-print_item.result c.args.out.now.items c.print_item.new.out.items (joined c.args.parts.now) c.from_residual-in_err-print_item.ensures.0
-    (front_after c.args.out.now.items c.put_blank.new.out.items c.print_item.new.out.items (joined c.args.parts.now) done (spelled c.index-parts-i.result) whole.rest
-    (c.in_ok-put_blank.ensures ∙ ap (λ bs. bs ++ blank_before c.loop-i.i) c.loop-i.invariant ∙ append_assoc c.args.out.now.items (joined (take c.loop-i.i c.args.parts.now)) (blank_before c.loop-i.i))
+    appends_front c.from_residual-in_err-print_item.result c.args.out.now.items c.print_item.new.out.items (joined c.args.parts.now) c.from_residual-in_err-print_item.ensures.0
+    (front_middle c.args.out.now.items c.put_blank.new.out.items c.print_item.new.out.items done (spelled c.index-parts-i.result) whole.rest (joined c.args.parts.now)
     (whole.cut ∙ append_assoc done (spelled (get_or c.args.parts.now c.loop-i.i c.index-parts-i.result)) whole.rest ∙ ap (λ (part : Sexp). done ++ (spelled part ++ whole.rest)) (sym c.index-parts-i.is))
+    (c.in_ok-put_blank.ensures ∙ ap (λ bs. bs ++ blank_before c.loop-i.i) c.loop-i.invariant ∙ append_assoc c.args.out.now.items (joined (take c.loop-i.i c.args.parts.now)) (blank_before c.loop-i.i))
     c.in_err-print_item.ensures)
 
 pub print_parts-loop-i-preserved : goal.print_parts-loop-i-preserved

@@ -1,7 +1,9 @@
-use Rattle.std.proofs.Common.{◌≡◌, ◌++◌, ◌∷◌, take}
-use Rattle.std.specs.List.{flat_map}
-use Rattle.ff_text.specs.Printed.{spelled_byte}
+use Rattle.std.proofs.Common.{length}
+use Rattle.ff_text.proofs.Appending.{QuotedSoFar}
 use Rattle.ff_text.proofs.printing.print_str.Given as goal
 
-abbrev pub invariant-loop-b : goal.invariant-loop-b
-invariant-loop-b l = l.out.items ≡ l.fn.out.items ++ (34 ∷ flat_map spelled_byte (take l.b-index l.value))
+abbrev pub invariant-loop-left : goal.invariant-loop-left
+invariant-loop-left l = QuotedSoFar l.fn.out.items l.out.items l.value l.left
+
+abbrev pub decreases-loop-left : goal.decreases-loop-left
+decreases-loop-left l = length l.left

@@ -1,19 +1,22 @@
-use Rattle.std.proofs.Common.{sym, subst, inl, inr}
-use Rattle.ff_text.specs.Machine.{Answers}
-use Rattle.ff_text.proofs.Room.{ReadsBefore, reads_none, reads_more, stops_all, reads_all}
+use Rattle.std.proofs.Common.{Err, ap, arith, sym, subst, inl, inr}
+use Rattle.std.proofs.lemmas.Grind.{common_steps}
+use Rattle.ff_contract.specs.Answering.{Answers}
+use Rattle.ff_text.specs.declared.items.TextFault.TheVariants as fault
+use Rattle.ff_text.proofs.Runs.{ReadsUpTo, up_to_none, up_to_more, up_to_stop, up_to_all}
 use Rattle.ff_text.proofs.reading.read_whole.Goals as goal
 
-pub loop-b-init : goal.loop-b-init
-loop-b-init c = subst (ReadsBefore c.args.bytes.now 0) (sym c.new-reader.ensures) (reads_none c.args.bytes.now)
+pub loop-left-init : goal.loop-left-init
+loop-left-init c = subst (ReadsUpTo c.args.bytes.now c.args.bytes.now) (sym c.new-reader.ensures) (up_to_none c.args.bytes.now)
 
-pub loop-b-preserved : goal.loop-b-preserved
-loop-b-preserved c = reads_more c.args.bytes.now c.loop-b.b-index c.loop-b.reader c.take.new.self c.loop-b.invariant c.loop-b-test.true c.in-Ok.ensures
+pub loop-left-preserved : goal.loop-left-preserved
+loop-left-preserved c =
+    up_to_more c.args.bytes.now c.loop-left.left.now _ c.in-Ok.n c.loop-left.reader c.take_some.new.self c.loop-left.invariant c.in-Ok.ensures.2 (grind (arith, common_steps))
 
 pub returns-in-Err : goal.returns-in-Err
 returns-in-Err c = elim c.in-Err.ensures [
-  | inl memory ↦ inl memory
-  | inr stopped ↦ inr (stops_all c.args.bytes.now c.loop-b.b-index c.loop-b.reader c.in-Err.fault c.loop-b.invariant c.loop-b-test.true stopped)
+  | inl memory ↦ inr (ap Err memory)
+  | inr stopped ↦ inl (sym (up_to_stop c.args.bytes.now c.loop-left.left.now c.loop-left.reader c.in-Err.fault c.loop-left.invariant stopped))
 ]
 
 pub returns : goal.returns
-returns c = subst (Answers c.end.result) (sym (reads_all c.args.bytes.now c.loop-b.b-index c.loop-b.reader c.loop-b-test.false c.loop-b.invariant)) c.end.ensures
+returns c = subst (λ answer. Answers c.end.result answer (Err fault.NoMemory)) (sym (up_to_all c.args.bytes.now c.loop-left.left.now c.loop-left.reader c.loop-left.invariant (sym c.loop-left-test.ensures))) c.end.ensures

@@ -6,7 +6,7 @@ use Rattle.ff_cow.proofs.branch.BranchWritable.duplicate.Goals as goal
 
 pub returns-clause-cells : goal.returns-clause-cells
 returns-clause-cells g c =
-    ap (flat_map g.T.Level.cells) (same_nodes rc_value c.args.self.now.kids.items c.in_ok-clone.field-0.items c.in_ok-clone.ensures.cases.0)
+    ap (flat_map g.T.Layer.cells) (same_nodes rc_value c.args.self.now.kids.items c.in_ok-clone.field-0.items c.in_ok-clone.ensures.cases.0)
 
 pub returns-clause-valid : goal.returns-clause-valid
 returns-clause-valid g c =

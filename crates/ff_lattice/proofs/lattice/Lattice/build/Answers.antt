@@ -10,13 +10,13 @@ returns-in_err-check_names-clause-fault c =
     let p = err_from_is_err_and c.from_residual.result c.from_residual.ensures.1 in
     rw (p.1, p.2) (λ _. c.in_err-check_names.ensures.fault c.args.below.now)
 
-pub returns-in_err-check_names-clause-accepts : goal.returns-in_err-check_names-clause-accepts
-returns-in_err-check_names-clause-accepts c =
+pub returns-in_err-check_names-clause-only : goal.returns-in_err-check_names-clause-only
+returns-in_err-check_names-clause-only c =
     let p = err_from_is_err_and c.from_residual.result c.from_residual.ensures.1 in
     rw (p.1, p.2) (accepts_from c.args.names.now c.args.below.now (Err c.in_err-check_names.field-0.0) (λ _. c.in_err-check_names.ensures.fault c.args.below.now))
 
-pub returns-in_err-check_names-clause-only : goal.returns-in_err-check_names-clause-only
-returns-in_err-check_names-clause-only c =
+pub returns-in_err-check_names-clause-exact : goal.returns-in_err-check_names-clause-exact
+returns-in_err-check_names-clause-exact c =
     let p = err_from_is_err_and c.from_residual.result c.from_residual.ensures.1 in
     rw (p.1, p.2) (only_from c.args.names.now c.args.below.now (Err c.in_err-check_names.field-0.0) tt (λ _. c.in_err-check_names.ensures.fault c.args.below.now))
 
@@ -25,23 +25,23 @@ returns-in_err-levels-clause-fault c =
     let p = err_from_is_err_and c.from_residual-in_err-levels.result c.from_residual-in_err-levels.ensures.1 in
     rw (p.1, p.2) (λ named. c.in_err-levels.ensures.fault named c.args.below.now)
 
-pub returns-in_err-levels-clause-accepts : goal.returns-in_err-levels-clause-accepts
-returns-in_err-levels-clause-accepts c =
-    let p = err_from_is_err_and c.from_residual-in_err-levels.result c.from_residual-in_err-levels.ensures.1 in
-    rw (p.1, p.2) (accepts_from c.args.names.now c.args.below.now (Err c.in_err-levels.field-0.0) (λ named. c.in_err-levels.ensures.fault named c.args.below.now))
-
 pub returns-in_err-levels-clause-only : goal.returns-in_err-levels-clause-only
 returns-in_err-levels-clause-only c =
     let p = err_from_is_err_and c.from_residual-in_err-levels.result c.from_residual-in_err-levels.ensures.1 in
-    rw (p.1, p.2) (only_from c.args.names.now c.args.below.now (Err c.in_err-levels.field-0.0) tt (λ named. c.in_err-levels.ensures.fault named c.args.below.now))
+    rw (p.1, p.2) (accepts_from c.args.names.now c.args.below.now (Err c.in_err-levels.field-0.0) (λ named. c.in_err-levels.ensures.fault named c.args.below.now))
 
-pub returns-clause-accepts : goal.returns-clause-accepts
-returns-clause-accepts c =
-    accepts_from c.args.names.now c.args.below.now c.of_levels.result
-    (subst (λ (names : List (List ℕ)). IfErr c.of_levels.result (λ fault. fault ≢ NoMemory → IsFault names c.args.below.now fault)) c.in_ok-levels.ensures.ok.0 c.of_levels.ensures.fault)
+pub returns-in_err-levels-clause-exact : goal.returns-in_err-levels-clause-exact
+returns-in_err-levels-clause-exact c =
+    let p = err_from_is_err_and c.from_residual-in_err-levels.result c.from_residual-in_err-levels.ensures.1 in
+    rw (p.1, p.2) (only_from c.args.names.now c.args.below.now (Err c.in_err-levels.field-0.0) tt (λ named. c.in_err-levels.ensures.fault named c.args.below.now))
 
 pub returns-clause-only : goal.returns-clause-only
 returns-clause-only c =
+    accepts_from c.args.names.now c.args.below.now c.of_levels.result
+    (subst (λ (names : List (List ℕ)). IfErr c.of_levels.result (λ fault. fault ≢ NoMemory → IsFault names c.args.below.now fault)) c.in_ok-levels.ensures.ok.0 c.of_levels.ensures.fault)
+
+pub returns-clause-exact : goal.returns-clause-exact
+returns-clause-exact c =
     only_from c.args.names.now c.args.below.now c.of_levels.result
     (subst (λ (names : List (List ℕ)). IfOk c.of_levels.result (IsLatticeOf names c.args.below.now)) c.in_ok-levels.ensures.ok.0 c.of_levels.ensures.ok)
     (subst (λ (names : List (List ℕ)). IfErr c.of_levels.result (λ fault. fault ≢ NoMemory → IsFault names c.args.below.now fault)) c.in_ok-levels.ensures.ok.0 c.of_levels.ensures.fault)

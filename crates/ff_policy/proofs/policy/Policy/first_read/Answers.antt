@@ -1,4 +1,3 @@
-use Rattle.std.proofs.lemmas.Result.{err_from_is_err_and}
 use Rattle.serde_json.specs.View.{view}
 use Rattle.ff_policy.proofs.Steps.{reads_ok, reads_err}
 use Rattle.ff_policy.proofs.policy.Policy.first_read.Goals as goal

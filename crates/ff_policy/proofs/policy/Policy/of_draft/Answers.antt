@@ -1,6 +1,5 @@
-use Rattle.std.proofs.Common.{◌≡◌, true≢false, sym, ◌∙◌, subst, Ok, Result}
+use Rattle.std.proofs.Common.{sym, subst, Ok}
 use Rattle.std.proofs.lemmas.Result.{err_from_is_err_and}
-use Rattle.ff_policy.specs.declared.fault.PolicyFault.{PolicyFault}
 use Rattle.ff_policy.specs.Assignment.{Assignment}
 use Rattle.ff_policy.specs.Reading.{Checks, bad_domain, bad_fuel, whole}
 use Rattle.ff_policy.proofs.Fuel.{fuel_out, fuel_in, valid_from}

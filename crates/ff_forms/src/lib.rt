@@ -1,0 +1,11 @@
+//! The forms of documents, expressions and responses: what reading and printing both know.
+#![tactic(auto)]
+
+mod fault;
+mod heads;
+mod limits;
+
+pub use fault::SyntaxFault;
+pub use ff_name::NoMemory;
+pub use heads::{CookieHead, DocHead, ExprHead, HandlerHead, RespHead};
+pub use limits::MOST_HANDLERS;

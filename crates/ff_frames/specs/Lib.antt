@@ -1,0 +1,5 @@
+pub mod Frames
+pub mod Loads
+pub mod Seeking
+pub mod Stacks
+pub mod Rewrites

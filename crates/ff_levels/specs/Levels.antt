@@ -1,0 +1,18 @@
+-- The levels of a policy, and the inputs that they and the browser take.
+use Rattle.ff_reactive.specs.Copies.{Levels}
+use Rattle.ff_lattice.specs.Order.{Order}
+use Rattle.ff_value.specs.declared.input.Input.{Input}
+use Rattle.ff_value.specs.declared.output.Out.{Out}
+use Rattle.ff_core.specs.Machine.{IsBuilt}
+use Rattle.ff_policy.specs.Assignment.{Assignment}
+use Rattle.ff_route.specs.Route.{the_levels, IsTagged}
+use Rattle.ff_trace.specs.Printed.{out_text}
+
+-- the levels of a policy, with outputs printed as lines have them
+abbrev pub levels : Assignment → Levels Input Out
+levels p = the_levels p out_text
+
+-- a well spelled input of a kind that is built, whose tag names a level
+pub record IsInput (order : Order) (i : Input) : Type 0 where
+  pub tag_is : IsTagged order i
+  pub built : IsBuilt i

@@ -1,0 +1,9 @@
+pub mod Bare
+pub mod Fitting
+pub mod Items
+pub mod OneLine
+pub mod Printing
+pub mod Rereading
+pub mod Respelled
+pub mod Trees
+pub mod WordTexts

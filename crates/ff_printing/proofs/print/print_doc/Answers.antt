@@ -1,0 +1,8 @@
+use Rattle.ff_printing.proofs.Rereading.{doc_reads_back}
+use Rattle.ff_printing.proofs.print.print_doc.Goals as goal
+
+pub returns-in_err-printer-clause-again : goal.returns-in_err-printer-clause-again
+returns-in_err-printer-clause-again c well = doc_reads_back c.args.doc.now well
+
+pub returns-clause-again : goal.returns-clause-again
+returns-clause-again c well = doc_reads_back c.args.doc.now well

@@ -1,0 +1,3 @@
+-- What this crate specifies.
+pub mod Again
+pub mod Pieces

@@ -1,0 +1,13 @@
+//! Documents, expressions, responses and what the user is shown, printed in the notation.
+#![tactic(auto)]
+
+mod print;
+mod print_reply;
+mod print_seen;
+mod print_tree;
+mod printer;
+#[cfg(test)]
+mod tests;
+
+pub use ff_name::NoMemory;
+pub use print::{print_doc, print_expr, print_pairs, print_resp, print_shown};

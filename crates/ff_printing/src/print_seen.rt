@@ -1,0 +1,101 @@
+//! What the user is shown, and keys with their values, printed.
+ghost use Rattle.std.specs.Prelude.{[], ◌∷◌, map};
+ghost use Rattle.ff_text.specs.Printed.{spelled};
+ghost use Rattle.ff_forms.specs.Canonical.{address, string, word, parens, seen_item, shown_item, pair_item, pairs_item};
+ghost use Rattle.ff_forms.specs.Heads.{doc_word};
+ghost use Rattle.ff_forms.specs.declared.heads.DocHead.TheVariants as doc_head;
+ghost use Rattle.ff_printing.specs.Pieces.{Prints, each_after_blank};
+
+use crate::printer::Printer;
+use ff_forms::DocHead;
+use ff_name::{Text, Url, Worded};
+use ff_value::{Pair, Seen};
+
+/// Appends what the user is shown of a page.
+pub(crate) fn print_page(shown: &[Seen], out: &mut Printer)
+    ensures { Prints out.old out.new (spelled (shown_item shown.now)) }
+{
+    print_list(b"page", shown, out)
+}
+
+/// Appends what the user is shown of a node.
+#[cycle(seen)]
+fn print_seen(seen: &Seen, out: &mut Printer)
+    ensures { Prints out.old out.new (spelled (seen_item seen.now)) }
+{
+    match seen {
+        Seen::Text(text) => out.labelled(DocHead::Text, text),
+        Seen::Link(url, label) => print_link(url, label, out),
+        Seen::TextBox(text) => out.labelled(DocHead::TextBox, text),
+        Seen::Button(label) => out.labelled(DocHead::Button, label),
+        Seen::Div(parts) => print_list(DocHead::Div.word().as_bytes(), parts.as_slice(), out),
+    }
+}
+
+/// Appends a list of what the user is shown of some nodes.
+#[cycle(seen)]
+fn print_list(head: &[u8], parts: &[Seen], out: &mut Printer)
+    ensures { Prints out.old out.new (spelled (parens (word head.now ∷ map seen_item parts.now))) }
+{
+    out.open_list(head);
+    print_parts(parts, out);
+    out.close_list();
+}
+
+/// Appends what the user is shown of some nodes, with a blank before each.
+#[cycle(seen)]
+fn print_parts(parts: &[Seen], out: &mut Printer)
+    ensures { Prints out.old out.new (each_after_blank seen_item parts.now) }
+{
+    for part in parts {
+        out.bytes(b" ");
+        print_seen(part, out);
+    }
+}
+
+fn print_link(url: &Url, label: &Text, out: &mut Printer)
+    ensures { Prints out.old out.new (spelled (parens (word (doc_word doc_head.Link) ∷ address url.now ∷ string label.now ∷ []))) }
+{
+    out.open(DocHead::Link);
+    out.address(url);
+    out.string(label);
+    out.close_list();
+}
+
+/// Appends keys and values, as a list of lists of two strings.
+pub(crate) fn print_pairs(pairs: &[Pair], out: &mut Printer)
+    ensures { Prints out.old out.new (spelled (pairs_item pairs.now)) }
+{
+    match pairs.split_first() {
+        None => out.bytes(b"()"),
+        Some((first, rest)) => print_some_pairs(first, rest, out),
+    }
+}
+
+fn print_some_pairs(first: &Pair, rest: &[Pair], out: &mut Printer)
+    ensures { Prints out.old out.new (spelled (pairs_item (first.now ∷ rest.now))) }
+{
+    out.bytes(b"(");
+    print_pair(first, out);
+    print_further_pairs(rest, out);
+    out.close_list();
+}
+
+/// Appends keys and values with a blank before each two.
+fn print_further_pairs(pairs: &[Pair], out: &mut Printer)
+    ensures { Prints out.old out.new (each_after_blank pair_item pairs.now) }
+{
+    for pair in pairs {
+        out.bytes(b" ");
+        print_pair(pair, out);
+    }
+}
+
+fn print_pair(pair: &Pair, out: &mut Printer)
+    ensures { Prints out.old out.new (spelled (pair_item pair.now)) }
+{
+    out.bytes(b"(");
+    out.quoted(&pair.key);
+    out.string(&pair.value);
+    out.close_list();
+}

@@ -1,0 +1,2 @@
+-- What this crate specifies.
+pub mod Shapes

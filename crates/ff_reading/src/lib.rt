@@ -1,0 +1,15 @@
+//! Documents, expressions and responses, read from items of the notation.
+#![tactic(auto)]
+
+mod calls;
+mod law;
+mod leaves;
+mod reading;
+mod shapes;
+#[cfg(test)]
+mod tests;
+mod words;
+
+pub use calls::{read_doc, read_expr, read_resp};
+pub use ff_forms::{NoMemory, SyntaxFault};
+pub use law::{what_is_at_fault_is_refused, what_is_spelled_is_read};

@@ -1,0 +1,11 @@
+use Rattle.std.proofs.Common.{◌≡◌, ◌⊎◌, subst}
+use Rattle.ff_run.specs.Policies.{NamesFault, IsKnown, FetchFailed}
+use Rattle.ff_run.proofs.Commands.{asks_once}
+use Rattle.ff_status.specs.declared.status.Status.TheVariants.{Policy, NoMemory}
+use Rattle.ff_run.proofs.top.answer.Goals as goal
+
+pub returns-in-Some-clause-bad_policy : goal.returns-in-Some-clause-bad_policy
+returns-in-Some-clause-bad_policy g c command name fault asks =
+    let same = asks_once c.args.words.now c.in-Some.command command c.in-Some.name.now name c.in-Some.ensures asks in
+    subst (λ n. IsKnown (g.S.Shelf.told c.args.shelf.now) n → NamesFault (g.S.Shelf.told c.args.shelf.now) n fault → ¬ FetchFailed n (g.S.Shelf.told c.args.shelf.now) (g.S.Shelf.told c.obey.new.shelf)
+    → (c.obey.result ≡ Policy fault) ⊎ (c.obey.result ≡ NoMemory)) same.1 (c.obey.ensures.bad_policy fault)

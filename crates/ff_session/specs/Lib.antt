@@ -1,0 +1,6 @@
+pub mod Giving
+pub mod Once
+pub mod Formatting
+pub mod Plain
+pub mod Multi
+pub mod Works

@@ -1,0 +1,80 @@
+ghost use Rattle.std.specs.Prelude.{◌≡◌, ◌≤◌, false, ⊤};
+ghost use Rattle.ff_io.specs.Counts.{Rose};
+ghost use Rattle.ff_stream.specs.Owed.{Streams};
+ghost use Rattle.ff_session.specs.Giving.{Gives};
+ghost use Rattle.ff_session.specs.Formatting.{format_entry, no_turns};
+
+use crate::input_reader::InputReader;
+use ff_io::Port;
+use ff_lattice::Lattice;
+use ff_status::TraceFault;
+use ff_steps::Steps;
+use ff_stream::{End, Taker, stream};
+use ff_trace::print_input;
+use ff_value::Input;
+use std::alloc::{AllocError, Global};
+use std::sync::ledger::Ledger;
+
+/// Each input is written in its canonical form.
+#[derive(Clone, Copy)]
+pub struct Formatting<'a> {
+    /// It has the names of the levels that tags name.
+    pub lattice: &'a Lattice,
+}
+
+impl Taker for Formatting<'_> {
+    ghost use Rattle.std.specs.Prelude.{⊤, false};
+    ghost use Rattle.ff_session.specs.Giving.{IsTaken};
+    ghost use Rattle.ff_session.specs.Formatting.{format_entry, no_turns};
+
+    type Item = Input;
+
+    type State = ();
+
+    ghost accepts = { λ taker input. IsTaken false taker.lattice.now input };
+
+    ghost entry = { λ taker. format_entry taker.lattice.now };
+
+    ghost turns = { λ taker. no_turns };
+
+    ghost is_at = { λ taker state inputs. ⊤ };
+
+    fn take<L: Ledger>(
+        &self,
+        _alloc: Global,
+        _state: &mut (),
+        item: &Input,
+        text: &mut Vec<u8>,
+        _steps: &mut Steps<L>,
+    ) -> Result<(), AllocError> {
+        print_input(item, self.lattice, text)
+    }
+}
+
+/// Writes each input of the trace that the port gives in its canonical form.
+#[tactic(auto, using(crate::proofs::Giving::is_taken))]
+pub(crate) fn walk_format<P: Port, L: Ledger>(
+    alloc: Global,
+    lattice: &Lattice,
+    port: &mut P,
+    turns: &mut Steps<L>,
+) -> End<TraceFault>
+    ensures streams { Streams (Gives false lattice.now) (format_entry lattice.now) no_turns (λ is. ⊤)
+        (P.log port.old) (P.log port.new) (P.rest port.old) (P.rest port.new) turns.old turns.new result }
+    ensures later { turns.old ≤ turns.new }
+    ensures read_fault { result ≡ End.ReadFault → Rose (P.read_faults port.old) (P.read_faults port.new) }
+    ensures write_fault { result ≡ End.WriteFault → Rose (P.write_faults port.old) (P.write_faults port.new) }
+{
+    let reader = InputReader {
+        lattice,
+        built_only: false,
+    };
+    stream(
+        alloc,
+        &reader,
+        &Formatting { lattice },
+        &mut (),
+        port,
+        turns,
+    )
+}

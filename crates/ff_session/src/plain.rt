@@ -1,0 +1,81 @@
+ghost use Rattle.std.specs.Prelude.{◌≡◌, ◌≤◌, ◌+◌, ◌++◌, ◌∷◌, [], ℕ, List, OnOk, true, ⊤};
+ghost use Rattle.ff_io.specs.Counts.{Rose};
+ghost use Rattle.ff_reactive.specs.Text.{text_of};
+ghost use Rattle.ff_core.specs.Machine.{machine};
+ghost use Rattle.ff_value.specs.declared.input.Input.{Input};
+ghost use Rattle.ff_stream.specs.Owed.{Streams};
+ghost use Rattle.ff_session.specs.Giving.{Gives};
+ghost use Rattle.ff_session.specs.Plain.{plain_entry, plain_turns};
+
+use crate::handling::handle;
+use crate::input_reader::InputReader;
+use crate::printing::print_all;
+use ff_core::Browser;
+use ff_io::Port;
+use ff_policy::Policy;
+use ff_status::TraceFault;
+use ff_steps::Steps;
+use ff_stream::{End, Taker, stream};
+use ff_value::Input;
+use std::alloc::{AllocError, Global};
+use std::sync::ledger::Ledger;
+
+/// One browser takes all inputs.
+#[derive(Clone, Copy)]
+pub struct Plain<'a> {
+    /// It says which level each line is at.
+    pub policy: &'a Policy,
+}
+
+impl Taker for Plain<'_> {
+    ghost use Rattle.std.specs.Prelude.{true};
+    ghost use Rattle.ff_session.specs.Giving.{IsTaken};
+    ghost use Rattle.ff_session.specs.Plain.{plain_entry, plain_turns, IsPlainAt};
+
+    type Item = Input;
+
+    type State = Browser;
+
+    ghost accepts = { λ taker input. IsTaken true taker.policy.now.order input };
+
+    ghost entry = { λ taker. plain_entry taker.policy.now };
+
+    ghost turns = { λ taker. plain_turns };
+
+    ghost is_at = { λ taker. IsPlainAt };
+
+    fn take<L: Ledger>(
+        &self,
+        alloc: Global,
+        state: &mut Browser,
+        item: &Input,
+        text: &mut Vec<u8>,
+        steps: &mut Steps<L>,
+    ) -> Result<(), AllocError> {
+        let outs = handle(alloc, state, item, steps)?;
+        print_all(self.policy, outs.as_slice(), text)
+    }
+}
+
+/// Runs one browser over the trace that the port gives.
+#[tactic(auto, using(crate::proofs::Giving::is_taken))]
+pub(crate) fn walk_plain<P: Port, L: Ledger>(
+    alloc: Global,
+    policy: &Policy,
+    port: &mut P,
+    turns: &mut Steps<L>,
+) -> End<TraceFault>
+    ensures streams { Streams (Gives true policy.now.order) (plain_entry policy.now) plain_turns (λ is. ⊤)
+        (P.log port.old) (P.log port.new) (P.rest port.old) (P.rest port.new) turns.old turns.new result }
+    ensures later { turns.old ≤ turns.new }
+    ensures read_fault { result ≡ End.ReadFault → Rose (P.read_faults port.old) (P.read_faults port.new) }
+    ensures write_fault { result ≡ End.WriteFault → Rose (P.write_faults port.old) (P.write_faults port.new) }
+{
+    let lattice = policy.lattice();
+    let reader = InputReader {
+        lattice,
+        built_only: true,
+    };
+    let mut browser = Browser::new(alloc);
+    stream(alloc, &reader, &Plain { policy }, &mut browser, port, turns)
+}

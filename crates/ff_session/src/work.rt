@@ -1,0 +1,76 @@
+ghost use Rattle.std.specs.Prelude.{◌≡◌};
+ghost use Rattle.ff_io.specs.Counts.{Rose};
+ghost use Rattle.ff_reactive.specs.Laws.{IsProjection, IsSecure, IsPrecise};
+ghost use Rattle.ff_core.specs.Machine.{machine};
+ghost use Rattle.ff_policy.specs.Assignment.{IsAssignment};
+ghost use Rattle.ff_levels.specs.Levels.{levels, IsInput};
+ghost use Rattle.ff_session.specs.Works.{Exchanged, Claims, IsAnswered, status_as, fault_as};
+
+use crate::format::walk_format;
+use crate::multi::walk_multi;
+use crate::plain::walk_plain;
+use ff_io::Port;
+use ff_policy::Policy;
+use ff_status::{Status, TraceFault};
+use ff_steps::Steps;
+use ff_stream::{End, Fault};
+use std::alloc::Global;
+use std::sync::ledger::Ledger;
+
+/// What is done with the inputs of a trace.
+#[derive(Clone, Copy, Debug, PartialEq, Eq)]
+pub enum Work {
+    /// They are multi-executed.
+    Multi,
+    /// One browser takes them all.
+    Plain,
+    /// Each is written in its canonical form.
+    Format,
+}
+
+/// Does the work over the trace that the port gives, line by line: before the port is read again, the whole text of the lines
+/// that were got is written. `turns` counts the turns of all browsers.
+pub fn walk<P: Port, L: Ledger>(
+    alloc: Global,
+    work: Work,
+    policy: &Policy,
+    port: &mut P,
+    turns: &mut Steps<L>,
+) -> Status
+    ensures exchanged { Exchanged work policy.now (P.told port.old) (P.told port.new) turns.old turns.new result }
+    ensures projected { work ≡ Work.Multi → IsAnswered result → Claims Work.Multi policy.now (P.told port.old) (P.told port.new) (λ is put. IsProjection machine (levels policy.now) is put) }
+    ensures secure { work ≡ Work.Multi → IsAnswered result → Claims Work.Multi policy.now (P.told port.old) (P.told port.new) (λ is put. IsSecure machine (levels policy.now) (IsInput policy.now.order) is put) }
+    ensures precise { work ≡ Work.Multi → IsAnswered result → Claims Work.Multi policy.now (P.told port.old) (P.told port.new) (λ is put. IsPrecise machine (levels policy.now) is put) }
+    ensures valid { IsAssignment policy.now }
+{
+    let lattice = policy.lattice();
+    match work {
+        Work::Multi => status_of(walk_multi(alloc, policy, port, turns)),
+        Work::Plain => status_of(walk_plain(alloc, policy, port, turns)),
+        Work::Format => status_of(walk_format(alloc, lattice, port, turns)),
+    }
+}
+
+/// The status of an end.
+fn status_of(end: End<TraceFault>) -> Status
+    ensures { result ≡ status_as end }
+{
+    match end {
+        End::Done => Status::Done,
+        End::Bad(line) => Status::Trace(line.number, fault_of(line.fault)),
+        End::ReadFault => Status::ReadFault,
+        End::WriteFault => Status::WriteFault,
+        End::NoMemory => Status::NoMemory,
+    }
+}
+
+/// The fault of a line, as the status has it.
+fn fault_of(fault: Fault<TraceFault>) -> TraceFault
+    ensures { result ≡ fault_as fault }
+{
+    match fault {
+        Fault::TooLong => TraceFault::TooLong,
+        Fault::TooMuch => TraceFault::TooMuch,
+        Fault::Line(fault) => fault,
+    }
+}

@@ -1,6 +1,0 @@
-use Rattle.ff_syntax.specs.Grammar.{a_cookie}
-use Rattle.ff_syntax.proofs.Each.{Before}
-use Rattle.ff_syntax.proofs.leaves.cookies_in.Given as goal
-
-abbrev pub invariant-loop-part : goal.invariant-loop-part
-invariant-loop-part l = Before a_cookie l.parts l.part-index l.entries.items

@@ -1,5 +1,0 @@
-use Rattle.ff_syntax.proofs.Each.{Named}
-use Rattle.ff_syntax.proofs.leaves.parameters_in.Given as goal
-
-abbrev pub invariant-loop-part : goal.invariant-loop-part
-invariant-loop-part l = Named l.parts l.part-index l.names.items

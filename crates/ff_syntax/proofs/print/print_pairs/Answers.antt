@@ -1,8 +1,0 @@
-use Rattle.ff_syntax.proofs.OneLine.{pairs_one_line}
-use Rattle.ff_syntax.proofs.print.print_pairs.Goals as goal
-
-pub returns-in_err-printer-clause-one_line : goal.returns-in_err-printer-clause-one_line
-returns-in_err-printer-clause-one_line c = pairs_one_line c.args.pairs.now
-
-pub returns-clause-one_line : goal.returns-clause-one_line
-returns-clause-one_line c = pairs_one_line c.args.pairs.now

@@ -1,6 +1,0 @@
-use Rattle.ff_syntax.specs.Canonical.{cookie_item}
-use Rattle.ff_syntax.proofs.Printing.{one_more, blank_then}
-use Rattle.ff_syntax.proofs.print_reply.put_further.Goals as goal
-
-pub loop-entry-preserved : goal.loop-entry-preserved
-loop-entry-preserved c = one_more cookie_item c.args.cookies.now c.loop-entry.entry-index c.entry-item.result c.loop-entry-test.true c.entry-item.is c.loop-entry.invariant (blank_then (cookie_item c.entry-item.result) c.bytes.ensures c.put_entry.ensures)

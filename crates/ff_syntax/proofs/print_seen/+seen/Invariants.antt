@@ -1,7 +1,0 @@
-use Rattle.std.proofs.Common.{take}
-use Rattle.ff_syntax.specs.Canonical.{seen_item}
-use Rattle.ff_syntax.specs.Pieces.{Prints, each_after_blank}
-use Rattle.ff_syntax.proofs.print_seen.+seen.Given as goal
-
-abbrev pub invariant-put_parts-loop-part : goal.invariant-put_parts-loop-part
-invariant-put_parts-loop-part l = Prints l.fn.out l.out (each_after_blank seen_item (take l.part-index l.parts))

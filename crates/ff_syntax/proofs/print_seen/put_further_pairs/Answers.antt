@@ -1,6 +1,0 @@
-use Rattle.ff_syntax.specs.Canonical.{pair_item}
-use Rattle.ff_syntax.proofs.Printing.{one_more, blank_then}
-use Rattle.ff_syntax.proofs.print_seen.put_further_pairs.Goals as goal
-
-pub loop-pair-preserved : goal.loop-pair-preserved
-loop-pair-preserved c = one_more pair_item c.args.pairs.now c.loop-pair.pair-index c.pair-item.result c.loop-pair-test.true c.pair-item.is c.loop-pair.invariant (blank_then (pair_item c.pair-item.result) c.bytes.ensures c.put_pair.ensures)

@@ -1,7 +1,0 @@
-use Rattle.std.proofs.Common.{take}
-use Rattle.ff_syntax.specs.Canonical.{pair_item}
-use Rattle.ff_syntax.specs.Pieces.{Prints, each_after_blank}
-use Rattle.ff_syntax.proofs.print_seen.put_further_pairs.Given as goal
-
-abbrev pub invariant-loop-pair : goal.invariant-loop-pair
-invariant-loop-pair l = Prints l.fn.out l.out (each_after_blank pair_item (take l.pair-index l.pairs))

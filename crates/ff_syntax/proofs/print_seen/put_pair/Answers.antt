@@ -1,7 +1,0 @@
-use Rattle.std.proofs.Common.{◌∷◌, []}
-use Rattle.ff_syntax.specs.Canonical.{string}
-use Rattle.ff_syntax.proofs.Printing.{then, opened}
-use Rattle.ff_syntax.proofs.print_seen.put_pair.Goals as goal
-
-pub returns : goal.returns
-returns c = opened [] (string c.args.pair.now.key) (string c.args.pair.now.value ∷ []) c.bytes.ensures (then c.quoted.ensures (then c.string.ensures c.close_list.ensures))

@@ -1,7 +1,0 @@
-use Rattle.std.proofs.Common.{[], map}
-use Rattle.ff_syntax.specs.Canonical.{pair_item}
-use Rattle.ff_syntax.proofs.Printing.{then, opened, ended}
-use Rattle.ff_syntax.proofs.print_seen.put_some_pairs.Goals as goal
-
-pub returns : goal.returns
-returns c = opened [] (pair_item c.args.first.now) (map pair_item c.args.rest.now) c.bytes.ensures (then c.put_pair.ensures (ended pair_item c.args.rest.now c.put_further_pairs.ensures c.close_list.ensures))

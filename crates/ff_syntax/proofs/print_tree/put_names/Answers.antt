@@ -1,6 +1,0 @@
-use Rattle.ff_syntax.specs.Canonical.{word}
-use Rattle.ff_syntax.proofs.Printing.{one_more}
-use Rattle.ff_syntax.proofs.print_tree.put_names.Goals as goal
-
-pub loop-name-preserved : goal.loop-name-preserved
-loop-name-preserved c = one_more word c.args.names.now c.loop-name.name-index c.name-item.result c.loop-name-test.true c.name-item.is c.loop-name.invariant c.name.ensures

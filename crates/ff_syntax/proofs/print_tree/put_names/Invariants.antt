@@ -1,7 +1,0 @@
-use Rattle.std.proofs.Common.{take}
-use Rattle.ff_syntax.specs.Canonical.{word}
-use Rattle.ff_syntax.specs.Pieces.{Prints, each_after_blank}
-use Rattle.ff_syntax.proofs.print_tree.put_names.Given as goal
-
-abbrev pub invariant-loop-name : goal.invariant-loop-name
-invariant-loop-name l = Prints l.fn.out l.out (each_after_blank word (take l.name-index l.names))

@@ -1,7 +1,0 @@
-use Rattle.std.proofs.Common.{◌∷◌, []}
-use Rattle.ff_syntax.specs.Canonical.{address, word}
-use Rattle.ff_syntax.proofs.Printing.{then, listed}
-use Rattle.ff_syntax.proofs.print_tree.put_src.Goals as goal
-
-pub returns : goal.returns
-returns c = listed (115 ∷ 114 ∷ 99 ∷ []) (word c.args.name.now ∷ address c.args.url.now ∷ []) c.open_list.ensures (then c.name.ensures (then c.address.ensures c.close_list.ensures))

@@ -1,7 +1,0 @@
-use Rattle.std.proofs.Common.{◌∙◌}
-use Rattle.ff_syntax.specs.Canonical.{word}
-use Rattle.ff_syntax.proofs.Printing.{blank_then, prints_word}
-use Rattle.ff_syntax.proofs.printer.Printer.name.Goals as goal
-
-pub returns : goal.returns
-returns c = blank_then (word c.args.name.now) c.bytes.ensures (prints_word c.args.name.now (c.as_bytes.ensures.value ∙ c.text.ensures.value) c.bytes-2.ensures)

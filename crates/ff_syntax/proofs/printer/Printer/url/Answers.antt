@@ -1,6 +1,0 @@
-use Rattle.ff_name.specs.Address.{printed}
-use Rattle.ff_syntax.proofs.Printing.{noted}
-use Rattle.ff_syntax.proofs.printer.Printer.url.Goals as goal
-
-pub returns : goal.returns
-returns c = noted c.args.self.now (record { bytes = c.print-done.new.out; failed = c.is_err-self.result }) (printed c.args.url.now) c.print-done.result c.if-self.false c.is_err-self.ensures.value c.print-done.ensures.ok c.print-done.ensures.err

@@ -1,5 +1,0 @@
-use Rattle.ff_syntax.proofs.Results.{doc_result}
-use Rattle.ff_syntax.proofs.reading.read_doc.Goals as goal
-
-pub returns-clause-well_spelled : goal.returns-clause-well_spelled
-returns-clause-well_spelled c well = doc_result c.args.item.now c.doc_of.result c.doc_of.ensures well

@@ -1,5 +1,0 @@
-use Rattle.ff_syntax.proofs.Results.{resp_result}
-use Rattle.ff_syntax.proofs.reading.read_resp.Goals as goal
-
-pub returns-clause-well_spelled : goal.returns-clause-well_spelled
-returns-clause-well_spelled c well = resp_result c.args.item.now c.resp_of.result c.resp_of.ensures well
