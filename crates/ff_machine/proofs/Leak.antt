@@ -29,7 +29,7 @@ use Rattle.ff_value.specs.declared.value.Val.TheVariants as val
 use Rattle.ff_term.specs.Running.{Running, Done, Make, Prim, Inside, none, more, call_of}
 use Rattle.ff_term.specs.Whole.{whole}
 use Rattle.ff_term.proofs.Forms.{whole-Lit, whole-Make, whole-Prim}
-use Rattle.ff_machine.specs.Addresses.{read_url}
+use Rattle.ff_name.specs.Reading.{read_url}
 use Rattle.ff_machine.specs.declared.records.Pending.{Pending}
 use Rattle.ff_machine.specs.declared.records.Dst.TheVariants as dst
 use Rattle.ff_machine.specs.declared.records.Shape.TheVariants as shape

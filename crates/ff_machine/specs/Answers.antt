@@ -3,7 +3,7 @@
 -- by `Answers` and `OnFault` of the operators.
 use Rattle.std.specs.Prelude.{◌≡◌, ℕ, Bool, true, false, List, [], ◌++◌, Option, Some, None, Result, Ok, Err, ⊤}
 use Rattle.std.specs.Borrow.{Bor}
-use Rattle.ff_name.specs.Output.{AppendsFront}
+use Rattle.ff_contract.specs.Appending.{AppendsFront}
 use Rattle.ff_operators.specs.declared.answer.Fail.{Fail}
 use Rattle.ff_operators.specs.declared.answer.Fail.TheVariants as fail
 use Rattle.ff_reactive.specs.Turns.{Stepped}

@@ -20,7 +20,7 @@ use Rattle.ff_machine.specs.declared.records.Dst.TheVariants as dst
 use Rattle.ff_operators.specs.declared.answer.Applied.{Applied}
 use Rattle.ff_operators.specs.Pure.{apply, made}
 use Rattle.ff_operators.specs.Operands.{with_operands, no_operands, one_str, two_strs, one_win, win_str, one_node, node_str, node_num, node_str_num, nodes_num, node_code, strs_code}
-use Rattle.ff_machine.specs.Addresses.{read_url}
+use Rattle.ff_name.specs.Reading.{read_url}
 use Rattle.ff_machine.specs.Shapes.{kind_of, kind_word, text_of}
 use Rattle.ff_machine.specs.Nodes as nodes
 use Rattle.ff_machine.specs.Nodes.{node_at, children}

@@ -12,13 +12,13 @@ use Rattle.ff_value.specs.declared.value.Code.{Code}
 use Rattle.ff_value.specs.declared.value.Val.{Val}
 use Rattle.ff_value.specs.declared.value.Val.TheVariants as val
 use Rattle.ff_machine.specs.Faults.{first_fault, limit_unless}
-use Rattle.ff_machine.specs.declared.limits.TheConstants.{MOST_CALLS}
 use Rattle.ff_machine.specs.Nodes as nodes
 use Rattle.ff_machine.specs.Documents as documents
 use Rattle.ff_machine.specs.Windows as windows
 use Rattle.ff_machine.specs.Stores.{Stores, may_weigh, nothing}
 use Rattle.ff_term.specs.Running.{Running, Runnings, Done, Var, Let, Set, If, While, Do, And, Or, Make, Apply, Tree, Prim, Inside, Evaluation, none, more, rewritten_in, innermost, value_of}
 use Rattle.ff_term.specs.Running as term
+use Rattle.ff_term.specs.declared.TheConstants.{MOST_CALLS}
 use Rattle.ff_term.specs.Calls.{calls_around}
 use Rattle.ff_term.specs.Whole.{whole}
 use Rattle.ff_term.specs.Redexes.{read_redex}
