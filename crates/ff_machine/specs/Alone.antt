@@ -1,5 +1,5 @@
--- What each store keeps by itself: everything in it is well spelled, its own numbers were made, its counts are within their
--- limits. What refers to other stores stands in References.
+-- What each store keeps by itself: everything in it is well spelled, its own numbers were made, its
+-- counts are within their limits. What refers to other stores stands in References.
 use Rattle.std.specs.Prelude.{◌≡◌, ◌≢◌, ℕ, ◌<◌, ◌≤◌, false, ◌==◌, nat_eq, Option, Some, None, IsSome, List, [], All, IsTrue, length, map, filter_map, count_by, sum_by}
 use Rattle.std.specs.List.{IsDistinct}
 use Rattle.std.specs.Option.{ForSome}
@@ -58,7 +58,8 @@ pub record IsNode (node : Node) : Type 0 where
   pub handlers : All IsHandler node.handlers
   pub form : HasForm node
 
--- each child is a node, children and parents agree, a node stands once in its parent's list, and chains of parents end
+-- each child is a node, children and parents agree, a node stands once in its parent's list, and
+-- chains of parents end
 pub record AreTrees (nodes : List Node) : Type 0 where
   pub below : (n : NodeId) → All (λ c. c.0 < length nodes) (children nodes n)
   pub agree : (n : NodeId) → All (λ c. parent nodes c ≡ Some n) (children nodes n)
@@ -113,7 +114,8 @@ pub record AreOpen (wins : ℕ) (opened : List WinId) : Type 0 where
   pub differ : IsDistinct nat_eq (map (λ w. w.0) opened)
   pub few : length opened ≤ MOST_WINDOWS
 
--- the page of each window, open or closed, is one of its own, so there are no more windows than pages
+-- the page of each window, open or closed, is one of its own, so there are no more windows than
+-- pages
 pub record AreOwn (windows : List Window) (pages : List Page) : Type 0 where
   pub own : (w : WinId) → w.0 < length windows → (nth_page pages (nth_window windows w).page).win ≡ w
   pub fewer : length windows ≤ length pages
@@ -143,7 +145,8 @@ pub record AreWindows (w : Windows) : Type 0 where
 
 -- Cookies.
 
--- a cookie is of a domain, has a key and a value that are texts, and their sizes are within the limits
+-- a cookie is of a domain, has a key and a value that are texts, and their sizes are within the
+-- limits
 pub record IsCookie (domain key value : List ℕ) : Type 0 where
   pub domain_is : IsDomain domain
   pub key_is : IsUtf8 key
@@ -158,7 +161,8 @@ pub record IsJar (jar : Jar) : Type 0 where
 
 -- Pending requests.
 
--- a callback is a handler, and a slot's number is one of 32 bits; whether the slot waits is asked when the reply comes
+-- a callback is a handler, and a slot's number is one of 32 bits; whether the slot waits is asked
+-- when the reply comes
 abbrev pub IsDst : Dst → Type 0
 IsDst (dst.Window w) = Unit {0}
 IsDst (dst.Slot page slot) = IsNat slot

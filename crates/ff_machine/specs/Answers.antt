@@ -1,8 +1,9 @@
--- What calls leave that make what the definitions say. Where a call was refused memory, what it put is a front of what it was to
--- put, and of its object no more is said. Whether a call fails is said by `Answers` and `OnFault` of the operators.
+-- What calls leave that make what the definitions say. Where a call was refused memory, what it put
+-- is a front of what it was to put, and of its object no more is said. Whether a call fails is said
+-- by `Answers` and `OnFault` of the operators.
 use Rattle.std.specs.Prelude.{◌≡◌, ℕ, Bool, true, false, List, [], ◌++◌, Option, Some, None, Result, Ok, Err, ⊤}
 use Rattle.std.specs.Borrow.{Bor}
-use Rattle.ff_name.specs.Output.{AppendsFront}
+use Rattle.ff_contract.specs.Appending.{AppendsFront}
 use Rattle.ff_operators.specs.declared.answer.Fail.{Fail}
 use Rattle.ff_operators.specs.declared.answer.Fail.TheVariants as fail
 use Rattle.ff_reactive.specs.Turns.{Stepped}
@@ -23,21 +24,24 @@ abbrev pub text_now : Option (Bor (List ℕ)) → Option (List ℕ)
 text_now None = None
 text_now (Some text) = Some text.now
 
--- Steps: `old` and `new` are what the call changes, `puts` and `puts'` the outputs before and after it.
+-- Steps: `old` and `new` are what the call changes, `puts` and `puts'` the outputs before and after
+-- it.
 
 -- a call that always makes its step
 abbrev pub Makes : {S O X E : Type 0} → S → S → List O → List O → Stepped O S → Result X E → Type 0
 Makes old new puts puts' step (Ok x) = (new ≡ step.after) × (puts' ≡ puts ++ step.outputs)
 Makes old new puts puts' step (Err e) = AppendsFront puts puts' step.outputs
 
--- a call that makes a step where there is room for it, and answers whether there is; without room nothing changes
+-- a call that makes a step where there is room for it, and answers whether there is; without room
+-- nothing changes
 abbrev pub MakesIfRoom : {S O E : Type 0} → S → S → List O → List O → Option (Stepped O S) → Result Bool E → Type 0
 MakesIfRoom old new puts puts' None (Ok b) = (b ≡ false) × (new ≡ old) × (puts' ≡ puts)
 MakesIfRoom old new puts puts' None (Err e) = puts' ≡ puts
 MakesIfRoom old new puts puts' (Some step) (Ok b) = (b ≡ true) × (new ≡ step.after) × (puts' ≡ puts ++ step.outputs)
 MakesIfRoom old new puts puts' (Some step) (Err e) = AppendsFront puts puts' step.outputs
 
--- a call that makes a step where there is no fault, and else answers the fault; then nothing changes
+-- a call that makes a step where there is no fault, and else answers the fault; then nothing
+-- changes
 abbrev pub Tries : {S O X : Type 0} → S → S → List O → List O → Option Fault → Stepped O S → Result X Fail → Type 0
 Tries old new puts puts' None step (Ok x) = (new ≡ step.after) × (puts' ≡ puts ++ step.outputs)
 Tries old new puts puts' None step (Err (fail.Fault g)) = ⊥

@@ -1,4 +1,5 @@
--- Codes of what contracts see of the stores and of a browser, by which proofs tell two of them apart.
+-- Codes of what contracts see of the stores and of a browser, by which proofs tell two of them
+-- apart.
 use Rattle.std.specs.Prelude.{ℕ, Bool, List, Option, refl}
 use Rattle.std.specs.Coded.{Coded, code_by, coded×, coded_ℕ, coded_bool, coded_list, coded_option}
 use Rattle.std.specs.FinMap as finmap

@@ -13,7 +13,8 @@ use Rattle.ff_machine.specs.declared.records.Shape.{Shape}
 use Rattle.ff_machine.specs.declared.records.Shape.TheVariants as shape
 use Rattle.ff_machine.specs.Nodes.{Node}
 
--- a document as nodes in preorder: how many, and which they are where the first gets a number and stands under a parent
+-- a document as nodes in preorder: how many, and which they are where the first gets a number and
+-- stands under a parent
 pub record Laid : Type 0 where
   pub size : ℕ
   pub nodes : ℕ → Option NodeId → List Node

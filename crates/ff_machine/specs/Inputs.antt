@@ -110,7 +110,8 @@ deliver s domain pending reply = to pending.dst where
   to (dst.Slot page slot) = fill_reply s page slot reply
   to (dst.Call page code) = call_reply s page code reply
 
--- a reply counts where its weight is within the limit: the mass grows by it, and its cookies are put; the destination gets it
+-- a reply counts where its weight is within the limit: the mass grows by it, and its cookies are
+-- put; the destination gets it
 abbrev pub receive : State → List ℕ → Resp → Pending → Step
 receive s domain r pending =
     cond (may_weigh s.stores (resp_weight r))

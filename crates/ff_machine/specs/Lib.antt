@@ -1,5 +1,4 @@
 pub mod Faults
-pub mod Addresses
 pub mod Shapes
 pub mod Nodes
 pub mod Documents

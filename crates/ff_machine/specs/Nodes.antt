@@ -1,4 +1,5 @@
--- Node trees: nodes by number, the walk of a tree, what is read off it, and how trees are joined and changed.
+-- Node trees: nodes by number, the walk of a tree, what is read off it, and how trees are joined
+-- and changed.
 use Rattle.std.specs.Prelude.{ℕ, zero, suc, ◌+◌, Bool, false, cond, not, ◌==◌, ◌||◌, nat_lt, nat_le, ℤ, pos, int_lt, nat_abs, Option, Some, None, is_some, is_none, List, [], ◌∷◌, ◌++◌, map, filter, flat_map, find, length, slice_get, slice_index_or, slice_set, bytes_eq}
 use Rattle.std.specs.List.{insert}
 use Rattle.ff_tree.specs.Spelled.{most}
@@ -15,7 +16,8 @@ use Rattle.ff_machine.specs.Faults.{limit_unless}
 use Rattle.ff_machine.specs.declared.limits.TheConstants.{MOST_NODES, MOST_DEPTH, MOST_HANDLERS}
 use Rattle.ff_machine.specs.Shapes.{kind_of, kind_word, name_of, text_of, with_text, page_of, is_unstarted, as_started, may_have_children, may_have_handlers, seen_as}
 
--- a node: what it is, its handlers in order, its children in order, and the node that it is a child of
+-- a node: what it is, its handlers in order, its children in order, and the node that it is a child
+-- of
 pub record Node : Type 0 where
   pub shape : Shape
   pub handlers : List Code
@@ -132,8 +134,9 @@ room_fault nodes more = limit_unless (has_room nodes more)
 abbrev pub place_of : ℤ → ℕ → Option ℕ
 place_of at count = cond (int_lt at (pos 0) || nat_lt count (nat_abs at)) None (Some (nat_abs at))
 
--- why a child can't stand under a parent, in order: the parent, and then the child, is of a kind that doesn't fit; the child
--- has a parent; the parent is in the child's tree; the place is none; the deepest node would stand too deep
+-- why a child can't stand under a parent, in order: the parent, and then the child, is of a kind
+-- that doesn't fit; the child has a parent; the parent is in the child's tree; the place is none;
+-- the deepest node would stand too deep
 unfoldable pub insert_fault : List Node → NodeId → NodeId → ℤ → Option Fault
 insert_fault nodes p c at =
     cond (not (may_have_children (node_at nodes p).shape)) (Some fault.Kind)
@@ -157,7 +160,8 @@ text_fault nodes n = cond (is_some (text_of (node_at nodes n).shape)) None (Some
 abbrev pub text_set : List Node → NodeId → List ℕ → List Node
 text_set nodes n text = set_node nodes n (record (node_at nodes n) { shape = with_text (node_at nodes n).shape text })
 
--- why a node gets no handler, in order: its kind has none; the function hasn't one parameter; there are too many
+-- why a node gets no handler, in order: its kind has none; the function hasn't one parameter; there
+-- are too many
 abbrev pub handler_fault : List Node → NodeId → Code → Option Fault
 handler_fault nodes n code =
     cond (not (may_have_handlers (node_at nodes n).shape)) (Some fault.Kind)

@@ -1,5 +1,5 @@
--- The operators on cookies, windows, nodes and requests: what each gives for its operands, what it leaves and what it puts, or
--- why it fails. A fault changes nothing.
+-- The operators on cookies, windows, nodes and requests: what each gives for its operands, what it
+-- leaves and what it puts, or why it fails. A fault changes nothing.
 use Rattle.std.specs.Prelude.{ℕ, cond, ◌==◌, ◌&&◌, ℤ, pos, nat_abs, int_lt, Option, Some, None, Result, Ok, Err, List, [], length, slice_get, option_and_then}
 use Rattle.ff_reactive.specs.Turns.{Stepped}
 use Rattle.ff_name.specs.Address.{printed}
@@ -20,7 +20,7 @@ use Rattle.ff_machine.specs.declared.records.Dst.TheVariants as dst
 use Rattle.ff_operators.specs.declared.answer.Applied.{Applied}
 use Rattle.ff_operators.specs.Pure.{apply, made}
 use Rattle.ff_operators.specs.Operands.{with_operands, no_operands, one_str, two_strs, one_win, win_str, one_node, node_str, node_num, node_str_num, nodes_num, node_code, strs_code}
-use Rattle.ff_machine.specs.Addresses.{read_url}
+use Rattle.ff_name.specs.Reading.{read_url}
 use Rattle.ff_machine.specs.Shapes.{kind_of, kind_word, text_of}
 use Rattle.ff_machine.specs.Nodes as nodes
 use Rattle.ff_machine.specs.Nodes.{node_at, children}
@@ -124,7 +124,8 @@ page_url s w = if_open s w (with_mass s (made s.mass (printed (page_at s.windows
 abbrev pub page_root : Stores → WinId → Outcome
 page_root s w = if_open s w (gives s (val.Node (page_at s.windows (window_at s.windows w).page).root))
 
--- a window opens at an address, with the task's window for its opener, where there is room for it and for its request
+-- a window opens at an address, with the task's window for its opener, where there is room for it
+-- and for its request
 abbrev pub open_at : Stores → PageId → Option (List ℕ) → Url → Outcome
 open_at s page name url.Blank =
     does_or_limit (val.Win (windows.next_win s.windows)) (stores.open_window s name (Some (self_window s page)))

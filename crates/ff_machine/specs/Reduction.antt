@@ -1,5 +1,5 @@
 -- The one reduction of a runtime expression.
-use Rattle.std.specs.Prelude.{ℕ, ◌+◌, cond, not, ◌==◌, nat_le, Option, Some, None, Result, Ok, Err, List, [], length}
+use Rattle.std.specs.Prelude.{◌≡◌, ℕ, ◌+◌, cond, not, ◌==◌, nat_le, Option, Some, None, Result, Ok, Err, List, [], length}
 use Rattle.ff_tree.specs.Weight.{doc_weight}
 use Rattle.ff_tree.specs.declared.tree.Doc.{Doc}
 use Rattle.ff_tree.specs.declared.tree.Expr.{Expr}
@@ -12,13 +12,13 @@ use Rattle.ff_value.specs.declared.value.Code.{Code}
 use Rattle.ff_value.specs.declared.value.Val.{Val}
 use Rattle.ff_value.specs.declared.value.Val.TheVariants as val
 use Rattle.ff_machine.specs.Faults.{first_fault, limit_unless}
-use Rattle.ff_machine.specs.declared.limits.TheConstants.{MOST_CALLS}
 use Rattle.ff_machine.specs.Nodes as nodes
 use Rattle.ff_machine.specs.Documents as documents
 use Rattle.ff_machine.specs.Windows as windows
 use Rattle.ff_machine.specs.Stores.{Stores, may_weigh, nothing}
 use Rattle.ff_term.specs.Running.{Running, Runnings, Done, Var, Let, Set, If, While, Do, And, Or, Make, Apply, Tree, Prim, Inside, Evaluation, none, more, rewritten_in, innermost, value_of}
 use Rattle.ff_term.specs.Running as term
+use Rattle.ff_term.specs.declared.TheConstants.{MOST_CALLS}
 use Rattle.ff_term.specs.Calls.{calls_around}
 use Rattle.ff_term.specs.Whole.{whole}
 use Rattle.ff_term.specs.Redexes.{read_redex}
@@ -86,7 +86,8 @@ abbrev pub choose : Stores → Val → Running → Result Became Fault
 choose s (val.Bool b) e = is s (branch b e)
 choose s other e = Err fault.Kind
 
--- why a function can't be called, in order: the number of arguments, too many calls inside one another, no room
+-- why a function can't be called, in order: the number of arguments, too many calls inside one
+-- another, no room
 abbrev pub enter_fault : Stores → ℕ → Code → List Val → Option Fault
 enter_fault s calls code args =
     cond (not (length code.params == length args)) (Some fault.Kind)
@@ -110,7 +111,8 @@ abbrev pub call : Stores → ℕ → Val → List Val → Result Became Fault
 call s calls (val.Code code) args = or_fault (enter_fault s calls code args) (entered s code args)
 call s calls other args = Err fault.Kind
 
--- what a redex, which is e, becomes for a task of the page, in the activation a and inside so many calls
+-- what a redex, which is e, becomes for a task of the page, in the activation a and inside so many
+-- calls
 abbrev pub reduced : Stores → PageId → ActId → ℕ → Running → Redex → Result Became Fault
 reduced s page a calls e redex.Local = is s (local_row e)
 reduced s page a calls e (redex.Test v) = choose s v e
@@ -155,6 +157,12 @@ as_reduction s t None (Err f) = record { answer = answer.Failed f; running = t; 
 -- the reduction of an evaluation for a page
 unfoldable pub reduction : Stores → PageId → Evaluation → Reduction
 reduction s page t = as_reduction s t (value_of t.expr) (Red s page t)
+
+-- the reduction changes nothing and puts nothing
+pub record StaysAt (s : Stores) (t : Evaluation) (r : Reduction) : Type 0 where
+  pub running_is : r.running ≡ t
+  pub after_is : r.after ≡ s
+  pub outputs_are : r.outputs ≡ []
 
 -- the reduction that a redex gives
 abbrev pub by_redex : Stores → Evaluation → Result Became Fault → Reduction

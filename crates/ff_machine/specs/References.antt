@@ -15,7 +15,8 @@ use Rattle.ff_machine.specs.Windows.{Page, Activation, act_at}
 use Rattle.ff_machine.specs.Net.{Requests, asked}
 use Rattle.ff_machine.specs.Stores.{Stores, Pages}
 
--- how many windows, pages, nodes and activations were made: a reference is a number below the count of its kind
+-- how many windows, pages, nodes and activations were made: a reference is a number below the count
+-- of its kind
 pub record Made : Type 0 where
   pub wins : ℕ
   pub pages : ℕ

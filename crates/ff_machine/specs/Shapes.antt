@@ -105,7 +105,8 @@ may_have_handlers (shape.TextBox x text) = true
 may_have_handlers (shape.Button x text) = true
 may_have_handlers other = false
 
--- what the user sees of it, where its children are seen as `parts`: nothing of a script, and no page inside a page
+-- what the user sees of it, where its children are seen as `parts`: nothing of a script, and no
+-- page inside a page
 abbrev pub seen_as : Shape → List Seen → List Seen
 seen_as (shape.Page page) parts = []
 seen_as (shape.Text x text) parts = seen.Text text ∷ []

@@ -15,7 +15,8 @@ pub record Task : Type 0 where
   pub page : PageId
   pub running : Evaluation
 
--- the stores, the fuel that each input brings, the fuel that is left, the tasks in order, and whether an input may come
+-- the stores, the fuel that each input brings, the fuel that is left, the tasks in order, and
+-- whether an input may come
 pub record State : Type 0 where
   pub stores : Stores
   pub budget : ℕ

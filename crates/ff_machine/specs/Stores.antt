@@ -1,4 +1,5 @@
--- The stores of one copy of the browser, and what loading, sending, opening a window and the like make of them.
+-- The stores of one copy of the browser, and what loading, sending, opening a window and the like
+-- make of them.
 use Rattle.std.specs.Prelude.{ℕ, ◌+◌, Bool, cond, ◌&&◌, nat_le, Option, Some, None, List, [], ◌∷◌, ◌++◌, length, slice_get, is_some, unwrap_or}
 use Rattle.std.specs.Ordering.{nat_cmp}
 use Rattle.std.specs.FinMap as finmap
@@ -38,7 +39,8 @@ use Rattle.ff_machine.specs.Net.{Jar, Requests}
 abbrev pub Pages : Type 0
 Pages = finset.FinSet nat_cmp
 
--- nodes, windows, cookies, pending requests, the mass, and the pages that were changed since the last time that all was quiet
+-- nodes, windows, cookies, pending requests, the mass, and the pages that were changed since the
+-- last time that all was quiet
 pub record Stores : Type 0 where
   pub nodes : List Node
   pub windows : Windows
@@ -117,7 +119,8 @@ queued s page body = nothing (record s { windows = windows.with_entry s.windows 
 abbrev pub slotted : PageId → Stores → Stepped Out Stores
 slotted page s = nothing (record s { windows = windows.with_slot s.windows page })
 
--- the script at an address is asked for, and a slot waits for it; without room `null` may run in its place
+-- the script at an address is asked for, and a slot waits for it; without room `null` may run in
+-- its place
 abbrev pub fetched : Stores → PageId → List ℕ → List ℕ → Stepped Out Stores
 fetched s page domain uri =
     cond (has_ask_room s domain)
@@ -187,7 +190,8 @@ loaded s w url docs =
 abbrev pub load : Stores → WinId → Url → List Doc → Option (Stepped Out Stores)
 load s w url docs = cond (has_load_room s docs) (Some (loaded s w url docs)) None
 
--- a window goes to an address, where there is room: it shows an empty page, or a request is sent for it
+-- a window goes to an address, where there is room: it shows an empty page, or a request is sent
+-- for it
 abbrev pub go : Stores → WinId → Url → Option (Stepped Out Stores)
 go s w url.Blank = load s w url.Blank []
 go s w (url.At domain uri) = send s domain uri [] (dst.Window w)
@@ -231,7 +235,8 @@ opens s u = and_then s (open_window s None None) (send_first u (windows.next_win
 abbrev pub with_text : Stores → NodeId → List ℕ → Stores
 with_text s n text = record s { nodes = nodes.text_set s.nodes n text; mass = s.mass + length text; touched = touched_at s n }
 
--- why a node can't get a text, in order: it is of a kind without text; the mass would pass its limit
+-- why a node can't get a text, in order: it is of a kind without text; the mass would pass its
+-- limit
 abbrev pub set_text_fault : Stores → NodeId → List ℕ → Option Fault
 set_text_fault s n text = first_fault (nodes.text_fault s.nodes n) (limit_unless (may_weigh s (length text)))
 

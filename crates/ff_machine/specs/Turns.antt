@@ -74,7 +74,8 @@ begin_script s taken = nothing (record s { stores = taken.1; tasks = task_for s 
 
 -- The turn.
 
--- what is done next for one fuel, if there is anything: the first task, else the first script that may run
+-- what is done next for one fuel, if there is anything: the first task, else the first script that
+-- may run
 abbrev pub next_work : State → Option (State → Step)
 next_work s = of_tasks s.tasks where
   of_script : Option ((PageId × Expr) × Stores) → Option (State → Step)

@@ -11,11 +11,11 @@ use Rattle.ff_value.specs.declared.value.Code.{Code}
 use Rattle.ff_value.specs.declared.value.Val.{Val}
 use Rattle.ff_term.specs.declared.redex.Redex.{Redex}
 use Rattle.ff_term.specs.Running.{Running}
+use Rattle.ff_term.specs.declared.TheConstants.{MOST_CALLS}
 use Rattle.ff_term.specs.Calls.{CallsStandAround, calls_around}
 use Rattle.ff_term.specs.Meets.{Conditions, Meets}
 use Rattle.ff_term.specs.Redexes.{GivesSound}
 use Rattle.ff_machine.specs.declared.records.Shape.TheVariants as shape
-use Rattle.ff_machine.specs.declared.limits.TheConstants.{MOST_CALLS}
 use Rattle.ff_machine.specs.Shapes.{is_started}
 use Rattle.ff_machine.specs.Nodes.{Node, node_at}
 use Rattle.ff_machine.specs.Windows.{Page, nth_page, page_at}
@@ -82,7 +82,8 @@ pub record IsStores (s : Stores) : Type 0 where
 
 -- States.
 
--- a task of a page: it runs in the page's activation, and each call in it stands around its redex, a thousand at most
+-- a task of a page: it runs in the page's activation, and each call in it stands around its redex,
+-- a thousand at most
 pub record IsTask (s : Stores) (task : Task) : Type 0 where
   pub page : task.page.0 < length s.windows.pages
   pub act : task.running.base ≡ (page_at s.windows task.page).act

@@ -1,4 +1,5 @@
--- Windows, pages with their queues of scripts, and activations with their variables: each by its number.
+-- Windows, pages with their queues of scripts, and activations with their variables: each by its
+-- number.
 use Rattle.std.specs.Prelude.{ℕ, zero, suc, ◌+◌, Bool, true, false, cond, not, ◌==◌, ◌&&◌, nat_lt, nat_le, Option, Some, None, List, [], ◌∷◌, ◌++◌, map, filter, length, find, position, sum_by, drop, slice_index_or, slice_set, is_some, option_and_then}
 use Rattle.std.specs.List.{list_any, zip}
 use Rattle.std.specs.Ordering.{nat_cmp}
@@ -30,7 +31,8 @@ pub record Window : Type 0 where
   pub opener : Option WinId
   pub page : PageId
 
--- a page: its address, window, root, activation, the number of its next slot, and the queue of its scripts
+-- a page: its address, window, root, activation, the number of its next slot, and the queue of its
+-- scripts
 pub record Page : Type 0 where
   pub url : Url
   pub win : WinId
@@ -44,7 +46,8 @@ pub record Activation : Type 0 where
   pub parent : Option ActId
   pub vars : Vars
 
--- all windows, pages and activations ever made, each at its number, and the open windows in order of opening
+-- all windows, pages and activations ever made, each at its number, and the open windows in order
+-- of opening
 pub record Windows : Type 0 where
   pub windows : List Window
   pub opened : List WinId
@@ -63,7 +66,8 @@ no_window = record { name = None; opener = None; page = record { 0 = 0 } }
 abbrev pub no_page : Page
 no_page = record { url = url.Blank; win = record { 0 = 0 }; root = record { 0 = 0 }; act = record { 0 = 0 }; next = 0; queue = [] }
 
--- an activation without parent and variables: a page's when it is made, and what stands at a number that no activation has
+-- an activation without parent and variables: a page's when it is made, and what stands at a number
+-- that no activation has
 abbrev pub no_act : Activation
 no_act = record { parent = None; vars = finmap.empty }
 
@@ -234,7 +238,8 @@ may_declare acts a x = cond (finmap.contains_key (vars_of acts a) x) true (nat_l
 abbrev pub may_call : List Activation → ℕ → Bool
 may_call acts params = nat_lt (length acts) MOST_ACTS && nat_le (count_vars acts + params) MOST_VARS
 
--- an activation more, under its parent, with its parameters declared; they differ, so each has its own argument
+-- an activation more, under its parent, with its parameters declared; they differ, so each has its
+-- own argument
 abbrev pub with_act : List Activation → ActId → List (List ℕ) → List Val → List Activation
 with_act acts parent params args = acts ++ record { parent = Some parent; vars = finmap.from_entries (zip params args) } ∷ []
 

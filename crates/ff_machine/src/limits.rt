@@ -1,4 +1,5 @@
-//! The limits of one copy of the browser. The mass, and the longest text that an operator makes, have theirs in `ff_operators`.
+//! The limits of one copy of the browser. Those of the mass and of the texts that operators make
+//! stand in `ff_operators`, that of calls inside one another in `ff_term`.
 
 /// Open windows.
 pub const MOST_WINDOWS: usize = 64;
@@ -44,6 +45,3 @@ pub const MOST_KEY_BYTES: usize = 256;
 
 /// Bytes of a cookie's value.
 pub const MOST_VALUE_BYTES: usize = 4_096;
-
-/// Calls inside one another.
-pub const MOST_CALLS: u32 = 1_000;

@@ -21,7 +21,8 @@ pub enum Shape {
 }
 
 impl Shape {
-    /// An equal shape, which shares its texts and its script. Its one refusal is a count of owners that is full.
+    /// An equal shape, which shares its texts and its script. Its one refusal is a count of owners
+    /// that is full.
     pub fn copy(&self) -> Result<Shape, NoMemory>
         ensures { IfOk result (λ shape. shape ≡ self.now) }
     {
@@ -79,7 +80,8 @@ pub enum Dst {
 }
 
 impl Dst {
-    /// An equal destination, which shares its function. Its one refusal is a count of owners that is full.
+    /// An equal destination, which shares its function. Its one refusal is a count of owners that
+    /// is full.
     pub fn copy(&self) -> Result<Dst, NoMemory>
         ensures { IfOk result (λ dst. dst ≡ self.now) }
     {
@@ -99,7 +101,8 @@ pub struct Pending {
 }
 
 impl Pending {
-    /// An equal request, which shares its text and its function. Its one refusal is a count of owners that is full.
+    /// An equal request, which shares its text and its function. Its one refusal is a count of
+    /// owners that is full.
     pub fn copy(&self) -> Result<Pending, NoMemory>
         ensures { IfOk result (λ pending. pending ≡ self.now) }
     {
