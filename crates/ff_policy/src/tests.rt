@@ -50,6 +50,12 @@ fn is_answer(answer: &Result<Policy, PolicyFault>, kind: &str, word: &str) -> bo
     }
 }
 
+/// Whether two texts, one after the other, are read so.
+fn gives(alloc: Global, head: &str, tail: &str, kind: &str, word: &str) -> bool {
+    let answer = read_both(alloc, head, tail);
+    is_answer(&answer, kind, word)
+}
+
 #[test]
 fn members_after_those_of_two_levels(rt: HostRuntime) {
     for (tail, kind, word) in [
@@ -84,8 +90,7 @@ fn members_after_those_of_two_levels(rt: HostRuntime) {
         (r#","below":[["H","L"],["L","H"]]}"#, "levels", "cycle"),
         (r#","below":[],"fuel":0}"#, "levels", "no join"),
     ] {
-        let answer = read_both(rt.alloc(), TWO, tail);
-        assert!(rt; is_answer(&answer, kind, word), "{tail}");
+        assert!(rt; gives(rt.alloc(), TWO, tail, kind, word), "{tail}");
     }
 }
 
@@ -124,8 +129,7 @@ fn names_and_keys(rt: HostRuntime) {
         (r#","domains":{"a":"L",".a":"H"}}"#, "policy", ""),
         (r#","kinds":{"type":"H","link":"L"}}"#, "policy", ""),
     ] {
-        let answer = read_both(rt.alloc(), TWO, tail);
-        assert!(rt; is_answer(&answer, kind, word), "{tail}");
+        assert!(rt; gives(rt.alloc(), TWO, tail, kind, word), "{tail}");
     }
 }
 
@@ -151,8 +155,7 @@ fn whole_texts(rt: HostRuntime) {
             "",
         ),
     ] {
-        let answer = read_both(rt.alloc(), text, "");
-        assert!(rt; is_answer(&answer, kind, word), "{text}");
+        assert!(rt; gives(rt.alloc(), text, "", kind, word), "{text}");
     }
 }
 
@@ -173,11 +176,16 @@ fn read_long(alloc: Global, bytes: usize) -> Result<Policy, PolicyFault> {
     Policy::read(alloc, text.as_bytes())
 }
 
+/// Whether a policy of this many bytes is read so.
+fn long_gives(alloc: Global, bytes: usize, kind: &str) -> bool {
+    let answer = read_long(alloc, bytes);
+    is_answer(&answer, kind, "")
+}
+
 #[test]
 fn the_longest_policy(rt: HostRuntime) {
     for (bytes, kind) in [(65_536, "policy"), (65_537, "large")] {
-        let answer = read_long(rt.alloc(), bytes);
-        assert!(rt; is_answer(&answer, kind, ""), "{bytes}");
+        assert!(rt; long_gives(rt.alloc(), bytes, kind), "{bytes}");
     }
 }
 
@@ -194,11 +202,16 @@ fn read_deep(alloc: Global, arrays: u32) -> Result<Policy, PolicyFault> {
     Policy::read(alloc, text.as_bytes())
 }
 
+/// Whether a policy whose levels are this many arrays is read so.
+fn deep_gives(alloc: Global, arrays: u32, kind: &str, word: &str) -> bool {
+    let answer = read_deep(alloc, arrays);
+    is_answer(&answer, kind, word)
+}
+
 #[test]
 fn the_deepest_value(rt: HostRuntime) {
     for (arrays, kind, word) in [(126, "shape", "levels"), (127, "json", "")] {
-        let answer = read_deep(rt.alloc(), arrays);
-        assert!(rt; is_answer(&answer, kind, word), "{arrays}");
+        assert!(rt; deep_gives(rt.alloc(), arrays, kind, word), "{arrays}");
     }
 }
 
@@ -215,9 +228,14 @@ fn level_of(alloc: Global, policy: &Policy, domain: &str) -> Result<Option<Level
     }
 }
 
-#[test]
-fn levels_of_domains(rt: HostRuntime) -> Result<(), Fail> {
-    let policy = Policy::read(rt.alloc(), KEYS.as_bytes())?;
+/// Whether the domain has this level.
+fn has_level(alloc: Global, policy: &Policy, domain: &str, want: u8) -> Result<bool, NoMemory> {
+    Ok(level_of(alloc, policy, domain)? == Some(Level(want)))
+}
+
+/// Whether each domain has its level under the policy of keys.
+fn have_levels(alloc: Global, policy: &Policy) -> Result<bool, NoMemory> {
+    let mut all = true;
     for (domain, want) in [
         ("x.shop.com", 3),
         ("y.shop.com", 2),
@@ -227,9 +245,16 @@ fn levels_of_domains(rt: HostRuntime) -> Result<(), Fail> {
         ("com", 0),
         ("shop.com.net", 0),
     ] {
-        let level = level_of(rt.alloc(), &policy, domain)?;
-        assert!(rt; level == Some(Level(want)), "{domain}");
+        all &= has_level(alloc, policy, domain, want)?;
     }
+    Ok(all)
+}
+
+#[test]
+fn levels_of_domains(rt: HostRuntime) -> Result<(), Fail> {
+    let policy = Policy::read(rt.alloc(), KEYS.as_bytes())?;
+    let all = have_levels(rt.alloc(), &policy)?;
+    assert!(rt; all);
     Ok(())
 }
 
