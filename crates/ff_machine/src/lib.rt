@@ -54,8 +54,8 @@ mod tests;
 pub use kinds::Kind;
 pub use law::{a_capped_weight_is_weighed_alike, a_fault_changes_nothing, a_new_browser_is_valid};
 pub use limits::{
-    MOST_ACTS, MOST_ASKS, MOST_ASKS_OF_DOMAIN, MOST_COOKIES, MOST_COOKIES_OF_DOMAIN,
-    MOST_DEPTH, MOST_ENTRIES, MOST_HANDLERS, MOST_KEY_BYTES, MOST_NODES, MOST_PAGES, MOST_SLOTS,
+    MOST_ACTS, MOST_ASKS, MOST_ASKS_OF_DOMAIN, MOST_COOKIES, MOST_COOKIES_OF_DOMAIN, MOST_DEPTH,
+    MOST_ENTRIES, MOST_HANDLERS, MOST_KEY_BYTES, MOST_NODES, MOST_PAGES, MOST_SLOTS,
     MOST_VALUE_BYTES, MOST_VARS, MOST_WINDOWS,
 };
 pub use records::{Dst, Entry, Pending, Shape};
