@@ -8,6 +8,7 @@ use anyhow::{Context, Result, bail};
 use ff_printing::{print_doc, print_expr, print_resp};
 use ff_reading::{read_doc, read_expr, read_resp};
 use ff_text::{MOST_BYTES, Sexp, read};
+use ff_value::{Doc, Expr, Resp};
 use std::alloc::Global;
 
 fn main(rt: HostRuntime) -> Result<()> {
@@ -40,33 +41,39 @@ fn read_item(alloc: Global, bytes: &[u8]) -> Result<Sexp> {
 
 fn doc(alloc: Global, item: &Sexp) -> Result<String> {
     match read_doc(alloc, item) {
-        Ok(doc) => {
-            let mut out = Vec::new(alloc);
-            print_doc(&doc, &mut out)?;
-            Ok(String::from_utf8(out)?)
-        }
+        Ok(doc) => printed_doc(alloc, &doc),
         Err(fault) => Ok(format!(in alloc; "{fault}")?),
     }
+}
+
+fn printed_doc(alloc: Global, doc: &Doc) -> Result<String> {
+    let mut out = Vec::new(alloc);
+    print_doc(doc, &mut out)?;
+    Ok(String::from_utf8(out)?)
 }
 
 fn expr(alloc: Global, item: &Sexp) -> Result<String> {
     match read_expr(alloc, item) {
-        Ok(expr) => {
-            let mut out = Vec::new(alloc);
-            print_expr(&expr, &mut out)?;
-            Ok(String::from_utf8(out)?)
-        }
+        Ok(expr) => printed_expr(alloc, &expr),
         Err(fault) => Ok(format!(in alloc; "{fault}")?),
     }
 }
 
+fn printed_expr(alloc: Global, expr: &Expr) -> Result<String> {
+    let mut out = Vec::new(alloc);
+    print_expr(expr, &mut out)?;
+    Ok(String::from_utf8(out)?)
+}
+
 fn resp(alloc: Global, item: &Sexp) -> Result<String> {
     match read_resp(alloc, item) {
-        Ok(resp) => {
-            let mut out = Vec::new(alloc);
-            print_resp(&resp, &mut out)?;
-            Ok(String::from_utf8(out)?)
-        }
+        Ok(resp) => printed_resp(alloc, &resp),
         Err(fault) => Ok(format!(in alloc; "{fault}")?),
     }
+}
+
+fn printed_resp(alloc: Global, resp: &Resp) -> Result<String> {
+    let mut out = Vec::new(alloc);
+    print_resp(resp, &mut out)?;
+    Ok(String::from_utf8(out)?)
 }
