@@ -12,6 +12,3 @@ pub use ff_session::Work;
 pub use ff_status::{Status, TraceFault};
 pub use top::run;
 pub use words::Command;
-
-#[cfg(test)]
-mod tests;

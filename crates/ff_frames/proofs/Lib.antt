@@ -1,7 +1,0 @@
-pub mod Plugs
-pub mod Steps
-pub mod Walk
-pub mod Reading
-pub mod Taking
-pub mod Rewriting
-pub mod Locals
