@@ -1,5 +1,5 @@
 -- Runs put together from what each input and each turn gives.
-use Rattle.std.proofs.Common.{◌≡◌, ℕ, suc, true, false, cond, List, [], ◌∷◌, ◌++◌, refl, sym, ap, ◌∙◌}
+use Rattle.std.proofs.Common.{◌≡◌, ℕ, suc, true, false, cond, List, [], ◌∷◌, ◌++◌, ap, ◌∙◌}
 use Rattle.ff_reactive.specs.Runs.{Machine, Handled, plain_from}
 use Rattle.ff_reactive.specs.Turns.{Stepped, Reactor, settle, machine_of}
 

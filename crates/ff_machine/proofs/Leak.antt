@@ -1,12 +1,12 @@
 -- The row of the leak: a click whose script sends what the user typed.
-use Rattle.std.proofs.Common.{◌≡◌, ℕ, suc, true, Some, List, [], ◌∷◌, map, refl, ap, ◌∙◌}
+use Rattle.std.proofs.Common.{◌≡◌, ℕ, true, Some, List, [], ◌∷◌, refl, ap, ◌∙◌}
 use Rattle.std.specs.Prelude.{codes}
 use Rattle.std.specs.Ordering.{nat_cmp}
 use Rattle.std.specs.Cmp.Lexicographic.{slice_cmp}
 use Rattle.std.specs.FinMap as finmap
 use Rattle.std.specs.FinSet as finset
 use Rattle.ff_reactive.specs.Runs.{plain}
-use Rattle.ff_reactive.specs.Turns.{machine_of, settle}
+use Rattle.ff_reactive.specs.Turns.{machine_of}
 use Rattle.ff_tree.specs.declared.op.Op.TheVariants as op
 use Rattle.ff_tree.specs.declared.tree.Doc.{Doc}
 use Rattle.ff_tree.specs.declared.tree.Doc.TheVariants as doc
@@ -18,7 +18,6 @@ use Rattle.ff_tree.specs.declared.tree.Lit.TheVariants as lit
 use Rattle.ff_value.specs.Weight.{resp_weight}
 use Rattle.ff_value.specs.declared.input.Act.TheVariants as act
 use Rattle.ff_value.specs.declared.input.Input.{Input}
-use Rattle.ff_value.specs.declared.output.Out.{Out}
 use Rattle.ff_value.specs.declared.output.Out.TheVariants as out
 use Rattle.ff_value.specs.declared.output.Seen.{Seen}
 use Rattle.ff_value.specs.declared.output.Seen.TheVariants as seen
@@ -39,7 +38,7 @@ use Rattle.ff_machine.specs.Windows.{Activation}
 use Rattle.ff_machine.specs.Documents.{Laid, laid, lay_leaf}
 use Rattle.ff_machine.specs.Stores as stores
 use Rattle.ff_machine.specs.Stores.{Stores, Pages, has_load_room}
-use Rattle.ff_machine.specs.State.{State, empty, lifted}
+use Rattle.ff_machine.specs.State.{empty, lifted}
 use Rattle.ff_machine.specs.Inputs.{begin}
 use Rattle.ff_machine.specs.Turns.{turn}
 use Rattle.ff_machine.specs.Reduction.{Red, reduction}

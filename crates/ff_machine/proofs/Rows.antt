@@ -1,5 +1,5 @@
 -- Rows that the definitions give on small inputs: a page load, and a reply that is given twice.
-use Rattle.std.proofs.Common.{◌≡◌, ℕ, suc, ◌+◌, true, Some, List, [], ◌∷◌, leb, refl, sym, ap, ◌∙◌}
+use Rattle.std.proofs.Common.{◌≡◌, ℕ, suc, ◌+◌, true, Some, List, [], ◌∷◌, leb, refl, ap, ◌∙◌}
 use Rattle.std.specs.Prelude.{codes}
 use Rattle.std.specs.FinMap as finmap
 use Rattle.std.specs.FinSet as finset
@@ -13,13 +13,13 @@ use Rattle.ff_value.specs.declared.output.Out.{Out}
 use Rattle.ff_value.specs.declared.output.Seen.TheVariants as seen
 use Rattle.ff_value.specs.declared.reply.Resp.TheVariants as resp
 use Rattle.ff_machine.specs.declared.records.Shape.TheVariants as shape
-use Rattle.ff_machine.specs.Nodes.{Node, Walk, shown}
+use Rattle.ff_machine.specs.Nodes.{Walk, shown}
 use Rattle.ff_machine.specs.Documents.{Laid, laid_page, lay_leaf, lay_over, with_tree}
 use Rattle.ff_machine.specs.Windows as windows
 use Rattle.ff_machine.specs.Stores as stores
 use Rattle.ff_machine.specs.Stores.{Stores, has_load_room}
-use Rattle.ff_machine.specs.State.{State, Step, empty, lifted}
-use Rattle.ff_machine.specs.Inputs.{begin, receive}
+use Rattle.ff_machine.specs.State.{empty, lifted}
+use Rattle.ff_machine.specs.Inputs.{begin}
 use Rattle.ff_machine.specs.Turns.{turn}
 use Rattle.ff_machine.specs.Machine.{reactor}
 use Rattle.ff_machine.proofs.Derived.{rest, turned, handled, ran}

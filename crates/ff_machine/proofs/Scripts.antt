@@ -35,7 +35,7 @@ use Rattle.ff_machine.specs.Net.{Requests, with_ask}
 use Rattle.ff_machine.specs.Documents.{laid, lay_leaf}
 use Rattle.ff_machine.specs.Stores as stores
 use Rattle.ff_machine.specs.Stores.{Stores, has_load_room}
-use Rattle.ff_machine.specs.State.{State, empty, lifted}
+use Rattle.ff_machine.specs.State.{empty, lifted}
 use Rattle.ff_machine.specs.Inputs.{begin}
 use Rattle.ff_machine.specs.Turns.{turn}
 use Rattle.ff_machine.specs.Reduction.{Red, reduction}
