@@ -30,7 +30,7 @@ impl Drop for Url {
     fn drop(self) {
         match self {
             Url::Blank => (),
-            Url::At(_domain, _text) => (),
+            Url::At(_domain, _request) => (),
         }
     }
 }

@@ -86,7 +86,7 @@ impl Drop for Out {
             Out::Updated(_, _shown) => (),
             Out::Error(_, _) => (),
             Out::Stopped => (),
-            Out::Send(_domain, _text, _pairs, _text2) => (),
+            Out::Send(_domain, _request, _pairs, _body) => (),
         }
     }
 }

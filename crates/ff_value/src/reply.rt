@@ -18,8 +18,8 @@ pub enum CookieOp {
 impl Drop for CookieOp {
     fn drop(self) {
         match self {
-            CookieOp::Put(_text, _text2) => (),
-            CookieOp::Drop(_text) => (),
+            CookieOp::Put(_key, _value) => (),
+            CookieOp::Drop(_key) => (),
         }
     }
 }
