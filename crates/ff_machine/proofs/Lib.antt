@@ -8,3 +8,4 @@ pub mod Scripts
 pub mod Leak
 pub mod Empty
 pub mod Stays
+pub mod Fuel
