@@ -9,3 +9,4 @@ pub mod Leak
 pub mod Empty
 pub mod Stays
 pub mod Fuel
+pub mod Children
