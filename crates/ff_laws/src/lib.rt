@@ -1,0 +1,2 @@
+//! Laws of the written machine.
+#![tactic(auto)]
