@@ -1,5 +1,5 @@
 -- A reduction leaves later stores.
-use Rattle.std.proofs.Common.{◌≡◌, ℕ, ◌+◌, ◌≤◌, Bool, true, false, Option, Some, None, Result, Ok, Err, List, [], ◌∷◌, ◌++◌, length, arith, length-append, length-set}
+use Rattle.std.proofs.Common.{◌≡◌, ℕ, ◌+◌, ◌≤◌, Bool, true, false, Option, Some, None, Result, Ok, Err, List, [], ◌∷◌, ◌++◌, length, slice_set, arith, length-append, length-set}
 use Rattle.std.specs.Prelude.{⊤}
 use Rattle.ff_tree.specs.declared.tree.Doc.{Doc}
 use Rattle.ff_value.specs.declared.fault.Fault.{Fault}
@@ -39,10 +39,14 @@ variable_later : (s : Stores) (v : Option Val) → OutcomeLater s (variable s v)
 variable_later s None = tt
 variable_later s (Some v) = unchanged s
 
+set_act : (acts : List Activation) (a : ActId) (act : Activation) → length acts ≤ length (slice_set acts a.0 act)
+set_act acts a act = omega (arith, length-set acts a.0 act)
+
 set_size : (acts : List Activation) (a : ActId) (x : List ℕ) (v : Val) → length acts ≤ length (windows.set_var acts a x v)
-set_size acts a x v = sized _ where
-  sized : (act : Activation) → length acts ≤ length (Rattle.std.specs.Prelude.slice_set acts a.0 act)
-  sized act = omega (arith, length-set acts a.0 act)
+set_size acts a x v = set_act acts a _
+
+push_act : (acts : List Activation) (act : Activation) → length acts ≤ length (acts ++ act ∷ [])
+push_act acts act = omega (arith, length-append acts (act ∷ []))
 
 assigned_size : (acts : List Activation) (a : Option ActId) (x : List ℕ) (v : Val) → length acts ≤ length (windows.assigned acts a x v)
 assigned_size acts None x v = omega arith
@@ -68,7 +72,7 @@ choose_later s (val.Bool b) e = unchanged s
 choose_later s other e = tt
 
 entered_later : (s : Stores) (why : Option Fault) (code : Code) (args : List Val) → BecameLater s (or_fault why (entered s code args))
-entered_later s None code args = acts_more s (windows.with_act s.windows.acts code.env code.params args) (omega (arith, length-append s.windows.acts _))
+entered_later s None code args = acts_more s (windows.with_act s.windows.acts code.env code.params args) (push_act s.windows.acts _)
 entered_later s (Some f) code args = tt
 
 call_later : (s : Stores) (calls : ℕ) (v : Val) (args : List Val) → BecameLater s (call s calls v args)

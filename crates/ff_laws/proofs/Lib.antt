@@ -5,3 +5,5 @@ pub mod Later
 pub mod LaterSteps
 pub mod LaterOperators
 pub mod LaterReduction
+pub mod LaterTurns
+pub mod Resting
