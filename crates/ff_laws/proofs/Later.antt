@@ -1,5 +1,5 @@
 -- What each step of the stores makes is later than they were.
-use Rattle.std.proofs.Common.{◌≡◌, ℕ, suc, ◌+◌, ◌<◌, ◌≤◌, Bool, true, false, cond, ◌&&◌, Option, Some, None, List, [], ◌∷◌, length, arith, refl, sym, length-append, length-set}
+use Rattle.std.proofs.Common.{ℕ, ◌≤◌, Bool, true, false, cond, Option, Some, None, List, [], ◌∷◌, length, arith, refl, length-append, length-set}
 use Rattle.std.specs.Prelude.{⊤}
 use Rattle.ff_reactive.specs.Turns.{Stepped}
 use Rattle.ff_name.specs.declared.urls.Url.{Url}
@@ -12,18 +12,17 @@ use Rattle.ff_value.specs.declared.ids.WinId.{WinId}
 use Rattle.ff_value.specs.declared.ids.PageId.{PageId}
 use Rattle.ff_value.specs.declared.ids.NodeId.{NodeId}
 use Rattle.ff_value.specs.declared.output.Out.{Out}
-use Rattle.ff_value.specs.declared.reply.CookieOp.{CookieOp}
 use Rattle.ff_machine.specs.declared.records.Dst.{Dst}
 use Rattle.ff_machine.specs.declared.records.Dst.TheVariants as dst
 use Rattle.ff_machine.specs.declared.records.Shape.{Shape}
 use Rattle.ff_machine.specs.declared.records.Shape.TheVariants as shape
 use Rattle.ff_machine.specs.Nodes as nodes
 use Rattle.ff_machine.specs.Nodes.{Node, node_at, joined}
-use Rattle.ff_machine.specs.Documents as documents
 use Rattle.ff_machine.specs.Windows as windows
 use Rattle.ff_machine.specs.Windows.{Windows, Page, page_at, is_live}
 use Rattle.ff_machine.specs.Stores as stores
 use Rattle.ff_machine.specs.Stores.{Stores}
+use Rattle.ff_machine.specs.References.{Grows, made}
 use Rattle.ff_laws.specs.Later.{IsSamePage, AreLaterWindows, AreLater}
 use Rattle.ff_laws.proofs.LaterWindows as later
 
@@ -160,3 +159,7 @@ load s w u docs = if_room s (stores.has_load_room s docs) (stores.loaded s w u d
 pub go : (s : Stores) (w : WinId) (u : Url) → MaybeLater s (stores.go s w u)
 go s w url.Blank = load s w url.Blank []
 go s w (url.At domain uri) = send s domain uri [] (dst.Window w)
+
+-- as many of each, at least, were made in later stores
+pub later_grows : (s t : Stores) → AreLater s t → Grows (made s) (made t)
+later_grows s t h = record { wins = h.windows.wins; pages = h.windows.pages; nodes = h.nodes; acts = h.windows.acts }

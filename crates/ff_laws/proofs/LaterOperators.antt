@@ -1,5 +1,5 @@
 -- Each operator leaves later stores.
-use Rattle.std.proofs.Common.{◌≡◌, ℕ, ◌+◌, ◌≤◌, Bool, true, false, cond, ◌&&◌, ◌||◌, not, ◌++◌, ◌+ℤ◌, ◌-ℤ◌, ◌*ℤ◌, ℤ, pos, int_lt, int_le, int_div, int_rem, nat_abs, ◌==◌, Option, Some, None, Result, Ok, Err, List, [], ◌∷◌, length, arith}
+use Rattle.std.proofs.Common.{ℕ, ◌+◌, ◌≤◌, Bool, true, false, cond, ◌&&◌, ◌||◌, not, ◌++◌, ◌+ℤ◌, ◌-ℤ◌, ◌*ℤ◌, ℤ, pos, int_lt, int_le, int_div, int_rem, nat_abs, ◌==◌, Option, Some, None, Result, Ok, Err, List, [], ◌∷◌, length, arith}
 use Rattle.std.specs.Prelude.{⊤}
 use Rattle.std.specs.Ordering.{int_eq}
 use Rattle.ff_reactive.specs.Turns.{Stepped}

@@ -1,5 +1,5 @@
 -- A reduction leaves later stores.
-use Rattle.std.proofs.Common.{◌≡◌, ℕ, ◌+◌, ◌≤◌, Bool, true, false, Option, Some, None, Result, Ok, Err, List, [], ◌∷◌, ◌++◌, length, slice_set, arith, length-append, length-set}
+use Rattle.std.proofs.Common.{ℕ, ◌≤◌, Option, Some, None, Result, Ok, Err, List, [], ◌∷◌, ◌++◌, length, slice_set, arith, length-append, length-set}
 use Rattle.std.specs.Prelude.{⊤}
 use Rattle.ff_tree.specs.declared.tree.Doc.{Doc}
 use Rattle.ff_value.specs.declared.fault.Fault.{Fault}
@@ -17,8 +17,8 @@ use Rattle.ff_machine.specs.Documents as documents
 use Rattle.ff_machine.specs.Windows as windows
 use Rattle.ff_machine.specs.Windows.{Activation}
 use Rattle.ff_machine.specs.Stores.{Stores}
-use Rattle.ff_machine.specs.Operators.{Outcome, operate, unless}
-use Rattle.ff_machine.specs.Reduction.{Became, Moved, Red, reduction, as_reduction, put_back, reduced, of_outcome, choose, call, entered, enter_fault, or_fault, with_acts, variable, declare, assign, make_tree, tree_fault, with_tree}
+use Rattle.ff_machine.specs.Operators.{Outcome}
+use Rattle.ff_machine.specs.Reduction.{Became, Moved, Red, reduction, as_reduction, put_back, reduced, of_outcome, choose, call, entered, enter_fault, or_fault, with_acts, variable, declare, assign, make_tree, tree_fault}
 use Rattle.ff_laws.specs.Later.{AreLater}
 use Rattle.ff_laws.proofs.LaterWindows as windows_later
 use Rattle.ff_laws.proofs.Later.{unchanged, other_windows}

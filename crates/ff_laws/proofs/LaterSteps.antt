@@ -1,5 +1,5 @@
 -- Windows, nodes, cookies and replies: each step leaves later stores.
-use Rattle.std.proofs.Common.{◌≡◌, ℕ, ◌+◌, ◌≤◌, Bool, true, false, cond, Option, Some, None, List, [], ◌∷◌, length, slice_get, arith, refl, length-append, length-set}
+use Rattle.std.proofs.Common.{ℕ, ◌≤◌, Bool, true, false, cond, Option, Some, None, List, [], length, slice_get, arith, refl, length-set}
 use Rattle.std.specs.Prelude.{⊤}
 use Rattle.ff_reactive.specs.Turns.{Stepped}
 use Rattle.ff_name.specs.declared.urls.Url.{Url}
@@ -21,7 +21,7 @@ use Rattle.ff_machine.specs.Stores as stores
 use Rattle.ff_machine.specs.Stores.{Stores}
 use Rattle.ff_laws.specs.Later.{AreLater}
 use Rattle.ff_laws.proofs.LaterWindows as windows_later
-use Rattle.ff_laws.proofs.Later.{unchanged, both, other_windows, queue_changed, MaybeLater, if_room, or_nothing, one_of, page_more, sent, send, start}
+use Rattle.ff_laws.proofs.Later.{unchanged, both, other_windows, queue_changed, MaybeLater, if_room, or_nothing, one_of, page_more, send, start}
 
 set_size : (all : List Node) (n : NodeId) (node : Node) → length all ≤ length (set_node all n node)
 set_size all n node = omega (arith, length-set all n.0 node)

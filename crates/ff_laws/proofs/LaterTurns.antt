@@ -1,5 +1,5 @@
 -- A turn leaves later stores, and so does all that an input brings about.
-use Rattle.std.proofs.Common.{◌≡◌, ℕ, zero, suc, ◌+◌, ◌≤◌, Bool, true, false, cond, Option, Some, None, List, [], ◌∷◌, ◌++◌, arith, refl, sym, subst}
+use Rattle.std.proofs.Common.{◌≡◌, ℕ, zero, suc, Bool, true, false, cond, Option, Some, None, List, [], ◌∷◌, refl, sym, subst}
 use Rattle.std.specs.Prelude.{⊤}
 use Rattle.ff_reactive.specs.Runs.{Handled}
 use Rattle.ff_reactive.specs.Turns.{Stepped, settle, machine_of}
@@ -32,8 +32,9 @@ use Rattle.ff_machine.specs.State.{State, Step, Task, nothing, with_stores, if_r
 use Rattle.ff_machine.specs.Inputs.{user_window, user_node, goes, links, closes, types, clicks, call_handlers, load_reply, slot_body, deliver_to, deliver, entries_of, receive, perform, begin}
 use Rattle.ff_machine.specs.Turns.{Worked, work, go_on, gone, script_work, work_of, next_work, spend, turn_of, turn}
 use Rattle.ff_machine.specs.Machine.{reactor}
+use Rattle.ff_machine.specs.References.{Grows, made}
 use Rattle.ff_laws.specs.Later.{AreLater}
-use Rattle.ff_laws.proofs.Later.{unchanged, both, MaybeLater, load, go}
+use Rattle.ff_laws.proofs.Later.{unchanged, both, MaybeLater, load, go, later_grows}
 use Rattle.ff_laws.proofs.LaterSteps.{close_window, opens, SomeLater, type_text, TakenLater, take_answer, take_ready, put_cookies, weighed as weighed_later, fill_slot, settle as settle_stores}
 use Rattle.ff_laws.proofs.LaterReduction.{reduction_later}
 
@@ -127,8 +128,8 @@ receive_later s domain r pending =
     let t = with_stores s counted in
     one_step s (may_weigh s.stores (resp_weight r)) (deliver t domain pending (Some r)) (deliver s domain pending None)
     (over s counted (deliver t domain pending (Some r)).after
-        (both s.stores heavier counted (weighed_later s.stores (resp_weight r)) (put_cookies heavier domain (entries_of r)))
-        (deliver_later t (url.At domain pending.uri) (Some r) pending.dst))
+    (both s.stores heavier counted (weighed_later s.stores (resp_weight r)) (put_cookies heavier domain (entries_of r)))
+    (deliver_later t (url.At domain pending.uri) (Some r) pending.dst))
     (deliver_later s (url.At domain pending.uri) None pending.dst)
 
 reply_later : (s : State) (domain : List ℕ) (r : Resp) (taken : Option (Pending × Stores)) → TakenLater s.stores taken
@@ -184,3 +185,7 @@ pub handled_later : (budget most : ℕ) (s : State) (i : Input) → AreLater s.s
 handled_later budget most s i =
     let t = (begin s i).after in
     both s.stores t.stores (settle (reactor budget) most t).after.stores (begin_later s i) (settled budget most t)
+
+-- handling an input makes things, and unmakes none
+pub counts_grow : (budget most : ℕ) (s : State) (i : Input) → Grows (made s.stores) (made ((machine_of (reactor budget) most).handle s i).after.stores)
+counts_grow budget most s i = later_grows s.stores ((machine_of (reactor budget) most).handle s i).after.stores (handled_later budget most s i)

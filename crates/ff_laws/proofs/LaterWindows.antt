@@ -1,15 +1,12 @@
 -- Each change of windows, pages and activations leaves later ones.
-use Rattle.std.proofs.Common.{◌≡◌, ℕ, suc, ◌+◌, ◌<◌, ◌≤◌, Bool, true, false, not, ◌==◌, eqb, Option, Some, None, List, [], ◌∷◌, ◌++◌, map, length, get_or, set, filter, drop, arith, refl, sym, ap, subst, ◌∙◌, length-append, length-set}
+use Rattle.std.proofs.Common.{◌≡◌, ℕ, ◌<◌, ◌≤◌, Bool, false, not, ◌==◌, eqb, Option, List, [], ◌∷◌, length, get_or, arith, refl, sym, subst, ◌∙◌, length-append, length-set}
 use Rattle.std.proofs.lemmas.Bool.{ne_eqb}
 use Rattle.std.proofs.lemmas.List.{get_or_append_left, get_or_push}
-use Rattle.std.specs.List.{list_any}
 use Rattle.ff_name.specs.declared.urls.Url.{Url}
-use Rattle.ff_tree.specs.declared.tree.Expr.{Expr}
 use Rattle.ff_value.specs.declared.ids.WinId.{WinId}
 use Rattle.ff_value.specs.declared.ids.PageId.{PageId}
 use Rattle.ff_value.specs.declared.ids.NodeId.{NodeId}
-use Rattle.ff_machine.specs.declared.records.Entry.{Entry}
-use Rattle.ff_machine.specs.Windows.{Windows, Window, Page, Activation, no_window, no_page, no_act, nth_window, window_at, page_at, next_win, next_page, next_act, is_win, is_open, is_live, new_page, with_page, with_window, set_window, page_shown, closed, set_page, with_acts}
+use Rattle.ff_machine.specs.Windows.{Windows, Window, Page, Activation, no_window, no_page, no_act, window_at, page_at, next_win, next_act, is_win, new_page, with_page, with_window, page_shown, closed, set_page, with_acts}
 use Rattle.ff_laws.specs.Later.{IsSamePage, AreLaterWindows}
 use Rattle.ff_laws.proofs.Lists.{at_set, at_pushed, any_less, any_pushed, any_filtered}
 

@@ -7,3 +7,4 @@ pub mod LaterOperators
 pub mod LaterReduction
 pub mod LaterTurns
 pub mod Resting
+pub mod Dead

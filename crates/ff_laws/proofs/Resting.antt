@@ -1,9 +1,9 @@
 -- Where the browser is quiet, nothing is left to do, to show or to spend.
-use Rattle.std.proofs.Common.{◌≡◌, ℕ, zero, suc, ◌+◌, Bool, true, false, Option, Some, None, List, [], ◌∷◌, refl, sym, ◌∙◌}
+use Rattle.std.proofs.Common.{◌≡◌, ℕ, zero, suc, ◌+◌, true, false, Option, Some, None, List, [], ◌∷◌, refl, sym, ◌∙◌}
 use Rattle.std.proofs.lemmas.Bool.{false≢true}
 use Rattle.std.specs.Prelude.{⊤}
 use Rattle.ff_reactive.specs.Turns.{KeepsOk, machine_of}
-use Rattle.ff_reactive.proofs.Turns.{handle_quiet, machine_handle_ok}
+use Rattle.ff_reactive.proofs.Turns.{machine_handle_ok}
 use Rattle.ff_tree.specs.declared.tree.Expr.{Expr}
 use Rattle.ff_value.specs.declared.ids.PageId.{PageId}
 use Rattle.ff_value.specs.declared.input.Input.{Input}
@@ -11,7 +11,7 @@ use Rattle.ff_machine.specs.Stores as stores
 use Rattle.ff_machine.specs.Stores.{Stores}
 use Rattle.ff_machine.specs.State.{State, Step, Task}
 use Rattle.ff_machine.specs.Inputs.{begin}
-use Rattle.ff_machine.specs.Turns.{script_work, work_of, next_work, spend, turn_of, turn, settle}
+use Rattle.ff_machine.specs.Turns.{script_work, work_of, next_work, spend, turn_of, turn}
 use Rattle.ff_machine.specs.Machine.{reactor}
 use Rattle.ff_machine.specs.Valid.{IsQuiet}
 use Rattle.ff_machine.proofs.Fuel.{ends_quiet}

@@ -1,5 +1,5 @@
 -- What a change of stores keeps.
-use Rattle.ff_machine.specs.References.{Made, Grows, made}
+use Rattle.ff_machine.specs.References.{Grows, made}
 use Rattle.ff_machine.specs.Stores.{Stores}
 use Rattle.ff_machine.specs.Valid.{IsStores}
 

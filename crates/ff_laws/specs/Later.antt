@@ -1,5 +1,5 @@
 -- How later stores stand to earlier ones: numbers stay, and nothing that has gone comes back.
-use Rattle.std.specs.Prelude.{◌≡◌, ℕ, ◌<◌, ◌≤◌, false, length}
+use Rattle.std.specs.Prelude.{◌≡◌, ◌<◌, ◌≤◌, false, length}
 use Rattle.ff_value.specs.declared.ids.WinId.{WinId}
 use Rattle.ff_value.specs.declared.ids.PageId.{PageId}
 use Rattle.ff_machine.specs.Windows.{Windows, Page, page_at, is_open, is_live}
