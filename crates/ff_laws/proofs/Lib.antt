@@ -8,3 +8,4 @@ pub mod LaterReduction
 pub mod LaterTurns
 pub mod Resting
 pub mod Dead
+pub mod Acts
