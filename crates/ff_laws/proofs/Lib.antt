@@ -9,3 +9,6 @@ pub mod LaterTurns
 pub mod Resting
 pub mod Dead
 pub mod Acts
+pub mod Calling
+pub mod Redexes
+pub mod Becoming
