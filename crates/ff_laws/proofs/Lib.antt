@@ -12,3 +12,5 @@ pub mod Acts
 pub mod Calling
 pub mod Redexes
 pub mod Becoming
+pub mod Sums
+pub mod Asking
