@@ -14,3 +14,5 @@ pub mod Redexes
 pub mod Becoming
 pub mod Sums
 pub mod Asking
+pub mod Removing
+pub mod Answering
