@@ -16,3 +16,4 @@ pub mod Sums
 pub mod Asking
 pub mod Removing
 pub mod Answering
+pub mod Cookies

@@ -57,3 +57,43 @@ module _ {K X : Type 0} {R : K → K → Ordering} (o : IsTotalOrder R) (f : X �
   pub sum_where : (p : K → Bool) (es : List (K × X)) → total (where_key R p es) ≤ total es
   sum_where p [] = omega arith
   sum_where p (e ∷ es) = kept_or_not (p e.0) e es (where_key R p es) (sum_where p es)
+
+-- one for a yes, none for a no
+abbrev pub if_so : Bool → ℕ
+if_so b = cond b 1 0
+
+found_not : {X : Type 0} (o : Option X) (n : ℕ) → suc n ≡ cond (is_some o) n (n + 1) → is_some o ≡ false
+found_not None n e = refl
+found_not (Some x) n e = absurd (omega (arith, e))
+
+module _ {K X : Type 0} {R : K → K → Ordering} (o : IsTotalOrder R) (p : K → Bool) where
+  -- how many entries have keys that pass
+  abbrev pub count_keys : List (K × X) → ℕ
+  count_keys es = sum_by (λ e. if_so (p e.0)) es
+
+  found_below : (k : K) (v : X) (e : K × X) (es : List (K × X)) → T (is_sorted R (e ∷ es)) → R k e.0 ≡ Less → is_some (cond (is_eq Less) (Some e.1) (find R k es)) ≡ false
+  found_below k v e es h q =
+      let grown = length-put R o k v (e ∷ es) h in
+      let here = rw q at grown in
+      found_not (find R k es) (suc (length es)) here
+
+  -- after a value was put
+  pub count_put : (k : K) (v : X) (es : List (K × X)) → T (is_sorted R es) → count_keys (put R k v es) + cond (is_some (find R k es)) (if_so (p k)) 0 ≡ count_keys es + if_so (p k)
+  count_put k v [] h = omega (arith, sum_by-cons (λ (e : K × X). if_so (p e.0)) (k, v) [])
+  count_put k v (e ∷ es) h =
+      elim (R k e.0) as (λ r. R k e.0 ≡ r → count_keys (by_order r ((k, v) ∷ e ∷ es) ((e.0, v) ∷ es) (e ∷ put R k v es)) + cond (is_some (cond (is_eq r) (Some e.1) (find R k es))) (if_so (p k)) 0 ≡ count_keys (e ∷ es) + if_so (p k)) [
+        | Less ↦ λ q.
+            let none : cond (is_some (cond (is_eq Less) (Some e.1) (find R k es))) (if_so (p k)) 0 ≡ 0 = ap (λ b. cond b (if_so (p k)) 0) (found_below k v e es h q) in
+            omega (arith, sum_by-cons (λ (e : K × X). if_so (p e.0)) (k, v) (e ∷ es), none)
+        | Equal ↦ λ q. omega (arith, sum_by-cons (λ (e : K × X). if_so (p e.0)) (e.0, v) es, sum_by-cons (λ (e : K × X). if_so (p e.0)) e es)
+        | Greater ↦ λ q. omega (arith, count_put k v es (later _ _ h), sum_by-cons (λ (e : K × X). if_so (p e.0)) e es, sum_by-cons (λ (e : K × X). if_so (p e.0)) e (put R k v es))
+      ] refl
+
+  counted_or_not : (b : Bool) (e : K × X) (es kept : List (K × X)) → count_keys kept ≤ count_keys es → count_keys (cond b (e ∷ kept) kept) ≤ count_keys (e ∷ es)
+  counted_or_not true e es kept h = omega (arith, h, sum_by-cons (λ (e : K × X). if_so (p e.0)) e es, sum_by-cons (λ (e : K × X). if_so (p e.0)) e kept)
+  counted_or_not false e es kept h = omega (arith, h, sum_by-cons (λ (e : K × X). if_so (p e.0)) e es)
+
+  -- where only some keys are kept
+  pub count_where : (q : K → Bool) (es : List (K × X)) → count_keys (where_key R q es) ≤ count_keys es
+  count_where q [] = omega arith
+  count_where q (e ∷ es) = counted_or_not (q e.0) e es (where_key R q es) (count_where q es)
