@@ -4,6 +4,7 @@ use Rattle.std.proofs.lemmas.Bool.{false≢true, and_parts}
 use Rattle.std.proofs.lemmas.Cmp.{then_total, on_total}
 use Rattle.std.proofs.lemmas.Map.Lookups.{exact_bytes, exact_pairs}
 use Rattle.std.proofs.lemmas.Map.Text.{is_eq-slice_cmp}
+use Rattle.std.specs.List.{AllByRecursion}
 use Rattle.std.specs.Str.{IsUtf8}
 use Rattle.std.specs.Ordering.{nat_cmp, eq_by_cmp}
 use Rattle.std.specs.Cmp.{IsTotalOrder, Equal-is}
@@ -135,3 +136,22 @@ module _ (jar : Jar) (domain key value : List ℕ) (are : IsJar jar) where
         let left = count_where cookie_total (λ (k : List ℕ × List ℕ). bytes_eq k.0 q) (others cookie_total cookie_exact jar (domain, key)) (finmap.entries jar) in
         omega (arith, now, left, are.few_of q);
   }
+
+put_or_not : (why : Option Fault) (jar after : Jar) → IsJar jar → (why ≡ None → IsJar after) → IsJar (cond (is_some why) jar after)
+put_or_not None jar after are new = new refl
+put_or_not (Some f) jar after are new = are
+
+-- one entry of a reply's cookies
+put_cookie_valid : (domain : List ℕ) (entry : CookieOp) (jar : Jar) → IsDomain domain → IsCookieOp entry → IsJar jar → IsJar (stores.put_cookie domain entry jar)
+put_cookie_valid domain (cookie_op.Put key value) jar is_domain is are =
+    put_or_not (cookie_fault jar domain key value) jar (cookie_put jar domain key value) are (put_valid jar domain key value are is_domain is.0 is.1)
+put_cookie_valid domain (cookie_op.Drop key) jar is_domain is are = deleted_valid jar domain key [] are
+
+put_each_valid : (domain : List ℕ) (entries : List CookieOp) (jar : Jar) → IsDomain domain → AllByRecursion IsCookieOp entries → IsJar jar → IsJar (stores.put_each domain entries jar)
+put_each_valid domain [] jar is_domain is are = are
+put_each_valid domain (entry ∷ entries) jar is_domain is are =
+    put_each_valid domain entries (stores.put_cookie domain entry jar) is_domain is.1 (put_cookie_valid domain entry jar is_domain is.0 are)
+
+-- the cookies of a reply keep stores valid
+pub put_cookies_valid : (s : Stores) (domain : List ℕ) (entries : List CookieOp) → IsStores s → IsDomain domain → AllByRecursion IsCookieOp entries → Keeps s (stores.put_cookies s domain entries)
+put_cookies_valid s domain entries valid is_domain is = jar_changed s (stores.put_each domain entries s.jar) valid (put_each_valid domain entries s.jar is_domain is valid.jar)

@@ -17,3 +17,4 @@ pub mod Asking
 pub mod Removing
 pub mod Answering
 pub mod Cookies
+pub mod Simple
