@@ -18,3 +18,5 @@ pub mod Removing
 pub mod Answering
 pub mod Cookies
 pub mod Simple
+pub mod NodeChanges
+pub mod Texts

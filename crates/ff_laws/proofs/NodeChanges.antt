@@ -1,0 +1,198 @@
+-- A node whose links stay may be another: texts, handlers and started scripts keep stores valid.
+use Rattle.std.proofs.Common.{◌≡◌, ℕ, zero, suc, ◌+◌, ◌<◌, ◌≤◌, Bool, true, false, cond, not, ◌==◌, eqb, Option, Some, None, IsSome, List, [], ◌∷◌, ◌++◌, length, get_or, set, count_by, sum_by, is_some, All, refl, sym, ap, subst, ◌∙◌, arith, length-set, ltb-true, length-append}
+use Rattle.std.proofs.lemmas.Bool.{true≢false, false≢true, eqb-true}
+use Rattle.std.proofs.lemmas.List.Elements.{All-weaker, All-set, All-push}
+use Rattle.std.proofs.lemmas.List.Sums.{sum_by-set}
+use Rattle.std.specs.Str.{IsUtf8}
+use Rattle.ff_tree.specs.declared.limits.TheConstants.{MOST_HANDLERS}
+use Rattle.ff_value.specs.declared.fault.Fault.{Fault}
+use Rattle.ff_value.specs.declared.fault.Fault.TheVariants as fault
+use Rattle.ff_value.specs.declared.ids.NodeId.{NodeId}
+use Rattle.ff_value.specs.declared.ids.PageId.{PageId}
+use Rattle.ff_value.specs.declared.value.Code.{Code}
+use Rattle.ff_value.specs.Spelled.{TakesOne}
+use Rattle.ff_machine.specs.declared.records.Shape.{Shape}
+use Rattle.ff_machine.specs.declared.records.Shape.TheVariants as shape
+use Rattle.ff_machine.specs.declared.limits.TheConstants.{MOST_TREE_DEPTH}
+use Rattle.ff_machine.specs.Faults.{limit_unless, first_fault}
+use Rattle.ff_machine.specs.Shapes.{page_of, is_started, text_of, with_text, as_started, may_have_handlers, may_have_children}
+use Rattle.ff_machine.specs.Nodes as nodes
+use Rattle.ff_machine.specs.Nodes.{Node, no_node, node_at, children, parent, depth, depth_within, at_parent, set_node, handler_fault}
+use Rattle.ff_machine.specs.Windows.{Page, nth_page}
+use Rattle.ff_machine.specs.Stores as stores
+use Rattle.ff_machine.specs.Stores.{Stores, may_weigh}
+use Rattle.ff_machine.specs.Alone.{IsShape, IsHandler, HasForm, IsNode, AreNodes, AreTrees}
+use Rattle.ff_machine.specs.References.{Made, Grows, made, CodeRefers, ShapeRefers, NodeRefers}
+use Rattle.ff_machine.specs.Valid.{IsCode, IsStores, AreRooted, count_started}
+use Rattle.ff_laws.specs.Keeps.{Keeps}
+use Rattle.ff_laws.proofs.Growing as growing
+use Rattle.ff_laws.proofs.Lists.{at_set}
+use Rattle.ff_laws.proofs.Acts.{within}
+use Rattle.ff_laws.proofs.Sums.{if_so}
+use Rattle.ff_laws.proofs.Simple.{weighed_valid, touched_changed, touched_at_refers}
+
+-- Nodes with the same links.
+
+-- the nodes have the same children and parents as others
+pub record SameLinks (all new : List Node) : Type 0 where
+  pub size : length new ≡ length all
+  pub same_children : (n : NodeId) → children new n ≡ children all n
+  pub same_parent : (n : NodeId) → parent new n ≡ parent all n
+
+at_same : {X : Type 0} (f g : NodeId → X) (here : X) (o : Option NodeId) → ((p : NodeId) → f p ≡ g p) → at_parent here f o ≡ at_parent here g o
+at_same f g here None below = refl
+at_same f g here (Some p) below = below p
+
+depth_same : (k : ℕ) (all new : List Node) → SameLinks all new → (n : NodeId) → depth_within k new n ≡ depth_within k all n
+depth_same zero all new same n = refl
+depth_same (suc k) all new same n =
+    ap (at_parent 0 (λ p. suc (depth_within k new p))) (same.same_parent n)
+    ∙ at_same (λ p. suc (depth_within k new p)) (λ p. suc (depth_within k all p)) 0 (parent all n) (λ p. ap suc (depth_same k all new same p))
+
+-- and stand in valid trees, if those do
+pub same_trees : (all new : List Node) → SameLinks all new → AreTrees all → AreTrees new
+unfolding depth
+same_trees all new same trees = record {
+  below = λ n. subst (All (λ c. c.0 < length new)) (sym (same.same_children n)) (All-weaker (λ c. c.0 < length all) (λ c. c.0 < length new) (λ c h. omega (arith, h, same.size)) (children all n) (trees.below n));
+  agree = λ n. subst (All (λ c. parent new c ≡ Some n)) (sym (same.same_children n)) (All-weaker (λ c. parent all c ≡ Some n) (λ c. parent new c ≡ Some n) (λ c h. same.same_parent c ∙ h) (children all n) (trees.agree n));
+  once = λ n p e. ap (count_by (λ c. eqb c.0 n.0)) (same.same_children p) ∙ trees.once n p (sym (same.same_parent n) ∙ e);
+  ends = λ n. subst (λ (d : ℕ). d ≤ MOST_TREE_DEPTH) (sym (depth_same (suc MOST_TREE_DEPTH) all new same n)) (trees.ends n);
+}
+
+-- a node is replaced by one with the same links
+pub links_set : (all : List Node) (n : NodeId) (node : Node) → node.children ≡ children all n → node.parent ≡ parent all n → SameLinks all (set_node all n node)
+links_set all n node kids up = record {
+  size = length-set all n.0 node;
+  same_children = λ m. at_set (λ i x. x.children ≡ (get_or all i no_node).children) all n.0 m.0 node no_node kids refl;
+  same_parent = λ m. at_set (λ i x. x.parent ≡ (get_or all i no_node).parent) all n.0 m.0 node no_node up refl;
+}
+
+-- Shapes alike.
+
+-- the shapes are of the same kind, roots of the same page, and what was started still is
+pub record IsLike (old new : Shape) : Type 0 where
+  pub handlers : may_have_handlers new ≡ may_have_handlers old
+  pub children : may_have_children new ≡ may_have_children old
+  pub page : page_of new ≡ page_of old
+  pub started : if_so (is_started old) ≤ if_so (is_started new)
+
+-- a shape is like itself
+pub like_itself : (s : Shape) → IsLike s s
+like_itself s = record { handlers = refl; children = refl; page = refl; started = omega arith }
+
+-- a shape with another text is like it
+pub with_text_like : (s : Shape) (text : List ℕ) → IsLike s (with_text s text)
+with_text_like (shape.Page page) text = like_itself (shape.Page page)
+with_text_like other text = record { handlers = refl; children = refl; page = refl; started = omega arith }
+
+at_most_one : (b : Bool) → if_so b ≤ 1
+at_most_one true = omega arith
+at_most_one false = omega arith
+
+-- so is one that was started
+pub as_started_like : (s : Shape) → IsLike s (as_started s)
+as_started_like (shape.Script x started body) = record { handlers = refl; children = refl; page = refl; started = at_most_one started }
+as_started_like (shape.Src x started url) = record { handlers = refl; children = refl; page = refl; started = at_most_one started }
+as_started_like other = record { handlers = refl; children = refl; page = refl; started = omega arith }
+
+-- Stores with another node.
+
+is_page : (s : Shape) (p : PageId) → page_of s ≡ Some p → s ≡ shape.Page p
+is_page (shape.Page q) p e = let same : q ≡ p = cc in ap shape.Page same
+is_page other p e = cc
+
+-- where each node is the root of the same page, the pages are rooted as before
+pub rooted_same : (all new : List Node) (pages : List Page) → ((n : NodeId) → page_of (node_at new n).shape ≡ page_of (node_at all n).shape) → AreRooted all pages → AreRooted new pages
+rooted_same all new pages same rooted = record {
+  root = λ p lt. is_page (node_at new (nth_page pages p).root).shape p (same (nth_page pages p).root ∙ ap page_of (rooted.root p lt));
+  only = λ n p e. rooted.only n p (is_page (node_at all n).shape p (sym (same n) ∙ ap page_of e));
+}
+
+-- another node at a number, which is valid, refers to what was made and is like the old one, keeps
+-- stores valid
+pub node_changed : (s : Stores) (n : NodeId) (node : Node) → IsStores s → n.0 < length s.nodes → node.children ≡ children s.nodes n → node.parent ≡ parent s.nodes n
+    → IsLike (node_at s.nodes n).shape node.shape → IsNode node → NodeRefers (made s) node → Keeps s (record s { nodes = set_node s.nodes n node })
+node_changed s n node valid lives kids up like is refers =
+    let all = s.nodes in
+    let size : length (set_node all n node) ≡ length all = length-set all n.0 node in
+    let t : Stores = record s { nodes = set_node all n node } in
+    let grows : Grows (made s) (made t) = record { wins = omega arith; pages = omega arith; nodes = omega (arith, size); acts = omega arith } in
+    let refer = growing.stores_refer_grow (made s) (made t) grows s valid.refer in
+    let count = sum_by-set (λ (x : Node). if_so (is_started x.shape)) all n.0 node no_node lives in
+    record {
+      stores = record {
+        nodes = record {
+          each = All-set IsNode all n.0 node is valid.nodes.each;
+          trees = same_trees all (set_node all n node) (links_set all n node kids up) valid.nodes.trees;
+          few = omega (arith, size, valid.nodes.few);
+        };
+        windows = valid.windows;
+        jar = valid.jar;
+        requests = valid.requests;
+        refer = record {
+          nodes = All-set (NodeRefers (made t)) all n.0 node (growing.node_refers_grows (made s) (made t) grows node refers) refer.nodes;
+          pages = refer.pages;
+          acts = refer.acts;
+          requests = refer.requests;
+          touched = refer.touched;
+        };
+        rooted = rooted_same all (set_node all n node) s.windows.pages (λ m. at_set (λ i x. page_of x.shape ≡ page_of (get_or all i no_node).shape) all n.0 m.0 node no_node like.page refl) valid.rooted;
+        queued = record { entries = omega (arith, count, like.started, valid.queued.entries); slots = omega (arith, count, like.started, valid.queued.slots) };
+        light = valid.light;
+      };
+      grows = grows;
+    }
+
+-- a node of another shape that is like the old one
+reshaped : (node : Node) (s : Shape) → IsNode node → IsLike node.shape s → IsShape s → IsNode (record node { shape = s })
+reshaped node s is like spelled = record {
+  shape = spelled;
+  handlers = is.handlers;
+  form = record {
+    few_handlers = is.form.few_handlers;
+    no_handlers = λ e. is.form.no_handlers (sym like.handlers ∙ e);
+    no_children = λ e. is.form.no_children (sym like.children ∙ e);
+    no_parent = λ h. is.form.no_parent (subst (λ (o : Option PageId). IsSome o) like.page h);
+  };
+}
+
+with_text_spelled : (s : Shape) (text : List ℕ) → IsShape s → IsUtf8 text → IsShape (with_text s text)
+with_text_spelled (shape.Text x old) text h is = (h.0, is)
+with_text_spelled (shape.Link x url old) text h is = (h.0, h.1, is)
+with_text_spelled (shape.TextBox x old) text h is = (h.0, is)
+with_text_spelled (shape.Button x old) text h is = (h.0, is)
+with_text_spelled other text h is = h
+
+with_text_refers : (m : Made) (s : Shape) (text : List ℕ) → ShapeRefers m s → ShapeRefers m (with_text s text)
+with_text_refers m (shape.Page page) text h = h
+with_text_refers m other text h = tt
+
+as_started_spelled : (s : Shape) → IsShape s → IsShape (as_started s)
+as_started_spelled (shape.Page page) h = h
+as_started_spelled other h = h
+
+as_started_refers : (m : Made) (s : Shape) → ShapeRefers m s → ShapeRefers m (as_started s)
+as_started_refers m (shape.Page page) h = h
+as_started_refers m other h = tt
+
+-- a script that counts as started keeps stores valid
+pub started_valid : (s : Stores) (n : NodeId) → IsStores s → n.0 < length s.nodes → Keeps s (record s { nodes = nodes.started s.nodes n })
+started_valid s n valid lives =
+    let node = node_at s.nodes n in
+    let is : IsNode node = valid.nodes.each n.0 no_node lives in
+    let refers : NodeRefers (made s) node = valid.refer.nodes n.0 no_node lives in
+    let like = as_started_like node.shape in
+    node_changed s n (record node { shape = as_started node.shape }) valid lives refl refl like
+    (reshaped node (as_started node.shape) is like (as_started_spelled node.shape is.shape))
+    (record { shape = as_started_refers (made s) node.shape refers.shape; handlers = refers.handlers })
+
+-- a node with another text keeps stores valid
+pub text_set_valid : (s : Stores) (n : NodeId) (text : List ℕ) → IsStores s → n.0 < length s.nodes → IsUtf8 text → Keeps s (record s { nodes = nodes.text_set s.nodes n text })
+text_set_valid s n text valid lives is_text =
+    let node = node_at s.nodes n in
+    let is : IsNode node = valid.nodes.each n.0 no_node lives in
+    let refers : NodeRefers (made s) node = valid.refer.nodes n.0 no_node lives in
+    let like = with_text_like node.shape text in
+    node_changed s n (record node { shape = with_text node.shape text }) valid lives refl refl like
+    (reshaped node (with_text node.shape text) is like (with_text_spelled node.shape text is.shape is_text))
+    (record { shape = with_text_refers (made s) node.shape text refers.shape; handlers = refers.handlers })
