@@ -20,3 +20,5 @@ pub mod Cookies
 pub mod Simple
 pub mod NodeChanges
 pub mod Texts
+pub mod Queues
+pub mod Slots
