@@ -22,3 +22,4 @@ pub mod NodeChanges
 pub mod Texts
 pub mod Queues
 pub mod Slots
+pub mod Walks
