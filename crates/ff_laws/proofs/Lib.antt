@@ -23,3 +23,4 @@ pub mod Texts
 pub mod Queues
 pub mod Slots
 pub mod Walks
+pub mod Starting
