@@ -24,3 +24,5 @@ pub mod Queues
 pub mod Slots
 pub mod Walks
 pub mod Starting
+pub mod Forests
+pub mod DocForms
