@@ -26,3 +26,4 @@ pub mod Walks
 pub mod Starting
 pub mod Forests
 pub mod DocForms
+pub mod Laid
