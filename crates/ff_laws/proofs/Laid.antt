@@ -72,7 +72,8 @@ up_to all lo hi last under tops high e f = subst (λ (n : ℕ). AreForest all lo
 
 -- Trees one after another.
 
-all_laid : (env : ActId) (ls : List Laid) (high : ℕ) → AllByRecursion (λ l. IsLaid env l high) ls → AreLaid env ls high
+-- lists of what is laid, each a tree
+pub all_laid : (env : ActId) (ls : List Laid) (high : ℕ) → AllByRecursion (λ l. IsLaid env l high) ls → AreLaid env ls high
 all_laid env [] high h = record {
   sized = λ first under. refl;
   fresh = λ m lives first under. All-nil (IsFresh m);
@@ -95,6 +96,7 @@ all_laid env (l ∷ ls) high h =
 
 -- A node over trees, and a node alone.
 
+-- a node over trees is a tree
 pub laid_over : (env : ActId) (s : Shape) (ls : List Laid) (high : ℕ) → AreLaid env ls high → (all : List Node) (first : ℕ) (under : Option NodeId) → IsAt all first ((lay_over s ls).nodes first under)
     → AreForest all first (first + (lay_over s ls).size) under (nth first ∷ []) (suc high)
 laid_over env s ls high are all first under at =
@@ -105,7 +107,8 @@ laid_over env s ls high are all first under at =
     up_to all first (suc first + size_of ls) (first + suc (size_of ls)) under (nth first ∷ []) (suc high) (omega arith)
     (over all first (suc first + size_of ls) under (numbers ls (suc first)) high (ap (λ (x : Node). x.children) here) (ap (λ (x : Node). x.parent) here) below (omega arith))
 
-leaf_forest : (s : Shape) (handlers : List Code) (all : List Node) (first : ℕ) (under : Option NodeId) → IsAt all first ((lay_leaf s handlers).nodes first under)
+-- a node alone is a tree
+pub leaf_forest : (s : Shape) (handlers : List Code) (all : List Node) (first : ℕ) (under : Option NodeId) → IsAt all first ((lay_leaf s handlers).nodes first under)
     → AreForest all first (first + 1) under (nth first ∷ []) 1
 leaf_forest s handlers all first under at =
     let node : Node = record { shape = s; handlers = handlers; children = []; parent = under } in

@@ -27,3 +27,5 @@ pub mod Starting
 pub mod Forests
 pub mod DocForms
 pub mod Laid
+pub mod LaidDocs
+pub mod Planted
