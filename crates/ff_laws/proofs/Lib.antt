@@ -29,3 +29,4 @@ pub mod DocForms
 pub mod Laid
 pub mod LaidDocs
 pub mod Planted
+pub mod Making
