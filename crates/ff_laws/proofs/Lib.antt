@@ -30,3 +30,4 @@ pub mod Laid
 pub mod LaidDocs
 pub mod Planted
 pub mod Making
+pub mod Paging

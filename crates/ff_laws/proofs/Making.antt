@@ -48,7 +48,8 @@ more_started all xs = let sum = sum_by-append (λ (node : Node). if_so (is_start
 pub old_root : (all xs : List Node) (n : NodeId) → n.0 < length all → node_at (all ++ xs) n ≡ node_at all n
 old_root all xs n lt = get_or_append_left all xs no_node n.0 lt
 
-no_page_shape : (s : Shape) (p : PageId) → page_of s ≡ None → s ≡ shape.Page p → ⊥
+-- a shape of no page is that of no page's root
+pub no_page_shape : (s : Shape) (p : PageId) → page_of s ≡ None → s ≡ shape.Page p → ⊥
 no_page_shape s p e h = some_none (sym e ∙ ap page_of h) where
   some_none : None ≡ Some p → ⊥
   some_none q = cc

@@ -1,0 +1,225 @@
+-- A page more, with its nodes and its activation, keeps stores valid, whatever windows show it.
+use Rattle.std.proofs.Common.{◌≡◌, ℕ, zero, suc, ◌+◌, ◌-◌, ◌<◌, ◌≤◌, ⊎_elim, Bool, true, false, cond, ◌&&◌, Option, Some, None, IsSome, List, [], ◌∷◌, ◌++◌, map, length, get_or, sum_by, All, refl, sym, ap, subst, ◌∙◌, arith, length-append, ltb-true}
+use Rattle.std.specs.Prelude.{nat_eq}
+use Rattle.std.specs.List.{AllByRecursion, IsDistinct}
+use Rattle.std.specs.Cmp.Lexicographic.{slice_cmp}
+use Rattle.std.specs.Ordering.{nat_cmp}
+use Rattle.std.specs.FinMap as finmap
+use Rattle.std.proofs.lemmas.Bool.{cases_lt, leb-true, and_parts, true≢false, false≢true}
+use Rattle.std.proofs.lemmas.List.{get_or_append_left, get_or_push, get_or-append-add}
+use Rattle.std.proofs.lemmas.List.Elements.{All-nil, All-cons, All-push, All-weaker, All-append}
+use Rattle.std.proofs.lemmas.List.Sums.{sum_by_push}
+use Rattle.ff_name.specs.Address.{IsWellSpelled}
+use Rattle.ff_name.specs.declared.urls.Url.{Url}
+use Rattle.ff_name.specs.declared.limits.TheConstants.{MOST_DEPTH}
+use Rattle.ff_tree.specs.Spelled.{IsWellSpelledDoc}
+use Rattle.ff_tree.specs.declared.tree.Doc.{Doc}
+use Rattle.ff_value.specs.declared.ids.ActId.{ActId}
+use Rattle.ff_value.specs.declared.ids.NodeId.{NodeId}
+use Rattle.ff_value.specs.declared.ids.PageId.{PageId}
+use Rattle.ff_value.specs.declared.ids.WinId.{WinId}
+use Rattle.ff_value.specs.declared.value.Val.{Val}
+use Rattle.ff_machine.specs.declared.limits.TheConstants.{MOST_NODES, MOST_PAGES, MOST_ACTS, MOST_TREE_DEPTH}
+use Rattle.ff_machine.specs.declared.records.Shape.{Shape}
+use Rattle.ff_machine.specs.declared.records.Shape.TheVariants as shape
+use Rattle.ff_machine.specs.Shapes.{page_of}
+use Rattle.ff_machine.specs.Nodes as nodes
+use Rattle.ff_machine.specs.Nodes.{Node, no_node, node_at}
+use Rattle.ff_machine.specs.Documents.{Laid, numbers, size_of, lay_all, lay_over, laid}
+use Rattle.ff_machine.specs.Windows as windows
+use Rattle.ff_machine.specs.Windows.{Windows, Window, Page, Activation, no_page, no_act, nth_page, new_page, act_at}
+use Rattle.ff_machine.specs.Stores as stores
+use Rattle.ff_machine.specs.Stores.{Stores}
+use Rattle.ff_machine.specs.Alone.{IsEntry, IsNode, IsWindow, IsPage, IsAct, AreOpen, AreOwn, IsQueue, IsHandler}
+use Rattle.ff_machine.specs.References.{Made, Grows, made, CodeRefers, ShapeRefers, NodeRefers, PageRefers, ActRefers}
+use Rattle.ff_machine.specs.Valid.{IsStores}
+use Rattle.ff_laws.specs.Keeps.{Keeps}
+use Rattle.ff_laws.proofs.Growing as growing
+use Rattle.ff_laws.proofs.Lists.{at_pushed}
+use Rattle.ff_laws.proofs.Forests.{nth, AreForest}
+use Rattle.ff_laws.proofs.Laid.{IsFresh, AreLaid, laid_over}
+use Rattle.ff_laws.proofs.LaidDocs.{docs_laid}
+use Rattle.ff_laws.proofs.Planted.{at_end, planted_trees}
+use Rattle.ff_laws.proofs.Making.{more_started, old_root, no_page_shape}
+use Rattle.ff_laws.proofs.Simple.{at_any}
+
+none_some : {A : Type 0} {x : A} → None ≡ Some x → ⊥
+none_some e = cc
+
+-- an activation without parent and variables is valid, and refers to nothing
+no_act_valid : (n : ℕ) → IsAct n no_act
+no_act_valid n = record { parent = λ p e. cc; vars = λ x v e. absurd (none_some (sym (finmap.get-empty (slice_cmp nat_cmp) x) ∙ e)) }
+
+no_act_refers : (m : Made) → ActRefers m no_act
+no_act_refers m x v e = absurd (none_some (sym (finmap.get-empty (slice_cmp nat_cmp) x) ∙ e))
+
+no_queue : IsQueue 0 []
+unfolding IsDistinct
+no_queue = record { entries = All-nil (IsEntry 0); differ = tt }
+
+module _ (s : Stores) (w : WinId) (u : Url) (docs : List Doc) (valid : IsStores s) (spelled : IsWellSpelled u) (docs_spelled : AllByRecursion IsWellSpelledDoc docs) (room : stores.has_load_room s docs ≡ true)
+    (wins : List Window) (opened : List WinId) where
+  abbrev page : PageId
+  page = windows.next_page s.windows
+
+  abbrev env : ActId
+  env = windows.next_act s.windows
+
+  abbrev new : Page
+  new = new_page u w (nodes.next_node s.nodes) env
+
+  abbrev pages : List Page
+  pages = s.windows.pages ++ new ∷ []
+
+  abbrev laid_docs : List Laid
+  laid_docs = map (laid env) docs
+
+  abbrev root : Node
+  root = record { shape = shape.Page page; handlers = []; children = numbers laid_docs (suc (length s.nodes)); parent = None }
+
+  abbrev rest : List Node
+  rest = lay_all laid_docs (suc (length s.nodes)) (Some (nth (length s.nodes)))
+
+  -- the stores with the page, and these windows
+  abbrev pub paged : Stores
+  paged =
+      let t = stores.with_page s w u docs in
+      record t { windows = record t.windows { windows = wins; opened = opened } }
+
+  pages_more : length pages ≡ length s.windows.pages + 1
+  pages_more = length-append s.windows.pages (new ∷ [])
+
+  nodes_more : length (s.nodes ++ root ∷ rest) ≡ length s.nodes + suc (length rest)
+  nodes_more = length-append s.nodes (root ∷ rest)
+
+  acts_more : length (s.windows.acts ++ no_act ∷ []) ≡ length s.windows.acts + 1
+  acts_more = length-append s.windows.acts (no_act ∷ [])
+
+  -- an old page is the page that it was
+  pub old_page : (p : PageId) → p.0 < length s.windows.pages → nth_page pages p ≡ nth_page s.windows.pages p
+  old_page p lt = get_or_append_left s.windows.pages (new ∷ []) no_page p.0 lt
+
+  next_is : nth_page pages page ≡ new
+  next_is = get_or_push s.windows.pages new no_page (length s.windows.pages) refl
+
+  laid_are : AreLaid env laid_docs MOST_DEPTH
+  laid_are = docs_laid env docs docs_spelled
+
+  root_alone : IsNode root
+  root_alone = record {
+    shape = tt;
+    handlers = All-nil IsHandler;
+    form = record { few_handlers = omega arith; no_handlers = λ e. refl; no_children = λ e. absurd (true≢false e); no_parent = λ h. refl };
+  }
+
+  grows_by : length s.windows.windows ≤ length wins → Grows (made s) (made paged)
+  grows_by le = record { wins = le; pages = omega (arith, pages_more); nodes = omega (arith, nodes_more); acts = omega (arith, acts_more) }
+
+  fresh : All (IsFresh (made paged)) rest
+  fresh = laid_are.fresh (made paged) (omega (arith, acts_more)) (suc (length s.nodes)) (Some (nth (length s.nodes)))
+
+  forest : AreForest (s.nodes ++ root ∷ rest) (length s.nodes) (length s.nodes + length (root ∷ rest)) None (nth (length s.nodes) ∷ []) (suc MOST_DEPTH)
+  forest =
+      subst (λ (n : ℕ). AreForest (s.nodes ++ root ∷ rest) (length s.nodes) (length s.nodes + n) None (nth (length s.nodes) ∷ []) (suc MOST_DEPTH))
+      (ap suc (sym (laid_are.sized (suc (length s.nodes)) (Some (nth (length s.nodes))))))
+      (laid_over env (shape.Page page) laid_docs MOST_DEPTH laid_are (s.nodes ++ root ∷ rest) (length s.nodes) None (at_end s.nodes (root ∷ rest)))
+
+  root_there : node_at (s.nodes ++ root ∷ rest) (nth (length s.nodes)) ≡ root
+  root_there =
+      let place : length s.nodes ≡ length s.nodes + 0 = omega arith in
+      ap (λ (n : ℕ). get_or (s.nodes ++ root ∷ rest) n no_node) place ∙ get_or-append-add s.nodes (root ∷ rest) 0 no_node
+
+  -- an old page or the new one
+  page_or : (P : PageId → Type 0) → ((p : PageId) → p.0 < length s.windows.pages → P p) → P page → (p : PageId) → p.0 < length pages → P p
+  page_or P old here p lt =
+      ⊎_elim (λ l. old p l) (λ l. let e : p.0 ≡ length s.windows.pages = omega (arith, l, lt, pages_more) in subst P (ap (λ (n : ℕ). let q : PageId = record { 0 = n } in q) (sym e)) here) (cases_lt p.0 (length s.windows.pages))
+
+  rooted_root : (p : PageId) → p.0 < length pages → (node_at (s.nodes ++ root ∷ rest) (nth_page pages p).root).shape ≡ shape.Page p
+  rooted_root = page_or (λ p. (node_at (s.nodes ++ root ∷ rest) (nth_page pages p).root).shape ≡ shape.Page p)
+      (λ p lt.
+          let is : PageRefers (made s) (nth_page s.windows.pages p) = valid.refer.pages p.0 no_page lt in
+          ap (λ (x : Page). (node_at (s.nodes ++ root ∷ rest) x.root).shape) (old_page p lt)
+          ∙ ap (λ (node : Node). node.shape) (old_root s.nodes (root ∷ rest) (nth_page s.windows.pages p).root is.root) ∙ valid.rooted.root p lt)
+      (ap (λ (x : Page). (node_at (s.nodes ++ root ∷ rest) x.root).shape) next_is ∙ ap (λ (node : Node). node.shape) root_there)
+
+  fresh_page : (j : ℕ) → page_of (get_or rest j no_node).shape ≡ None
+  fresh_page j = at_any (λ (node : Node). page_of node.shape ≡ None) rest j no_node (All-weaker (IsFresh (made paged)) (λ (node : Node). page_of node.shape ≡ None) (λ node h. h.page) rest fresh) refl
+
+  -- the root of a page among the new nodes is the first of them
+  new_only : (k : ℕ) (n : NodeId) (p : PageId) → n.0 ≡ length s.nodes + k → (get_or (root ∷ rest) k no_node).shape ≡ shape.Page p → (nth_page pages p).root ≡ n
+  new_only zero n p place e =
+      let same : page ≡ p = cc in
+      let here : n.0 ≡ length s.nodes = omega (arith, place) in
+      ap (λ (q : PageId). (nth_page pages q).root) (sym same) ∙ ap (λ (x : Page). x.root) next_is ∙ ap nth (sym here)
+  new_only (suc j) n p place e = absurd (no_page_shape (get_or rest j no_node).shape p (fresh_page j) e)
+
+  rooted_only : (n : NodeId) (p : PageId) → (node_at (s.nodes ++ root ∷ rest) n).shape ≡ shape.Page p → (nth_page pages p).root ≡ n
+  rooted_only n p e = ⊎_elim old_only beyond (cases_lt n.0 (length s.nodes)) where
+    old_only : n.0 < length s.nodes → (nth_page pages p).root ≡ n
+    old_only lt =
+        let is : (node_at s.nodes n).shape ≡ shape.Page p = sym (ap (λ (node : Node). node.shape) (old_root s.nodes (root ∷ rest) n lt)) ∙ e in
+        let there : p.0 < length s.windows.pages = subst (ShapeRefers (made s)) is (valid.refer.nodes n.0 no_node lt).shape in
+        ap (λ (x : Page). x.root) (old_page p there) ∙ valid.rooted.only n p is
+
+    beyond : length s.nodes ≤ n.0 → (nth_page pages p).root ≡ n
+    beyond le =
+        let place : n.0 ≡ length s.nodes + (n.0 - length s.nodes) = omega (arith, le) in
+        let is : node_at (s.nodes ++ root ∷ rest) n ≡ get_or (root ∷ rest) (n.0 - length s.nodes) no_node =
+            ap (λ (k : ℕ). get_or (s.nodes ++ root ∷ rest) k no_node) place ∙ get_or-append-add s.nodes (root ∷ rest) (n.0 - length s.nodes) no_node in
+        new_only (n.0 - length s.nodes) n p place (sym (ap (λ (node : Node). node.shape) is) ∙ e)
+
+  -- a page more keeps stores valid, where the windows that show pages then are valid
+  pub page_made : w.0 < length wins → length s.windows.windows ≤ length wins → All (IsWindow (length wins) (length pages)) wins → AreOpen (length wins) opened → AreOwn wins pages → Keeps s paged
+  page_made there le are opened_are own =
+      let grows = grows_by le in
+      let refer = growing.stores_refer_grow (made s) (made paged) grows s valid.refer in
+      let rooms = and_parts _ _ room in
+      let page_room = and_parts _ _ rooms.0 in
+      let few_pages : length s.windows.pages < MOST_PAGES = ltb-true (length s.windows.pages) MOST_PAGES page_room.0 in
+      let few_acts : length s.windows.acts < MOST_ACTS = ltb-true (length s.windows.acts) MOST_ACTS page_room.1 in
+      let fits : length s.nodes + suc (size_of laid_docs) ≤ MOST_NODES = leb-true (length s.nodes + suc (size_of laid_docs)) MOST_NODES rooms.1 in
+      let sized = laid_are.sized (suc (length s.nodes)) (Some (nth (length s.nodes))) in
+      let more = more_started s.nodes (root ∷ rest) in
+      let root_refers : NodeRefers (made paged) root = record { shape = omega (arith, pages_more); handlers = All-nil (CodeRefers (made paged)) } in
+      record {
+        stores = record {
+          nodes = record {
+            each = All-append IsNode s.nodes (root ∷ rest) valid.nodes.each (All-cons IsNode root rest root_alone (All-weaker (IsFresh (made paged)) IsNode (λ node h. h.alone) rest fresh));
+            trees = planted_trees s.nodes (root ∷ rest) valid.nodes.trees (suc MOST_DEPTH) (omega arith) forest;
+            few = omega (arith, nodes_more, sized, fits);
+          };
+          windows = record {
+            windows = are;
+            opened = opened_are;
+            pages = record {
+              each = subst (λ (n : ℕ). All (IsPage n) pages) (sym acts_more) (All-push (IsPage (length s.windows.acts + 1)) s.windows.pages new
+                  (All-weaker (IsPage (length s.windows.acts)) (IsPage (length s.windows.acts + 1)) (growing.page_grows (length s.windows.acts) (length s.windows.acts + 1) (omega arith)) s.windows.pages valid.windows.pages.each)
+                  (record { url = spelled; act = omega arith; queue = no_queue; few_slots = omega arith }));
+              few = omega (arith, pages_more, few_pages);
+              few_entries = omega (arith, sum_by_push (λ (x : Page). length x.queue) s.windows.pages new, valid.windows.pages.few_entries);
+            };
+            own = own;
+            acts = record {
+              each = λ a. at_pushed IsAct s.windows.acts a.0 no_act no_act (no_act_valid (length s.windows.acts)) (valid.windows.acts.each a);
+              few = omega (arith, acts_more, few_acts);
+              few_vars = omega (arith, sum_by_push (λ (act : Activation). finmap.len act.vars) s.windows.acts no_act, finmap.len-empty (slice_cmp nat_cmp) Val, valid.windows.acts.few_vars);
+            };
+          };
+          jar = valid.jar;
+          requests = valid.requests;
+          refer = record {
+            nodes = All-append (NodeRefers (made paged)) s.nodes (root ∷ rest) refer.nodes (All-cons (NodeRefers (made paged)) root rest root_refers (All-weaker (IsFresh (made paged)) (NodeRefers (made paged)) (λ node h. h.refers) rest fresh));
+            pages = All-push (PageRefers (made paged)) s.windows.pages new refer.pages (record { win = there; root = omega (arith, nodes_more) });
+            acts = λ a. at_pushed (λ j act. ActRefers (made paged) act) s.windows.acts a.0 no_act no_act (no_act_refers (made paged)) (refer.acts a);
+            requests = refer.requests;
+            touched = refer.touched;
+          };
+          rooted = record { root = rooted_root; only = rooted_only };
+          queued = record {
+            entries = omega (arith, sum_by_push (λ (x : Page). length x.queue) s.windows.pages new, more, valid.queued.entries);
+            slots = omega (arith, sum_by_push (λ (x : Page). x.next) s.windows.pages new, more, valid.queued.slots);
+          };
+          light = valid.light;
+        };
+        grows = grows;
+      }
