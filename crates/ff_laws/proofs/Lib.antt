@@ -31,3 +31,4 @@ pub mod LaidDocs
 pub mod Planted
 pub mod Making
 pub mod Paging
+pub mod Loading

@@ -99,7 +99,8 @@ module _ (s : Stores) (w : WinId) (u : Url) (docs : List Doc) (valid : IsStores 
   pub old_page : (p : PageId) → p.0 < length s.windows.pages → nth_page pages p ≡ nth_page s.windows.pages p
   old_page p lt = get_or_append_left s.windows.pages (new ∷ []) no_page p.0 lt
 
-  next_is : nth_page pages page ≡ new
+  -- the new page has the next number
+  pub next_is : nth_page pages page ≡ new
   next_is = get_or_push s.windows.pages new no_page (length s.windows.pages) refl
 
   laid_are : AreLaid env laid_docs MOST_DEPTH
