@@ -32,3 +32,5 @@ pub mod Planted
 pub mod Making
 pub mod Paging
 pub mod Loading
+pub mod Rooted
+pub mod Joining

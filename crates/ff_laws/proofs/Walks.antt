@@ -20,7 +20,8 @@ abbrev each : NodeId → (NodeId → List NodeId) → List NodeId → ℕ
 each m f [] = 0
 each m f (c ∷ cs) = times m (f c) + each m f cs
 
-times_append : (m : NodeId) (xs ys : List NodeId) → times m (xs ++ ys) ≡ times m xs + times m ys
+-- how often a node stands in two lists
+pub times_append : (m : NodeId) (xs ys : List NodeId) → times m (xs ++ ys) ≡ times m xs + times m ys
 times_append m [] ys = omega arith
 times_append m (x ∷ xs) ys = let rest = times_append m xs ys in omega (arith, rest)
 
@@ -73,7 +74,8 @@ module _ (all : List Node) (trees : AreTrees all) where
   some_inj : (p q : NodeId) → Some p ≡ Some q → p ≡ q
   some_inj p q e = cc
 
-  no_child : (n m : NodeId) (cs : List NodeId) → All (λ c. parent all c ≡ Some n) cs → (parent all m ≡ Some n → ⊥) → times m cs ≡ 0
+  -- a node of another parent is no child
+  pub no_child : (n m : NodeId) (cs : List NodeId) → All (λ c. parent all c ≡ Some n) cs → (parent all m ≡ Some n → ⊥) → times m cs ≡ 0
   no_child n m [] h other = refl
   no_child n m (c ∷ cs) h other = by (c.0 == m.0) refl (no_child n m cs (All-tail (λ c. parent all c ≡ Some n) c cs h) other) where
     by : (b : Bool) → (c.0 == m.0) ≡ b → times m cs ≡ 0 → if_so b + times m cs ≡ 0
@@ -107,7 +109,8 @@ module _ (all : List Node) (trees : AreTrees all) where
   split_each k m None (c ∷ cs) h = let one = h c in let rest = split_each k m None cs h in omega (arith, one, rest)
   split_each k m (Some p) (c ∷ cs) h = let one = h c in let rest = split_each k m (Some p) cs h in omega (arith, one, rest)
 
-  last_step : (k : ℕ) (n m : NodeId) → times m (walk_within (suc k) all n) ≡ if_so (n.0 == m.0) + up k n (parent all m)
+  -- how often a node stands in a walk, by its last step
+  pub last_step : (k : ℕ) (n m : NodeId) → times m (walk_within (suc k) all n) ≡ if_so (n.0 == m.0) + up k n (parent all m)
   last_step zero n m =
       let below = times_each m (walk_within zero all) (children all n) in
       omega (arith, below, none_each m (children all n), zero_up n (parent all m))
