@@ -34,3 +34,4 @@ pub mod Paging
 pub mod Loading
 pub mod Rooted
 pub mod Joining
+pub mod Inserting

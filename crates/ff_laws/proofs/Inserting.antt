@@ -1,0 +1,164 @@
+-- A tree that is put under a node, and whose scripts start, keeps stores valid.
+use Rattle.std.proofs.Common.{◌≡◌, ◌≢◌, ℕ, zero, suc, ◌+◌, ◌<◌, ◌≤◌, Bool, true, false, cond, not, ◌==◌, ℤ, Option, Some, None, IsSome, is_some, is_none, List, [], ◌∷◌, length, get_or, insert, All, refl, sym, ap, subst, ◌∙◌, arith, length-set}
+use Rattle.std.proofs.lemmas.Bool.{true≢false, false≢true, eqb-false, ltb-false}
+use Rattle.std.proofs.lemmas.List.Elements.{All-set}
+use Rattle.std.proofs.lemmas.List.Sums.{sum_by-set}
+use Rattle.std.specs.Prelude.{nat_lt}
+use Rattle.ff_value.specs.declared.fault.Fault.{Fault}
+use Rattle.ff_value.specs.declared.fault.Fault.TheVariants as fault
+use Rattle.ff_value.specs.declared.ids.NodeId.{NodeId}
+use Rattle.ff_value.specs.declared.ids.PageId.{PageId}
+use Rattle.ff_machine.specs.declared.limits.TheConstants.{MOST_TREE_DEPTH}
+use Rattle.ff_machine.specs.Shapes.{page_of, is_started, may_have_children}
+use Rattle.ff_machine.specs.Nodes as nodes
+use Rattle.ff_machine.specs.Nodes.{Node, no_node, node_at, children, parent, set_node, depth, height, root, insert_fault, joined, place_of, page_root_of}
+use Rattle.ff_machine.specs.Windows.{is_live}
+use Rattle.ff_machine.specs.Stores as stores
+use Rattle.ff_machine.specs.Stores.{Stores}
+use Rattle.ff_machine.specs.Alone.{IsNode}
+use Rattle.ff_machine.specs.References.{Made, Grows, made, NodeRefers}
+use Rattle.ff_machine.specs.Valid.{IsStores, count_started}
+use Rattle.ff_laws.specs.Keeps.{Keeps}
+use Rattle.ff_laws.proofs.Growing as growing
+use Rattle.ff_laws.proofs.Lists.{at_set}
+use Rattle.ff_laws.proofs.Sums.{if_so}
+use Rattle.ff_laws.proofs.Simple.{touched_changed, touched_at_refers, root_page_lives}
+use Rattle.ff_laws.proofs.NodeChanges.{rooted_same}
+use Rattle.ff_laws.proofs.Starting.{kept, kept_twice, one_keeps, start_valid}
+use Rattle.ff_laws.proofs.Joining.{MayJoin, joined_trees}
+
+-- what is known where nothing keeps a child from its parent
+pub record Fits (all : List Node) (p c : NodeId) : Type 0 where
+  pub kind : may_have_children (node_at all p).shape ≡ true
+  pub no_root : page_of (node_at all c).shape ≡ None
+  pub may : MayJoin all p c
+
+not_so : (b : Bool) (f : Fault) (o : Option Fault) → cond b (Some f) o ≡ None → (b ≡ false) × (o ≡ None)
+not_so true f o e = cc
+not_so false f o e = (refl, e)
+
+is_so : (b : Bool) → not b ≡ false → b ≡ true
+is_so true e = refl
+is_so false e = cc
+
+is_nothing : {X : Type 0} (o : Option X) → is_some o ≡ false → o ≡ None
+is_nothing None e = refl
+is_nothing (Some x) e = cc
+
+fits_of : (all : List Node) (p c : NodeId) (at : ℤ) → p.0 < length all → c.0 < length all → insert_fault all p c at ≡ None → Fits all p c
+unfolding insert_fault
+fits_of all p c at p_lives c_lives e =
+    let first = not_so (not (may_have_children (node_at all p).shape)) fault.Kind _ e in
+    let second = not_so (is_some (page_of (node_at all c).shape)) fault.Kind _ first.1 in
+    let third = not_so (is_some (parent all c)) fault.Range _ second.1 in
+    let fourth = not_so ((root all p).0 == c.0) fault.Range _ third.1 in
+    let fifth = not_so (is_none (place_of at (length (children all p)))) fault.Range _ fourth.1 in
+    let sixth = not_so (nat_lt MOST_TREE_DEPTH (suc (depth all p + height all c))) fault.Limit _ fifth.1 in
+    record {
+      kind = is_so (may_have_children (node_at all p).shape) first.0;
+      no_root = is_nothing (page_of (node_at all c).shape) second.0;
+      may = record {
+        parent_lives = p_lives;
+        child_lives = c_lives;
+        free = is_nothing (parent all c) third.0;
+        apart = λ h. eqb-false (root all p).0 c.0 fourth.0 (ap (λ (n : NodeId). n.0) h);
+        low = ltb-false MOST_TREE_DEPTH (suc (depth all p + height all c)) sixth.0;
+      };
+    }
+
+no_some : {P : Type 0} (o : Option PageId) → o ≡ None → IsSome o → P
+no_some None e h = absurd (false≢true h)
+no_some (Some p) e h = cc
+
+module _ (s : Stores) (p c : NodeId) (at : ℕ) (valid : IsStores s) (fits : Fits s.nodes p c) where
+  abbrev child : Node
+  child = record (node_at s.nodes c) { parent = Some p }
+
+  abbrev over : Node
+  over = record (node_at s.nodes p) { children = insert (children s.nodes p) at c }
+
+  abbrev mid : List Node
+  mid = set_node s.nodes c child
+
+  abbrev new : List Node
+  new = set_node mid p over
+
+  child_alone : IsNode child
+  child_alone =
+      let was : IsNode (node_at s.nodes c) = valid.nodes.each c.0 no_node fits.may.child_lives in
+      record {
+        shape = was.shape;
+        handlers = was.handlers;
+        form = record { few_handlers = was.form.few_handlers; no_handlers = was.form.no_handlers; no_children = was.form.no_children; no_parent = no_some (page_of (node_at s.nodes c).shape) fits.no_root };
+      }
+
+  over_alone : IsNode over
+  over_alone =
+      let was : IsNode (node_at s.nodes p) = valid.nodes.each p.0 no_node fits.may.parent_lives in
+      record {
+        shape = was.shape;
+        handlers = was.handlers;
+        form = record { few_handlers = was.form.few_handlers; no_handlers = was.form.no_handlers; no_children = λ e. absurd (true≢false (sym fits.kind ∙ e)); no_parent = was.form.no_parent };
+      }
+
+  refers_still : (m : Made) (node : Node) (kids : List NodeId) (up : Option NodeId) → NodeRefers m node → NodeRefers m (record node { children = kids; parent = up })
+  refers_still m node kids up h = record { shape = h.shape; handlers = h.handlers }
+
+  -- the child stands under the parent
+  pub joined_valid : Keeps s (record s { nodes = new })
+  joined_valid =
+      let t : Stores = record s { nodes = new } in
+      let first : length mid ≡ length s.nodes = length-set s.nodes c.0 child in
+      let size : length new ≡ length mid = length-set mid p.0 over in
+      let grows : Grows (made s) (made t) = record { wins = omega arith; pages = omega arith; nodes = omega (arith, first, size); acts = omega arith } in
+      let refer = growing.stores_refer_grow (made s) (made t) grows s valid.refer in
+      let c_refers : NodeRefers (made t) (node_at s.nodes c) = refer.nodes c.0 no_node fits.may.child_lives in
+      let p_refers : NodeRefers (made t) (node_at s.nodes p) = refer.nodes p.0 no_node fits.may.parent_lives in
+      let one = sum_by-set (λ (x : Node). if_so (is_started x.shape)) s.nodes c.0 child no_node fits.may.child_lives in
+      let two = sum_by-set (λ (x : Node). if_so (is_started x.shape)) mid p.0 over no_node (omega (arith, first, fits.may.parent_lives)) in
+      let same : if_so (is_started (get_or mid p.0 no_node).shape) ≡ if_so (is_started (get_or s.nodes p.0 no_node).shape) =
+          at_set (λ j (x : Node). if_so (is_started x.shape) ≡ if_so (is_started (get_or s.nodes j no_node).shape)) s.nodes c.0 p.0 child no_node refl refl in
+      record {
+        stores = record {
+          nodes = record {
+            each = All-set IsNode mid p.0 over over_alone (All-set IsNode s.nodes c.0 child child_alone valid.nodes.each);
+            trees = joined_trees s.nodes p c at valid.nodes.trees fits.may;
+            few = omega (arith, first, size, valid.nodes.few);
+          };
+          windows = valid.windows;
+          jar = valid.jar;
+          requests = valid.requests;
+          refer = record {
+            nodes = All-set (NodeRefers (made t)) mid p.0 over (record { shape = p_refers.shape; handlers = p_refers.handlers })
+                (All-set (NodeRefers (made t)) s.nodes c.0 child (record { shape = c_refers.shape; handlers = c_refers.handlers }) refer.nodes);
+            pages = refer.pages;
+            acts = refer.acts;
+            requests = refer.requests;
+            touched = refer.touched;
+          };
+          rooted = rooted_same s.nodes new s.windows.pages
+              (λ n. at_set (λ j (x : Node). page_of x.shape ≡ page_of (get_or s.nodes j no_node).shape) mid p.0 n.0 over no_node refl
+                  (at_set (λ j (x : Node). page_of x.shape ≡ page_of (get_or s.nodes j no_node).shape) s.nodes c.0 n.0 child no_node refl refl)) valid.rooted;
+          queued = record { entries = omega (arith, one, two, same, valid.queued.entries); slots = omega (arith, one, two, same, valid.queued.slots) };
+          light = valid.light;
+        };
+        grows = grows;
+      }
+
+started_in : (s t : Stores) (p c : NodeId) (page : Option PageId) → IsStores s → Keeps s t → page_root_of s.nodes p ≡ page → Keeps t (stores.start_in page c t).after
+started_in s t p c None valid keeps e = kept t keeps.stores
+started_in s t p c (Some page) valid keeps e =
+    let lives = root_page_lives (made s) s.nodes p page valid.refer.nodes e in
+    one_keeps t (is_live t.windows page) (stores.start page c t) (stores.nothing t) (λ live. start_valid page c t keeps.stores (omega (arith, lives, keeps.grows.pages))) (kept t keeps.stores)
+
+-- a child that is inserted without a fault keeps stores valid
+pub inserted_valid : (s : Stores) (p c : NodeId) (at : ℤ) (place : ℕ) → IsStores s → p.0 < length s.nodes → c.0 < length s.nodes → insert_fault s.nodes p c at ≡ None → Keeps s (stores.insert s p c place).after
+unfolding joined
+inserted_valid s p c at place valid p_lives c_lives no_fault =
+    let fits = fits_of s.nodes p c at p_lives c_lives no_fault in
+    let u : Stores = record s { nodes = joined s.nodes p c place } in
+    let t : Stores = record u { touched = stores.touched_at s p } in
+    let first = joined_valid s p c place valid fits in
+    let touched = touched_changed u (stores.touched_at s p) first.stores (touched_at_refers s p valid) in
+    let both = kept_twice s u t first touched in
+    kept_twice s t (stores.insert s p c place).after both (started_in s t p c (page_root_of s.nodes p) valid both refl)
