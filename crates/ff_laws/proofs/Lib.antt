@@ -35,3 +35,4 @@ pub mod Loading
 pub mod Rooted
 pub mod Joining
 pub mod Inserting
+pub mod Reducing

@@ -28,17 +28,12 @@ use Rattle.ff_machine.specs.Stores.{Stores}
 use Rattle.ff_machine.specs.Alone.{IsWindow, AreOpen, AreOwn}
 use Rattle.ff_machine.specs.References.{made}
 use Rattle.ff_machine.specs.Valid.{IsStores}
-use Rattle.ff_laws.specs.Keeps.{Keeps}
+use Rattle.ff_laws.specs.Keeps.{Keeps, KeepsIfMade}
 use Rattle.ff_laws.proofs.Growing.{window_grows}
 use Rattle.ff_laws.proofs.Lists.{at_set, at_pushed}
 use Rattle.ff_laws.proofs.Asking.{sent_valid}
 use Rattle.ff_laws.proofs.Starting.{kept, kept_twice, start_valid}
 use Rattle.ff_laws.proofs.Paging.{page_made, old_page, next_is}
-
--- a step that is made, if it is, keeps the stores
-abbrev pub KeepsIfMade : Stores → Option (Stepped Out Stores) → Type 0
-KeepsIfMade s None = ⊤
-KeepsIfMade s (Some step) = Keeps s step.after
 
 -- a step that is made where there is room
 pub if_room : (s : Stores) (b : Bool) (step : Stepped Out Stores) → (b ≡ true → Keeps s step.after) → KeepsIfMade s (cond b (Some step) None)

@@ -1,11 +1,32 @@
 //! Laws of the written machine: what its definitions keep, proved once for all crates that cite
 //! them.
 //!
-//! The crate has no function that computes. Each function below has a law for its contract.
+//! The crate has no function that computes: each function has a law for its contract, and the
+//! lemmas that bodies above cite stand in `proofs/`.
+//!
+//! - `specs/Later`: how later stores stand to earlier ones. What was made keeps its number, a page
+//!   its address, window, root and activation; a closed window stays closed, a page that isn't live
+//!   stays so; the mass doesn't fall. All that inputs and turns do leaves later stores, whether the
+//!   stores are valid or not.
+//! - `specs/Keeps`, `specs/Reduced`: a change keeps stores, if the new ones are valid and no fewer
+//!   things were made in them; and what operators, redexes and reductions leave.
+//! - `proofs/Growing`: what is valid by counts of what was made is valid by greater ones, one lemma
+//!   for each type that refers to something.
+//! - Each change of stores has a lemma named `.._valid`: it takes valid stores, what is given as
+//!   valid, and that there is no fault, and says that the stores are kept (`Acts`, `Calling`,
+//!   `Asking`, `Answering`, `Cookies`, `Simple`, `NodeChanges`, `Texts`, `Queues`, `Slots`,
+//!   `Starting`, `Making`, `Loading`, `Inserting`).
+//! - Trees: a walk comes to a node once at most (`Walks`); documents are laid as trees (`Forests`,
+//!   `Laid`, `LaidDocs`, `Planted`); a tree put under a node leaves trees (`Rooted`, `Joining`).
 #![tactic(auto)]
 
+mod keeping;
 mod law;
 
+pub use keeping::{
+    a_reduction_keeps_stores_valid, counts_only_grow, nodes_keep_stores_valid,
+    requests_and_cookies_keep_stores_valid, variables_keep_stores_valid, windows_keep_stores_valid,
+};
 pub use law::{
     a_page_that_is_not_live_never_runs, an_input_ends_at_rest, nothing_that_has_gone_comes_back,
     tags_change_nothing, what_was_made_stays,
