@@ -1,18 +1,15 @@
 -- A request that was answered is taken out, which keeps stores valid.
-use Rattle.std.proofs.Common.{◌≡◌, ℕ, suc, ◌+◌, ◌<◌, ◌≤◌, Bool, true, false, cond, Option, Some, None, List, [], ◌∷◌, ◌++◌, length, take, drop, remove, slice_get, map, sum_by, All, refl, sym, ap, subst, ◌∙◌, arith, unwrap_or, length-append, length-take, length-drop}
+use Rattle.std.proofs.Common.{◌≡◌, ℕ, suc, ◌≤◌, Bool, true, false, cond, Option, Some, None, List, [], ◌∷◌, length, take, drop, remove, sum_by, All, refl, sym, ap, subst, ◌∙◌, arith, unwrap_or, length-append, length-take, length-drop}
 use Rattle.std.proofs.lemmas.List.Elements.{All-append, All-take, All-drop, All-nil}
 use Rattle.std.specs.Ordering.{nat_cmp, eq_by_cmp}
 use Rattle.std.specs.Cmp.Lexicographic.{slice_cmp, nat_list_cmp_total}
 use Rattle.std.specs.FinMap as finmap
 use Rattle.std.specs.FinMap.Entries.{where_key}
-use Rattle.ff_name.specs.Spelling.{IsDomain}
 use Rattle.ff_machine.specs.declared.records.Pending.{Pending}
-use Rattle.ff_machine.specs.declared.limits.TheConstants.{MOST_ASKS, MOST_ASKS_OF_DOMAIN}
 use Rattle.ff_machine.specs.Net.{Requests, asked, count_asks, with_asked, answered}
-use Rattle.ff_machine.specs.Stores as stores
 use Rattle.ff_machine.specs.Stores.{Stores}
 use Rattle.ff_machine.specs.Alone.{IsPending, AreAsked, AreRequests}
-use Rattle.ff_machine.specs.References.{Made, made, DstRefers, RequestsRefer}
+use Rattle.ff_machine.specs.References.{made}
 use Rattle.ff_machine.specs.Valid.{IsStores}
 use Rattle.ff_laws.specs.Keeps.{Keeps}
 use Rattle.ff_laws.proofs.Sums.{sum_values, sum_where}
@@ -37,8 +34,8 @@ left_valid requests domain k (Some qs) p ps are e h =
       each = subst (All IsPending) h (All-removed IsPending qs k old.each);
       few = omega (arith, old.few, removed_size qs k, ap (λ (xs : List Pending). length xs) h);
     } where
-  not_empty : p ∷ ps ≡ [] → ⊥
-  not_empty e = cc
+      not_empty : p ∷ ps ≡ [] → ⊥
+      not_empty e = cc
 
 kept_get : (b : Bool) (o : Option (List Pending)) (ps : List Pending) → cond b None o ≡ Some ps → o ≡ Some ps
 kept_get true o ps e = cc
@@ -50,8 +47,8 @@ none_valid requests domain are =
     let exact = finmap.slice_cmp-IsAntisymmetric finmap.nat_cmp-IsAntisymmetric in
     let left = where_key (slice_cmp nat_cmp) (others nat_list_cmp_total exact requests domain) (finmap.entries requests) in
     let now : count_asks (finmap.remove requests domain) ≡ sum_by (λ (e : List ℕ × List Pending). length e.1) left =
-        sum_values length (finmap.entries (finmap.remove requests domain))
-        ∙ ap (λ (es : List (List ℕ × List Pending)). sum_by (λ (e : List ℕ × List Pending). length e.1) es) (entries-removed nat_list_cmp_total exact requests domain) in
+    sum_values length (finmap.entries (finmap.remove requests domain))
+    ∙ ap (λ (es : List (List ℕ × List Pending)). sum_by (λ (e : List ℕ × List Pending). length e.1) es) (entries-removed nat_list_cmp_total exact requests domain) in
     let before : count_asks requests ≡ sum_by (λ (e : List ℕ × List Pending). length e.1) (finmap.entries requests) = sum_values length (finmap.entries requests) in
     record {
       each = λ q ps e. are.each q ps (kept_get (eq_by_cmp (slice_cmp nat_cmp) q domain) (finmap.get requests q) ps (sym (finmap.get-remove nat_list_cmp_total requests domain q) ∙ e));
@@ -61,9 +58,9 @@ none_valid requests domain are =
 none_asked : (P : List Pending → Type 0) (requests : Requests) (domain q : List ℕ) → P [] → P (asked requests q) → P (asked (finmap.remove requests domain) q)
 none_asked P requests domain q none old =
     subst P (sym (ap (λ (o : Option (List Pending)). unwrap_or o []) (finmap.get-remove nat_list_cmp_total requests domain q))) (by (eq_by_cmp (slice_cmp nat_cmp) q domain)) where
-  by : (b : Bool) → P (unwrap_or (cond b None (finmap.get requests q)) [])
-  by true = none
-  by false = old
+      by : (b : Bool) → P (unwrap_or (cond b None (finmap.get requests q)) [])
+      by true = none
+      by false = old
 
 module _ (s : Stores) (domain : List ℕ) (k : ℕ) (valid : IsStores s) where
   left_refer : All (PendingRefers (made s)) (remove (asked s.requests domain) k)
@@ -76,7 +73,7 @@ module _ (s : Stores) (domain : List ℕ) (k : ℕ) (valid : IsStores s) where
   answered_by (p ∷ ps) h =
       requests_changed s (finmap.insert s.requests domain (p ∷ ps)) valid
       (set_valid s.requests domain (p ∷ ps) valid.requests (left_valid s.requests domain k (finmap.get s.requests domain) p ps valid.requests refl h)
-          (omega (arith, valid.requests.few, removed_size (asked s.requests domain) k, ap (λ (xs : List Pending). length xs) h)))
+      (omega (arith, valid.requests.few, removed_size (asked s.requests domain) k, ap (λ (xs : List Pending). length xs) h)))
       (λ q. asked_set s.requests domain (p ∷ ps) (All (PendingRefers (made s))) q (subst (All (PendingRefers (made s))) h left_refer) (valid.refer.requests q))
 
   -- a request that is taken out keeps stores valid

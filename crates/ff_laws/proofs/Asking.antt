@@ -1,6 +1,6 @@
 -- A request more, and one that was answered, keep stores valid.
-use Rattle.std.proofs.Common.{◌≡◌, ◌≢◌, ℕ, ◌+◌, ◌<◌, ◌≤◌, Bool, true, false, cond, not, ltb-true, Option, Some, None, List, [], ◌∷◌, ◌++◌, length, map, sum_by, All, refl, sym, ap, subst, ◌∙◌, arith, unwrap_or, length-append}
-use Rattle.std.proofs.lemmas.Bool.{false≢true, and_parts}
+use Rattle.std.proofs.Common.{◌≡◌, ◌≢◌, ℕ, ◌+◌, ◌<◌, ◌≤◌, Bool, true, false, cond, ltb-true, Option, Some, None, List, [], ◌∷◌, ◌++◌, length, sum_by, All, refl, sym, ap, subst, ◌∙◌, arith, unwrap_or, length-append}
+use Rattle.std.proofs.lemmas.Bool.{and_parts}
 use Rattle.std.proofs.lemmas.List.Elements.{All-push, All-nil}
 use Rattle.std.specs.Ordering.{nat_cmp, eq_by_cmp}
 use Rattle.std.specs.Cmp.Lexicographic.{slice_cmp, nat_list_cmp_total}
@@ -10,7 +10,7 @@ use Rattle.ff_name.specs.Address.{IsRequest}
 use Rattle.ff_machine.specs.declared.records.Dst.{Dst}
 use Rattle.ff_machine.specs.declared.records.Pending.{Pending}
 use Rattle.ff_machine.specs.declared.limits.TheConstants.{MOST_ASKS, MOST_ASKS_OF_DOMAIN}
-use Rattle.ff_machine.specs.Net.{Requests, asked, count_asks, has_ask_room, with_ask}
+use Rattle.ff_machine.specs.Net.{Requests, asked, count_asks, with_ask}
 use Rattle.ff_machine.specs.Stores as stores
 use Rattle.ff_machine.specs.Stores.{Stores}
 use Rattle.ff_machine.specs.Alone.{IsDst, IsPending, AreAsked, AreRequests}
@@ -58,28 +58,28 @@ module _ (requests : Requests) (domain : List ℕ) (all : List Pending) where
   pub asked_set : (P : List Pending → Type 0) (q : List ℕ) → P all → P (asked requests q) → P (asked after q)
   asked_set P q new old =
       subst P (sym (ap (λ (o : Option (List Pending)). unwrap_or o []) (finmap.get-insert nat_list_cmp_total requests domain all q))) (by (eq_by_cmp (slice_cmp nat_cmp) q domain)) where
-    by : (b : Bool) → P (unwrap_or (cond b (Some all) (finmap.get requests q)) [])
-    by true = new
-    by false = old
+        by : (b : Bool) → P (unwrap_or (cond b (Some all) (finmap.get requests q)) [])
+        by true = new
+        by false = old
 
   found : (q : List ℕ) (ps : List Pending) → ((q ≡ domain) → AreAsked domain all) → (finmap.get requests q ≡ Some ps → AreAsked q ps) → finmap.get after q ≡ Some ps → AreAsked q ps
   found q ps new old e =
       by (eq_by_cmp (slice_cmp nat_cmp) q domain) (same_name q domain) (sym (finmap.get-insert nat_list_cmp_total requests domain all q) ∙ e) where
-    same : (q ≡ domain) → Some all ≡ Some ps → AreAsked q ps
-    same here e = let one : all ≡ ps = cc in subst (AreAsked q) one (subst (λ (d : List ℕ). AreAsked d all) (sym here) (new here))
+        same : (q ≡ domain) → Some all ≡ Some ps → AreAsked q ps
+        same here e = let one : all ≡ ps = cc in subst (AreAsked q) one (subst (λ (d : List ℕ). AreAsked d all) (sym here) (new here))
 
-    by : (b : Bool) → (b ≡ true → q ≡ domain) → cond b (Some all) (finmap.get requests q) ≡ Some ps → AreAsked q ps
-    by true here e = same (here refl) e
-    by false here e = old e
+        by : (b : Bool) → (b ≡ true → q ≡ domain) → cond b (Some all) (finmap.get requests q) ≡ Some ps → AreAsked q ps
+        by true here e = same (here refl) e
+        by false here e = old e
 
   count_after : count_asks after + length (asked requests domain) ≡ count_asks requests + length all
   count_after =
       let now : count_asks after ≡ sum_by (λ (e : List ℕ × List Pending). length e.1) (finmap.put (slice_cmp nat_cmp) domain all (finmap.entries requests)) =
-          sum_values length (finmap.entries after)
-          ∙ ap (λ (es : List (List ℕ × List Pending)). sum_by (λ (e : List ℕ × List Pending). length e.1) es) (finmap.entries-insert nat_list_cmp_total requests domain all) in
+      sum_values length (finmap.entries after)
+      ∙ ap (λ (es : List (List ℕ × List Pending)). sum_by (λ (e : List ℕ × List Pending). length e.1) es) (finmap.entries-insert nat_list_cmp_total requests domain all) in
       let before : count_asks requests ≡ sum_by (λ (e : List ℕ × List Pending). length e.1) (finmap.entries requests) = sum_values length (finmap.entries requests) in
       let old : length (asked requests domain) ≡ value_or length (finmap.find (slice_cmp nat_cmp) domain (finmap.entries requests)) =
-          length_or (finmap.get requests domain) ∙ ap (value_or length) (finmap.get-entries requests domain) in
+      length_or (finmap.get requests domain) ∙ ap (value_or length) (finmap.get-entries requests domain) in
       let put = sum_put nat_list_cmp_total length domain all (finmap.entries requests) (finmap.entries_sorted requests) in
       omega (arith, now, before, old, put)
 

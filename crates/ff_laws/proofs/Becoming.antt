@@ -1,6 +1,5 @@
 -- What becomes of a valid redex in valid stores is valid, where that holds of trees and operators.
-use Rattle.std.proofs.Common.{◌≡◌, ℕ, ◌+◌, ◌<◌, ◌≤◌, Bool, true, false, cond, not, eqb, leb, Option, Some, None, Result, Ok, Err, List, [], ◌∷◌, ◌++◌, length, slice_set, All, arith, refl, sym, subst, length-append, length-set, option_and_then}
-use Rattle.std.specs.FinMap as finmap
+use Rattle.std.proofs.Common.{◌≡◌, ℕ, ◌<◌, Bool, true, false, cond, not, eqb, leb, Option, Some, None, Result, Ok, Err, List, [], ◌∷◌, ◌++◌, length, All, arith, refl, length-append}
 use Rattle.ff_tree.specs.Spelled.{IsWellSpelledDoc}
 use Rattle.ff_tree.specs.declared.tree.Doc.{Doc}
 use Rattle.ff_tree.specs.declared.op.Op.{Op}
@@ -11,7 +10,7 @@ use Rattle.ff_value.specs.declared.ids.PageId.{PageId}
 use Rattle.ff_value.specs.declared.value.Code.{Code}
 use Rattle.ff_value.specs.declared.value.Val.{Val}
 use Rattle.ff_value.specs.declared.value.Val.TheVariants as val
-use Rattle.ff_term.specs.Running.{Running, Evaluation, rewritten_in, redex, innermost, is_value}
+use Rattle.ff_term.specs.Running.{Running, Evaluation, redex, innermost, is_value}
 use Rattle.ff_term.specs.Calls.{calls_around}
 use Rattle.ff_term.specs.Redexes.{read_redex}
 use Rattle.ff_term.specs.declared.TheConstants.{MOST_CALLS}
@@ -22,12 +21,12 @@ use Rattle.ff_term.proofs.Redexes.{redex-is-read}
 use Rattle.ff_machine.specs.Windows as windows
 use Rattle.ff_machine.specs.Windows.{Activation}
 use Rattle.ff_machine.specs.Stores.{Stores, nothing}
-use Rattle.ff_machine.specs.Operators.{Did, Outcome, operate, unless, does}
-use Rattle.ff_machine.specs.Reduction.{Became, Moved, Red, put_back, reduced, of_outcome, choose, call, entered, enter_fault, or_fault, with_acts, variable, declare, assign, make_tree}
-use Rattle.ff_machine.specs.References.{Made, Grows, made}
+use Rattle.ff_machine.specs.Operators.{Outcome, operate, unless, does}
+use Rattle.ff_machine.specs.Reduction.{Became, Red, put_back, reduced, of_outcome, choose, call, entered, enter_fault, or_fault, with_acts, variable, declare, assign, make_tree}
+use Rattle.ff_machine.specs.References.{made}
 use Rattle.ff_machine.specs.Valid.{IsVal, IsCode, IsRunning, IsRedex, IsStores, valid}
 use Rattle.ff_laws.specs.Keeps.{Keeps}
-use Rattle.ff_laws.specs.Reduced.{DoesKeep, KeepsUnlessFault, BecomesValid, IsGood, MovesValid, MovesUnlessFault}
+use Rattle.ff_laws.specs.Reduced.{KeepsUnlessFault, IsGood, MovesUnlessFault}
 use Rattle.ff_laws.proofs.Growing.{as_many, val_grows}
 use Rattle.ff_laws.proofs.Redexes.{local_valid, rewritten_valid, source_valid, redex_valid, innermost_lives}
 use Rattle.ff_laws.proofs.Acts.{declared_valid, assigned_valid, looked_up_valid}

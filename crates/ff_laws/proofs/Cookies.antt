@@ -1,6 +1,6 @@
 -- A cookie that is put, and one that is deleted, keep stores valid.
-use Rattle.std.proofs.Common.{◌≡◌, ℕ, ◌+◌, ◌-◌, ◌<◌, ◌≤◌, Bool, true, false, cond, ◌||◌, ltb-true, Option, Some, None, List, [], ◌∷◌, length, is_some, sum_by, count_by, bytes_eq, refl, sym, ap, subst, ◌∙◌, arith}
-use Rattle.std.proofs.lemmas.Bool.{false≢true, and_parts}
+use Rattle.std.proofs.Common.{◌≡◌, ℕ, ◌+◌, ◌-◌, ◌<◌, ◌≤◌, Bool, true, false, cond, ◌||◌, ltb-true, Option, Some, None, List, [], ◌∷◌, is_some, count_by, bytes_eq, refl, sym, ap, subst, ◌∙◌, arith}
+use Rattle.std.proofs.lemmas.Bool.{and_parts}
 use Rattle.std.proofs.lemmas.Cmp.{then_total, on_total}
 use Rattle.std.proofs.lemmas.Map.Lookups.{exact_bytes, exact_pairs}
 use Rattle.std.proofs.lemmas.Map.Text.{is_eq-slice_cmp}
@@ -10,7 +10,6 @@ use Rattle.std.specs.Ordering.{nat_cmp, eq_by_cmp}
 use Rattle.std.specs.Cmp.{IsTotalOrder, Equal-is}
 use Rattle.std.specs.Cmp.Lexicographic.{slice_cmp, nat_list_cmp_total}
 use Rattle.std.specs.FinMap as finmap
-use Rattle.std.specs.FinMap.Entries.{where_key}
 use Rattle.ff_name.specs.Spelling.{IsDomain}
 use Rattle.ff_value.specs.declared.fault.Fault.{Fault}
 use Rattle.ff_value.specs.declared.fault.Fault.TheVariants as fault
@@ -18,7 +17,6 @@ use Rattle.ff_value.specs.declared.reply.CookieOp.{CookieOp}
 use Rattle.ff_value.specs.declared.reply.CookieOp.TheVariants as cookie_op
 use Rattle.ff_value.specs.Spelled.{IsCookieOp}
 use Rattle.ff_machine.specs.declared.limits.TheConstants.{MOST_COOKIES, MOST_COOKIES_OF_DOMAIN}
-use Rattle.ff_machine.specs.Faults.{limit_unless}
 use Rattle.ff_machine.specs.Net.{Jar, cookie_cmp, cookie, cookies_of, cookie_put, cookie_deleted, cookie_fault, has_cookie_size, has_cookie_room}
 use Rattle.ff_machine.specs.Stores as stores
 use Rattle.ff_machine.specs.Stores.{Stores}

@@ -1,9 +1,9 @@
 -- Trees that stand one after another among the nodes.
-use Rattle.std.proofs.Common.{◌≡◌, ℕ, zero, suc, ◌+◌, ◌<◌, ◌≤◌, ◌⊎◌, inl, inr, ⊎_elim, Bool, true, false, ◌==◌, eqb, Option, Some, None, List, [], ◌∷◌, ◌++◌, length, get_or, All, refl, sym, ap, subst, ◌∙◌, arith}
+use Rattle.std.proofs.Common.{◌≡◌, ℕ, zero, suc, ◌+◌, ◌<◌, ◌≤◌, ◌⊎◌, inl, inr, ⊎_elim, ◌==◌, Option, Some, List, [], ◌∷◌, length, get_or, All, refl, sym, ap, subst, ◌∙◌, arith}
 use Rattle.std.proofs.lemmas.Bool.{ne_eqb, eq-eqb, cases_lt, cases_eq}
 use Rattle.std.proofs.lemmas.List.Elements.{All-nil, All-cons, All-weaker}
 use Rattle.ff_value.specs.declared.ids.NodeId.{NodeId}
-use Rattle.ff_machine.specs.Nodes.{Node, no_node, node_at, children, parent, at_parent, depth_within}
+use Rattle.ff_machine.specs.Nodes.{Node, no_node, children, parent, at_parent, depth_within}
 use Rattle.ff_laws.proofs.Sums.{if_so}
 use Rattle.ff_laws.proofs.Walks.{times}
 

@@ -1,5 +1,5 @@
 -- A tree that is put under a node, and whose scripts start, keeps stores valid.
-use Rattle.std.proofs.Common.{◌≡◌, ◌≢◌, ℕ, zero, suc, ◌+◌, ◌<◌, ◌≤◌, Bool, true, false, cond, not, ◌==◌, ℤ, Option, Some, None, IsSome, is_some, is_none, List, [], ◌∷◌, length, get_or, insert, All, refl, sym, ap, subst, ◌∙◌, arith, length-set}
+use Rattle.std.proofs.Common.{◌≡◌, ℕ, suc, ◌+◌, ◌<◌, Bool, true, false, cond, not, ◌==◌, ℤ, Option, Some, None, IsSome, is_some, is_none, List, length, get_or, insert, refl, sym, ap, ◌∙◌, arith, length-set}
 use Rattle.std.proofs.lemmas.Bool.{true≢false, false≢true, eqb-false, ltb-false}
 use Rattle.std.proofs.lemmas.List.Elements.{All-set}
 use Rattle.std.proofs.lemmas.List.Sums.{sum_by-set}
@@ -10,14 +10,13 @@ use Rattle.ff_value.specs.declared.ids.NodeId.{NodeId}
 use Rattle.ff_value.specs.declared.ids.PageId.{PageId}
 use Rattle.ff_machine.specs.declared.limits.TheConstants.{MOST_TREE_DEPTH}
 use Rattle.ff_machine.specs.Shapes.{page_of, is_started, may_have_children}
-use Rattle.ff_machine.specs.Nodes as nodes
 use Rattle.ff_machine.specs.Nodes.{Node, no_node, node_at, children, parent, set_node, depth, height, root, insert_fault, joined, place_of, page_root_of}
 use Rattle.ff_machine.specs.Windows.{is_live}
 use Rattle.ff_machine.specs.Stores as stores
 use Rattle.ff_machine.specs.Stores.{Stores}
 use Rattle.ff_machine.specs.Alone.{IsNode}
 use Rattle.ff_machine.specs.References.{Made, Grows, made, NodeRefers}
-use Rattle.ff_machine.specs.Valid.{IsStores, count_started}
+use Rattle.ff_machine.specs.Valid.{IsStores}
 use Rattle.ff_laws.specs.Keeps.{Keeps}
 use Rattle.ff_laws.proofs.Growing as growing
 use Rattle.ff_laws.proofs.Lists.{at_set}
@@ -117,7 +116,7 @@ module _ (s : Stores) (p c : NodeId) (at : ℕ) (valid : IsStores s) (fits : Fit
       let one = sum_by-set (λ (x : Node). if_so (is_started x.shape)) s.nodes c.0 child no_node fits.may.child_lives in
       let two = sum_by-set (λ (x : Node). if_so (is_started x.shape)) mid p.0 over no_node (omega (arith, first, fits.may.parent_lives)) in
       let same : if_so (is_started (get_or mid p.0 no_node).shape) ≡ if_so (is_started (get_or s.nodes p.0 no_node).shape) =
-          at_set (λ j (x : Node). if_so (is_started x.shape) ≡ if_so (is_started (get_or s.nodes j no_node).shape)) s.nodes c.0 p.0 child no_node refl refl in
+      at_set (λ j (x : Node). if_so (is_started x.shape) ≡ if_so (is_started (get_or s.nodes j no_node).shape)) s.nodes c.0 p.0 child no_node refl refl in
       record {
         stores = record {
           nodes = record {
@@ -138,7 +137,7 @@ module _ (s : Stores) (p c : NodeId) (at : ℕ) (valid : IsStores s) (fits : Fit
           };
           rooted = rooted_same s.nodes new s.windows.pages
               (λ n. at_set (λ j (x : Node). page_of x.shape ≡ page_of (get_or s.nodes j no_node).shape) mid p.0 n.0 over no_node refl
-                  (at_set (λ j (x : Node). page_of x.shape ≡ page_of (get_or s.nodes j no_node).shape) s.nodes c.0 n.0 child no_node refl refl)) valid.rooted;
+              (at_set (λ j (x : Node). page_of x.shape ≡ page_of (get_or s.nodes j no_node).shape) s.nodes c.0 n.0 child no_node refl refl)) valid.rooted;
           queued = record { entries = omega (arith, one, two, same, valid.queued.entries); slots = omega (arith, one, two, same, valid.queued.slots) };
           light = valid.light;
         };

@@ -1,14 +1,14 @@
 -- A tree that is put under a node leaves valid trees.
-use Rattle.std.proofs.Common.{◌≡◌, ◌≢◌, ℕ, zero, suc, ◌+◌, ◌<◌, ◌≤◌, ◌⊎◌, inl, inr, ⊎_elim, Bool, true, false, cond, ◌==◌, eqb, Option, Some, None, List, [], ◌∷◌, ◌++◌, take, drop, length, get_or, set, insert, count_by, All, refl, sym, ap, subst, ◌∙◌, arith, length-set, get_or-set_same, get_or-set_other, take-append-drop}
-use Rattle.std.proofs.lemmas.Bool.{eqb-true, eqb-false, eq-eqb, ne_eqb, cases_eq}
+use Rattle.std.proofs.Common.{◌≡◌, ◌≢◌, ℕ, zero, suc, ◌+◌, ◌<◌, ◌≤◌, ⊎_elim, Bool, true, false, ◌==◌, Option, Some, None, List, ◌∷◌, ◌++◌, take, drop, length, insert, All, refl, sym, ap, subst, ◌∙◌, arith, length-set, get_or-set_same, get_or-set_other, take-append-drop}
+use Rattle.std.proofs.lemmas.Bool.{eq-eqb, ne_eqb, cases_eq}
 use Rattle.std.proofs.lemmas.List.Elements.{All-weaker, All-append, All-cons, All-take, All-drop}
 use Rattle.ff_value.specs.declared.ids.NodeId.{NodeId}
 use Rattle.ff_machine.specs.declared.limits.TheConstants.{MOST_TREE_DEPTH}
-use Rattle.ff_machine.specs.Nodes.{Node, no_node, node_at, children, parent, set_node, at_parent, depth_within, depth, root, height, joined}
+use Rattle.ff_machine.specs.Nodes.{Node, no_node, node_at, children, parent, set_node, at_parent, depth_within, depth, root, height}
 use Rattle.ff_machine.specs.Alone.{AreTrees}
 use Rattle.ff_laws.proofs.Sums.{if_so}
 use Rattle.ff_laws.proofs.Walks.{times, times_append, times_count, same_node, depth_child, no_child}
-use Rattle.ff_laws.proofs.Rooted.{root_top, depth_top, root_child, deep_within}
+use Rattle.ff_laws.proofs.Rooted.{root_top, root_child, deep_within}
 
 -- what is asked of a child and a parent
 pub record MayJoin (all : List Node) (p c : NodeId) : Type 0 where
@@ -88,8 +88,8 @@ module _ (all : List Node) (p c : NodeId) (at : ℕ) (trees : AreTrees all) (may
       (λ e. let q = same_node n p (eq-eqb n.0 p.0 e) in subst (λ (m : NodeId). All (λ x. x.0 < length new) (children new m)) (sym q) (subst (All (λ x. x.0 < length new)) (sym children_p) (inserted (λ x. x.0 < length new) (children all p) (omega (arith, size, may.child_lives)) (old p))))
       (λ e. subst (All (λ x. x.0 < length new)) (sym (children_other n e)) (old n))
       (cases_eq n.0 p.0) where
-    old : (m : NodeId) → All (λ x. x.0 < length new) (children all m)
-    old m = All-weaker (λ x. x.0 < length all) (λ x. x.0 < length new) (λ x h. omega (arith, h, size)) (children all m) (trees.below m)
+        old : (m : NodeId) → All (λ x. x.0 < length new) (children all m)
+        old m = All-weaker (λ x. x.0 < length all) (λ x. x.0 < length new) (λ x h. omega (arith, h, size)) (children all m) (trees.below m)
 
   agree : (n : NodeId) → All (λ x. parent new x ≡ Some n) (children new n)
   agree n =
@@ -121,11 +121,11 @@ module _ (all : List Node) (p c : NodeId) (at : ℕ) (trees : AreTrees all) (may
         let once : times m (children all q) ≡ 1 = sym (times_count m (children all q)) ∙ trees.once m q was in
         ⊎_elim
         (λ f.
-            let same = same_node q p (eq-eqb q.0 p.0 f) in
-            let off : if_so (c.0 == m.0) ≡ 0 = ap if_so (ne_eqb c.0 m.0 (λ g. h (sym g))) in
-            let there : times m (children all p) ≡ 1 = subst (λ (r : NodeId). times m (children all r) ≡ 1) same once in
-            let now : times m (children new p) ≡ 1 = ap (times m) children_p ∙ omega (arith, times_inserted m (children all p), off, there) in
-            subst (λ (r : NodeId). times m (children new r) ≡ 1) (sym same) now)
+        let same = same_node q p (eq-eqb q.0 p.0 f) in
+        let off : if_so (c.0 == m.0) ≡ 0 = ap if_so (ne_eqb c.0 m.0 (λ g. h (sym g))) in
+        let there : times m (children all p) ≡ 1 = subst (λ (r : NodeId). times m (children all r) ≡ 1) same once in
+        let now : times m (children new p) ≡ 1 = ap (times m) children_p ∙ omega (arith, times_inserted m (children all p), off, there) in
+        subst (λ (r : NodeId). times m (children new r) ≡ 1) (sym same) now)
         (λ f. ap (times m) (children_other q f) ∙ once)
         (cases_eq q.0 p.0)
 

@@ -1,34 +1,18 @@
 -- A well spelled document is laid as a tree of valid nodes.
-use Rattle.std.proofs.Common.{◌≡◌, ℕ, zero, suc, ◌+◌, ◌<◌, ◌≤◌, max, Bool, true, false, Option, Some, None, IsSome, List, [], ◌∷◌, ◌++◌, map, length, get_or, All, refl, sym, ap, subst, ◌∙◌, arith, length-append}
-use Rattle.std.proofs.lemmas.Bool.{true≢false}
-use Rattle.std.proofs.lemmas.List.{length-map, get_or_append_left, get_or-append-add}
-use Rattle.std.proofs.lemmas.List.Elements.{All-nil, All-cons, All-append}
+use Rattle.std.proofs.Common.{◌≡◌, ℕ, suc, ◌+◌, ◌<◌, ◌≤◌, false, Option, Some, None, List, [], ◌∷◌, ◌++◌, length, get_or, All, refl, ap, subst, ◌∙◌, arith, length-append}
+use Rattle.std.proofs.lemmas.List.{get_or_append_left, get_or-append-add}
+use Rattle.std.proofs.lemmas.List.Elements.{All-nil, All-append}
 use Rattle.std.specs.List.{AllByRecursion}
-use Rattle.ff_name.specs.declared.limits.TheConstants.{MOST_DEPTH}
-use Rattle.ff_tree.specs.declared.limits.TheConstants.{MOST_HANDLERS}
-use Rattle.ff_tree.specs.Spelled.{IsSpelledDoc, IsSpelledExpr, IsSpelledHandler, most, doc_depth, expr_depth, handler_depth, doc_nesting, expr_nesting, handler_nesting}
-use Rattle.ff_tree.specs.declared.tree.Doc.{Doc}
-use Rattle.ff_tree.specs.declared.tree.Doc.TheVariants as doc
-use Rattle.ff_tree.specs.declared.tree.Expr.{Expr}
-use Rattle.ff_tree.specs.declared.tree.Handler.{Handler, out-Handler}
-use Rattle.ff_tree.specs.declared.tree.Doc.TheOpen.{Doc-F}
-use Rattle.ff_tree.specs.declared.tree.Doc.TheViews.{out-Doc}
-use Rattle.ff_tree.specs.declared.tree.Doc.TheFolds.{map-Doc, map-Handler, fold_out-Doc, fold_out-Handler}
-use Rattle.ff_tree.proofs.Levels.{IsSpelledHandler-out, IsSpelledDoc-Text, IsSpelledDoc-Link, IsSpelledDoc-TextBox, IsSpelledDoc-Button, IsSpelledDoc-Script, IsSpelledDoc-Src, IsSpelledDoc-Div}
 use Rattle.ff_value.specs.declared.ids.ActId.{ActId}
 use Rattle.ff_value.specs.declared.ids.NodeId.{NodeId}
 use Rattle.ff_value.specs.declared.value.Code.{Code}
-use Rattle.ff_term.proofs.Induction.{Each}
 use Rattle.ff_machine.specs.declared.records.Shape.{Shape}
-use Rattle.ff_machine.specs.declared.records.Shape.TheVariants as shape
-use Rattle.ff_machine.specs.Shapes.{page_of, is_started, may_have_handlers, may_have_children}
-use Rattle.ff_machine.specs.Nodes.{Node, no_node, children, parent}
-use Rattle.ff_machine.specs.Documents.{Laid, size_of, numbers, lay_all, lay_leaf, lay_over, laid, handler_code}
-use Rattle.ff_machine.specs.Alone.{IsShape, IsHandler, IsNode}
-use Rattle.ff_machine.specs.References.{Made, CodeRefers, NodeRefers}
-use Rattle.ff_machine.proofs.Laying.{laid-Text, laid-Link, laid-TextBox, laid-Button, laid-Script, laid-Src, laid-Div}
-use Rattle.ff_laws.proofs.DocForms.{ByDocForms, by_doc_forms}
-use Rattle.ff_laws.proofs.Forests.{IsAt, nth, AreForest, no_forest, higher, next_to, over}
+use Rattle.ff_machine.specs.Shapes.{page_of, is_started}
+use Rattle.ff_machine.specs.Nodes.{Node, no_node}
+use Rattle.ff_machine.specs.Documents.{Laid, size_of, numbers, lay_all, lay_leaf, lay_over}
+use Rattle.ff_machine.specs.Alone.{IsNode}
+use Rattle.ff_machine.specs.References.{Made, NodeRefers}
+use Rattle.ff_laws.proofs.Forests.{IsAt, nth, AreForest, no_forest, next_to, over}
 
 -- a valid node that is no root of a page and no script that was started
 pub record IsFresh (m : Made) (node : Node) : Type 0 where

@@ -1,5 +1,5 @@
 -- Each well spelled document is laid as a tree of fresh nodes, no higher than its lists nest.
-use Rattle.std.proofs.Common.{◌≡◌, ℕ, zero, suc, ◌+◌, ◌<◌, ◌≤◌, max, Bool, true, false, Option, Some, None, IsSome, List, [], ◌∷◌, map, length, All, refl, sym, ap, subst, ◌∙◌, arith}
+use Rattle.std.proofs.Common.{◌≡◌, ℕ, suc, ◌+◌, ◌<◌, ◌≤◌, max, false, Option, Some, None, IsSome, List, [], ◌∷◌, map, length, All, refl, sym, ap, subst, ◌∙◌, arith}
 use Rattle.std.proofs.lemmas.Bool.{true≢false, false≢true}
 use Rattle.std.proofs.lemmas.List.{length-map}
 use Rattle.std.proofs.lemmas.List.Elements.{All-nil, All-cons}
@@ -13,7 +13,7 @@ use Rattle.ff_tree.specs.declared.tree.Expr.{Expr}
 use Rattle.ff_tree.specs.declared.tree.Handler.{Handler, out-Handler}
 use Rattle.ff_tree.specs.declared.tree.Doc.TheOpen.{Doc-F}
 use Rattle.ff_tree.specs.declared.tree.Doc.TheViews.{out-Doc}
-use Rattle.ff_tree.specs.declared.tree.Doc.TheFolds.{map-Doc, map-Handler, fold_out-Doc, fold_out-Handler}
+use Rattle.ff_tree.specs.declared.tree.Doc.TheFolds.{map-Doc, fold_out-Doc, fold_out-Handler}
 use Rattle.ff_tree.proofs.Levels.{IsSpelledHandler-out, IsSpelledDoc-Text, IsSpelledDoc-Link, IsSpelledDoc-TextBox, IsSpelledDoc-Button, IsSpelledDoc-Script, IsSpelledDoc-Src, IsSpelledDoc-Div}
 use Rattle.ff_value.specs.declared.ids.ActId.{ActId}
 use Rattle.ff_value.specs.declared.ids.NodeId.{NodeId}
@@ -24,10 +24,9 @@ use Rattle.ff_term.proofs.Induction.{Each}
 use Rattle.ff_machine.specs.declared.records.Shape.{Shape}
 use Rattle.ff_machine.specs.declared.records.Shape.TheVariants as shape
 use Rattle.ff_machine.specs.Shapes.{page_of, is_started, may_have_handlers, may_have_children}
-use Rattle.ff_machine.specs.Nodes.{Node}
-use Rattle.ff_machine.specs.Documents.{Laid, size_of, numbers, lay_all, lay_leaf, lay_over, laid, handler_code}
-use Rattle.ff_machine.specs.Alone.{IsShape, IsHandler, IsNode}
-use Rattle.ff_machine.specs.References.{Made, CodeRefers, ShapeRefers, NodeRefers}
+use Rattle.ff_machine.specs.Documents.{Laid, numbers, lay_all, lay_leaf, lay_over, laid, handler_code}
+use Rattle.ff_machine.specs.Alone.{IsShape, IsHandler}
+use Rattle.ff_machine.specs.References.{Made, CodeRefers, ShapeRefers}
 use Rattle.ff_machine.proofs.Laying.{laid-Text, laid-Link, laid-TextBox, laid-Button, laid-Script, laid-Src, laid-Div}
 use Rattle.ff_laws.proofs.DocForms.{ByDocForms, by_doc_forms}
 use Rattle.ff_laws.proofs.Forests.{nth, higher}

@@ -1,6 +1,6 @@
 -- Loading, opening windows, and going to addresses keep stores valid.
-use Rattle.std.proofs.Common.{◌≡◌, ℕ, zero, suc, ◌+◌, ◌<◌, ◌≤◌, ⊎_elim, Bool, true, false, cond, ◌&&◌, eqb, Option, Some, None, List, [], ◌∷◌, ◌++◌, map, length, get_or, slice_set, All, refl, sym, ap, subst, ◌∙◌, arith, length-append, length-set, ltb-true}
-use Rattle.std.specs.Prelude.{⊤, nat_eq, nat_lt}
+use Rattle.std.proofs.Common.{◌≡◌, ℕ, ◌+◌, ◌<◌, ◌≤◌, ⊎_elim, Bool, true, false, cond, eqb, Option, Some, None, List, [], ◌∷◌, ◌++◌, map, length, slice_set, All, refl, sym, ap, subst, ◌∙◌, arith, length-append, length-set, ltb-true}
+use Rattle.std.specs.Prelude.{nat_eq, nat_lt}
 use Rattle.std.specs.List.{AllByRecursion, IsDistinct, list_any}
 use Rattle.std.specs.Option.{ForSome}
 use Rattle.std.specs.Str.{IsUtf8}
@@ -15,7 +15,6 @@ use Rattle.ff_name.specs.declared.urls.Url.{Url}
 use Rattle.ff_name.specs.declared.urls.Url.TheVariants as url
 use Rattle.ff_tree.specs.Spelled.{IsWellSpelledDoc}
 use Rattle.ff_tree.specs.declared.tree.Doc.{Doc}
-use Rattle.ff_value.specs.declared.ids.PageId.{PageId}
 use Rattle.ff_value.specs.declared.ids.WinId.{WinId}
 use Rattle.ff_value.specs.declared.output.Out.{Out}
 use Rattle.ff_machine.specs.declared.limits.TheConstants.{MOST_WINDOWS}
@@ -25,12 +24,11 @@ use Rattle.ff_machine.specs.Windows as windows
 use Rattle.ff_machine.specs.Windows.{Window, Page, no_window, no_page, nth_window, nth_page, window_at}
 use Rattle.ff_machine.specs.Stores as stores
 use Rattle.ff_machine.specs.Stores.{Stores}
-use Rattle.ff_machine.specs.Alone.{IsWindow, AreOpen, AreOwn}
-use Rattle.ff_machine.specs.References.{made}
+use Rattle.ff_machine.specs.Alone.{IsWindow, AreOpen}
 use Rattle.ff_machine.specs.Valid.{IsStores}
 use Rattle.ff_laws.specs.Keeps.{Keeps, KeepsIfMade}
 use Rattle.ff_laws.proofs.Growing.{window_grows}
-use Rattle.ff_laws.proofs.Lists.{at_set, at_pushed}
+use Rattle.ff_laws.proofs.Lists.{at_set}
 use Rattle.ff_laws.proofs.Asking.{sent_valid}
 use Rattle.ff_laws.proofs.Starting.{kept, kept_twice, start_valid}
 use Rattle.ff_laws.proofs.Paging.{page_made, old_page, next_is}
@@ -78,7 +76,7 @@ module _ (s : Stores) (u : Url) (docs : List Doc) (valid : IsStores s) (spelled 
       let le : length s.windows.windows ≤ length wins = omega (arith, size) in
       page_made s w u docs valid spelled docs_spelled room wins s.windows.opened (omega (arith, lives, size)) le
       (All-set (IsWindow (length wins) (length pages)) s.windows.windows w.0 shows
-          (record { name = was.name; opener = λ o e. let there = was.opener o e in omega (arith, there, size); page = omega (arith, pages_more) }) (wider (length wins) le))
+      (record { name = was.name; opener = λ o e. let there = was.opener o e in omega (arith, there, size); page = omega (arith, pages_more) }) (wider (length wins) le))
       (subst (λ (n : ℕ). AreOpen n s.windows.opened) (sym size) valid.windows.opened)
       (record {
         own = λ v lt. at_set (λ j (x : Window). j < length s.windows.windows → (nth_page pages x.page).win ≡ nth_win j) s.windows.windows w.0 v.0 shows no_window (λ h. new_own) (λ h. still_own v h) (omega (arith, lt, size));
@@ -126,7 +124,7 @@ opened_valid s name opener valid named by room =
     let le : length s.windows.windows ≤ length wins = omega (arith, size) in
     page_made s w url.Blank [] valid tt tt rooms.1 wins (s.windows.opened ++ w ∷ []) (omega (arith, size)) le
     (All-push (IsWindow (length wins) (length all)) s.windows.windows opening (wider s url.Blank [] valid tt tt rooms.1 w (length wins) le)
-        (record { name = named; opener = λ o e. let there = by o e in omega (arith, there, size); page = omega (arith, more) }))
+    (record { name = named; opener = λ o e. let there = by o e in omega (arith, there, size); page = omega (arith, more) }))
     (record {
       there = All-push (λ v. v.0 < length wins) s.windows.opened w (All-weaker (λ v. v.0 < length s.windows.windows) (λ v. v.0 < length wins) (λ v h. omega (arith, h, size)) s.windows.opened valid.windows.opened.there) (omega (arith, size));
       differ = subst (IsDistinct nat_eq) (sym (numbers_pushed s.windows.opened w))
@@ -173,8 +171,8 @@ chosen_opens s u true room valid spelled =
     let t = (stores.opened s None None).after in
     kept_twice s t (stores.send_first u (windows.next_win s.windows) t).after first
     (send_first_valid u (windows.next_win s.windows) t first.stores (window_there s) spelled) where
-  window_there : (s : Stores) → length s.windows.windows < length (stores.opened s None None).after.windows.windows
-  window_there s = omega (arith, length-append s.windows.windows (record { name = None; opener = None; page = windows.next_page s.windows } ∷ []))
+      window_there : (s : Stores) → length s.windows.windows < length (stores.opened s None None).after.windows.windows
+      window_there s = omega (arith, length-append s.windows.windows (record { name = None; opener = None; page = windows.next_page s.windows } ∷ []))
 
 -- a window that the user opens at an address keeps stores valid
 pub opens_valid : (s : Stores) (u : Url) → IsStores s → IsWellSpelled u → Keeps s (stores.opens s u).after

@@ -1,10 +1,9 @@
 -- A tree that is made of a document keeps stores valid.
-use Rattle.std.proofs.Common.{◌≡◌, ℕ, zero, suc, ◌+◌, ◌-◌, ◌<◌, ◌≤◌, ⊎_elim, Bool, true, false, cond, Option, Some, None, List, [], ◌∷◌, ◌++◌, length, get_or, count_by, sum_by, All, refl, sym, ap, subst, ◌∙◌, arith, length-append}
+use Rattle.std.proofs.Common.{◌≡◌, ℕ, ◌+◌, ◌-◌, ◌<◌, ◌≤◌, ⊎_elim, true, Option, Some, None, List, [], ◌∷◌, ◌++◌, length, get_or, All, refl, sym, ap, subst, ◌∙◌, arith, length-append}
 use Rattle.std.proofs.lemmas.Bool.{cases_lt, leb-true}
 use Rattle.std.proofs.lemmas.List.{get_or_append_left, get_or-append-add, get_or_past}
 use Rattle.std.proofs.lemmas.List.Elements.{All-weaker, All-append}
-use Rattle.std.proofs.lemmas.List.Sums.{sum_by_push, sum_by-append}
-use Rattle.ff_name.specs.declared.limits.TheConstants.{MOST_DEPTH}
+use Rattle.std.proofs.lemmas.List.Sums.{sum_by-append}
 use Rattle.ff_tree.specs.Spelled.{IsWellSpelledDoc, doc_depth}
 use Rattle.ff_tree.specs.Weight.{doc_weight}
 use Rattle.ff_tree.specs.declared.tree.Doc.{Doc}
@@ -21,14 +20,14 @@ use Rattle.ff_machine.specs.Shapes.{page_of, is_started}
 use Rattle.ff_machine.specs.Nodes as nodes
 use Rattle.ff_machine.specs.Nodes.{Node, no_node, node_at, has_room}
 use Rattle.ff_machine.specs.Documents.{Laid, laid}
-use Rattle.ff_machine.specs.Windows.{Page, no_page, nth_page}
+use Rattle.ff_machine.specs.Windows.{no_page, nth_page}
 use Rattle.ff_machine.specs.Stores as stores
 use Rattle.ff_machine.specs.Stores.{Stores, may_weigh, nothing}
-use Rattle.ff_machine.specs.Operators.{Outcome, unless, does}
+use Rattle.ff_machine.specs.Operators.{unless, does}
 use Rattle.ff_machine.specs.Reduction.{make_tree, tree_fault, with_tree}
 use Rattle.ff_machine.specs.Alone.{IsNode}
 use Rattle.ff_machine.specs.References.{Made, Grows, made, NodeRefers, PageRefers}
-use Rattle.ff_machine.specs.Valid.{IsStores, AreRooted, count_started}
+use Rattle.ff_machine.specs.Valid.{IsStores, count_started}
 use Rattle.ff_laws.specs.Keeps.{Keeps}
 use Rattle.ff_laws.specs.Reduced.{KeepsUnlessFault}
 use Rattle.ff_laws.proofs.Growing as growing
@@ -58,15 +57,15 @@ no_page_shape s p e h = some_none (sym e ∙ ap page_of h) where
 pub only_old : (all xs : List Node) (m : Made) (n : NodeId) (p : PageId) → All (IsFresh m) xs → (node_at (all ++ xs) n).shape ≡ shape.Page p → (node_at all n).shape ≡ shape.Page p
 only_old all xs m n p fresh e =
     ⊎_elim (λ l. sym (ap (λ (node : Node). node.shape) (old_root all xs n l)) ∙ e) (λ l. absurd (new l)) (cases_lt n.0 (length all)) where
-  new : length all ≤ n.0 → ⊥
-  new l =
-      ⊎_elim
-      (λ h.
+      new : length all ≤ n.0 → ⊥
+      new l =
+          ⊎_elim
+          (λ h.
           let place : n.0 ≡ length all + (n.0 - length all) = omega (arith, l) in
           let is : node_at (all ++ xs) n ≡ get_or xs (n.0 - length all) no_node = ap (λ k. get_or (all ++ xs) k no_node) place ∙ get_or-append-add all xs (n.0 - length all) no_node in
           no_page_shape (get_or xs (n.0 - length all) no_node).shape p (fresh (n.0 - length all) no_node (omega (arith, h, l))).page (sym (ap (λ (node : Node). node.shape) is) ∙ e))
-      (λ h. no_page_shape (shape.Div []) p refl (sym (ap (λ (node : Node). node.shape) (get_or_past (all ++ xs) n.0 no_node (omega (arith, h, length-append all xs)))) ∙ e))
-      (cases_lt n.0 (length all + length xs))
+          (λ h. no_page_shape (shape.Div []) p refl (sym (ap (λ (node : Node). node.shape) (get_or_past (all ++ xs) n.0 no_node (omega (arith, h, length-append all xs)))) ∙ e))
+          (cases_lt n.0 (length all + length xs))
 
 module _ (s : Stores) (valid : IsStores s) (env : ActId) (l : Laid) (high : ℕ) (laid_is : IsLaid env l high) (low : high ≤ MOST_TREE_DEPTH) (lives : env.0 < length s.windows.acts) (room : has_room s.nodes l.size ≡ true) where
   abbrev xs : List Node

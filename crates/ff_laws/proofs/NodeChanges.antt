@@ -1,35 +1,25 @@
 -- A node whose links stay may be another: texts, handlers and started scripts keep stores valid.
-use Rattle.std.proofs.Common.{◌≡◌, ℕ, zero, suc, ◌+◌, ◌<◌, ◌≤◌, Bool, true, false, cond, not, ◌==◌, eqb, Option, Some, None, IsSome, List, [], ◌∷◌, ◌++◌, length, get_or, set, count_by, sum_by, is_some, All, refl, sym, ap, subst, ◌∙◌, arith, length-set, ltb-true, length-append}
-use Rattle.std.proofs.lemmas.Bool.{true≢false, false≢true, eqb-true}
-use Rattle.std.proofs.lemmas.List.Elements.{All-weaker, All-set, All-push}
+use Rattle.std.proofs.Common.{◌≡◌, ℕ, zero, suc, ◌<◌, ◌≤◌, Bool, true, false, eqb, Option, Some, None, IsSome, List, length, get_or, count_by, All, refl, sym, ap, subst, ◌∙◌, arith, length-set}
+use Rattle.std.proofs.lemmas.List.Elements.{All-weaker, All-set}
 use Rattle.std.proofs.lemmas.List.Sums.{sum_by-set}
 use Rattle.std.specs.Str.{IsUtf8}
-use Rattle.ff_tree.specs.declared.limits.TheConstants.{MOST_HANDLERS}
-use Rattle.ff_value.specs.declared.fault.Fault.{Fault}
-use Rattle.ff_value.specs.declared.fault.Fault.TheVariants as fault
 use Rattle.ff_value.specs.declared.ids.NodeId.{NodeId}
 use Rattle.ff_value.specs.declared.ids.PageId.{PageId}
-use Rattle.ff_value.specs.declared.value.Code.{Code}
-use Rattle.ff_value.specs.Spelled.{TakesOne}
 use Rattle.ff_machine.specs.declared.records.Shape.{Shape}
 use Rattle.ff_machine.specs.declared.records.Shape.TheVariants as shape
 use Rattle.ff_machine.specs.declared.limits.TheConstants.{MOST_TREE_DEPTH}
-use Rattle.ff_machine.specs.Faults.{limit_unless, first_fault}
-use Rattle.ff_machine.specs.Shapes.{page_of, is_started, text_of, with_text, as_started, may_have_handlers, may_have_children}
+use Rattle.ff_machine.specs.Shapes.{page_of, is_started, with_text, as_started, may_have_handlers, may_have_children}
 use Rattle.ff_machine.specs.Nodes as nodes
 use Rattle.ff_machine.specs.Nodes.{Node, no_node, node_at, children, parent, depth, depth_within, at_parent, set_node, handler_fault}
 use Rattle.ff_machine.specs.Windows.{Page, nth_page}
-use Rattle.ff_machine.specs.Stores as stores
-use Rattle.ff_machine.specs.Stores.{Stores, may_weigh}
-use Rattle.ff_machine.specs.Alone.{IsShape, IsHandler, HasForm, IsNode, AreNodes, AreTrees}
-use Rattle.ff_machine.specs.References.{Made, Grows, made, CodeRefers, ShapeRefers, NodeRefers}
-use Rattle.ff_machine.specs.Valid.{IsCode, IsStores, AreRooted, count_started}
+use Rattle.ff_machine.specs.Stores.{Stores}
+use Rattle.ff_machine.specs.Alone.{IsShape, IsNode, AreTrees}
+use Rattle.ff_machine.specs.References.{Made, Grows, made, ShapeRefers, NodeRefers}
+use Rattle.ff_machine.specs.Valid.{IsStores, AreRooted}
 use Rattle.ff_laws.specs.Keeps.{Keeps}
 use Rattle.ff_laws.proofs.Growing as growing
 use Rattle.ff_laws.proofs.Lists.{at_set}
-use Rattle.ff_laws.proofs.Acts.{within}
 use Rattle.ff_laws.proofs.Sums.{if_so}
-use Rattle.ff_laws.proofs.Simple.{weighed_valid, touched_changed, touched_at_refers}
 
 -- Nodes with the same links.
 

@@ -1,11 +1,10 @@
 -- A page more, with its nodes and its activation, keeps stores valid, whatever windows show it.
-use Rattle.std.proofs.Common.{◌≡◌, ℕ, zero, suc, ◌+◌, ◌-◌, ◌<◌, ◌≤◌, ⊎_elim, Bool, true, false, cond, ◌&&◌, Option, Some, None, IsSome, List, [], ◌∷◌, ◌++◌, map, length, get_or, sum_by, All, refl, sym, ap, subst, ◌∙◌, arith, length-append, ltb-true}
-use Rattle.std.specs.Prelude.{nat_eq}
+use Rattle.std.proofs.Common.{◌≡◌, ℕ, zero, suc, ◌+◌, ◌-◌, ◌<◌, ◌≤◌, ⊎_elim, true, Some, None, List, [], ◌∷◌, ◌++◌, map, length, get_or, All, refl, sym, ap, subst, ◌∙◌, arith, length-append, ltb-true}
 use Rattle.std.specs.List.{AllByRecursion, IsDistinct}
 use Rattle.std.specs.Cmp.Lexicographic.{slice_cmp}
 use Rattle.std.specs.Ordering.{nat_cmp}
 use Rattle.std.specs.FinMap as finmap
-use Rattle.std.proofs.lemmas.Bool.{cases_lt, leb-true, and_parts, true≢false, false≢true}
+use Rattle.std.proofs.lemmas.Bool.{cases_lt, leb-true, and_parts, true≢false}
 use Rattle.std.proofs.lemmas.List.{get_or_append_left, get_or_push, get_or-append-add}
 use Rattle.std.proofs.lemmas.List.Elements.{All-nil, All-cons, All-push, All-weaker, All-append}
 use Rattle.std.proofs.lemmas.List.Sums.{sum_by_push}
@@ -19,13 +18,12 @@ use Rattle.ff_value.specs.declared.ids.NodeId.{NodeId}
 use Rattle.ff_value.specs.declared.ids.PageId.{PageId}
 use Rattle.ff_value.specs.declared.ids.WinId.{WinId}
 use Rattle.ff_value.specs.declared.value.Val.{Val}
-use Rattle.ff_machine.specs.declared.limits.TheConstants.{MOST_NODES, MOST_PAGES, MOST_ACTS, MOST_TREE_DEPTH}
-use Rattle.ff_machine.specs.declared.records.Shape.{Shape}
+use Rattle.ff_machine.specs.declared.limits.TheConstants.{MOST_NODES, MOST_PAGES, MOST_ACTS}
 use Rattle.ff_machine.specs.declared.records.Shape.TheVariants as shape
 use Rattle.ff_machine.specs.Shapes.{page_of}
 use Rattle.ff_machine.specs.Nodes as nodes
 use Rattle.ff_machine.specs.Nodes.{Node, no_node, node_at}
-use Rattle.ff_machine.specs.Documents.{Laid, numbers, size_of, lay_all, lay_over, laid}
+use Rattle.ff_machine.specs.Documents.{Laid, numbers, size_of, lay_all, laid}
 use Rattle.ff_machine.specs.Windows as windows
 use Rattle.ff_machine.specs.Windows.{Windows, Window, Page, Activation, no_page, no_act, nth_page, new_page, act_at}
 use Rattle.ff_machine.specs.Stores as stores
@@ -138,9 +136,9 @@ module _ (s : Stores) (w : WinId) (u : Url) (docs : List Doc) (valid : IsStores 
   rooted_root : (p : PageId) → p.0 < length pages → (node_at (s.nodes ++ root ∷ rest) (nth_page pages p).root).shape ≡ shape.Page p
   rooted_root = page_or (λ p. (node_at (s.nodes ++ root ∷ rest) (nth_page pages p).root).shape ≡ shape.Page p)
       (λ p lt.
-          let is : PageRefers (made s) (nth_page s.windows.pages p) = valid.refer.pages p.0 no_page lt in
-          ap (λ (x : Page). (node_at (s.nodes ++ root ∷ rest) x.root).shape) (old_page p lt)
-          ∙ ap (λ (node : Node). node.shape) (old_root s.nodes (root ∷ rest) (nth_page s.windows.pages p).root is.root) ∙ valid.rooted.root p lt)
+      let is : PageRefers (made s) (nth_page s.windows.pages p) = valid.refer.pages p.0 no_page lt in
+      ap (λ (x : Page). (node_at (s.nodes ++ root ∷ rest) x.root).shape) (old_page p lt)
+      ∙ ap (λ (node : Node). node.shape) (old_root s.nodes (root ∷ rest) (nth_page s.windows.pages p).root is.root) ∙ valid.rooted.root p lt)
       (ap (λ (x : Page). (node_at (s.nodes ++ root ∷ rest) x.root).shape) next_is ∙ ap (λ (node : Node). node.shape) root_there)
 
   fresh_page : (j : ℕ) → page_of (get_or rest j no_node).shape ≡ None
@@ -166,7 +164,7 @@ module _ (s : Stores) (w : WinId) (u : Url) (docs : List Doc) (valid : IsStores 
     beyond le =
         let place : n.0 ≡ length s.nodes + (n.0 - length s.nodes) = omega (arith, le) in
         let is : node_at (s.nodes ++ root ∷ rest) n ≡ get_or (root ∷ rest) (n.0 - length s.nodes) no_node =
-            ap (λ (k : ℕ). get_or (s.nodes ++ root ∷ rest) k no_node) place ∙ get_or-append-add s.nodes (root ∷ rest) (n.0 - length s.nodes) no_node in
+        ap (λ (k : ℕ). get_or (s.nodes ++ root ∷ rest) k no_node) place ∙ get_or-append-add s.nodes (root ∷ rest) (n.0 - length s.nodes) no_node in
         new_only (n.0 - length s.nodes) n p place (sym (ap (λ (node : Node). node.shape) is) ∙ e)
 
   -- a page more keeps stores valid, where the windows that show pages then are valid

@@ -1,8 +1,8 @@
 -- Nodes with a tree more are valid.
-use Rattle.std.proofs.Common.{◌≡◌, ℕ, zero, suc, ◌+◌, ◌<◌, ◌≤◌, ◌⊎◌, inl, inr, ⊎_elim, Bool, true, false, ◌==◌, eqb, Option, Some, None, List, [], ◌∷◌, ◌++◌, length, get_or, count_by, All, refl, sym, ap, subst, ◌∙◌, arith, length-append}
+use Rattle.std.proofs.Common.{◌≡◌, ℕ, zero, suc, ◌+◌, ◌<◌, ◌≤◌, ◌⊎◌, inl, inr, ⊎_elim, ◌==◌, Option, Some, None, List, [], ◌∷◌, ◌++◌, length, count_by, All, refl, sym, ap, subst, ◌∙◌, arith, length-append}
 use Rattle.std.proofs.lemmas.Bool.{cases_lt}
 use Rattle.std.proofs.lemmas.List.{get_or_append_left, get_or-append-add, get_or_past}
-use Rattle.std.proofs.lemmas.List.Elements.{All-nil, All-weaker, All-append}
+use Rattle.std.proofs.lemmas.List.Elements.{All-nil, All-weaker}
 use Rattle.ff_value.specs.declared.ids.NodeId.{NodeId}
 use Rattle.ff_machine.specs.declared.limits.TheConstants.{MOST_TREE_DEPTH}
 use Rattle.ff_machine.specs.Nodes.{Node, no_node, node_at, children, parent, at_parent, depth_within, depth}
@@ -38,7 +38,7 @@ module _ (before xs : List Node) (trees : AreTrees before) (high : ℕ) (low : h
   below : (n : NodeId) → All (λ c. c.0 < length all) (children all n)
   below = which (λ n. All (λ c. c.0 < length all) (children all n))
       (λ n l e. subst (λ (node : Node). All (λ c. c.0 < length all) node.children) (sym e)
-          (All-weaker (λ c. c.0 < length before) (λ c. c.0 < length all) (λ c h. omega (arith, h, size)) (children before n) (trees.below n)))
+      (All-weaker (λ c. c.0 < length before) (λ c. c.0 < length all) (λ c h. omega (arith, h, size)) (children before n) (trees.below n)))
       (λ n a. All-weaker (IsChild all (length before) (length before + length xs) (Some n)) (λ c. c.0 < length all) (λ c h. let to = h.among.to in omega (arith, to, size)) (children all n) (forest.kids n a))
       (λ n l e. subst (λ (node : Node). All (λ c. c.0 < length all) node.children) (sym e) (All-nil (λ c. c.0 < length all)))
 
@@ -54,8 +54,8 @@ module _ (before xs : List Node) (trees : AreTrees before) (high : ℕ) (low : h
   agree : (n : NodeId) → All (λ c. parent all c ≡ Some n) (children all n)
   agree = which (λ n. All (λ c. parent all c ≡ Some n) (children all n))
       (λ n l e. subst (λ (node : Node). All (λ c. parent all c ≡ Some n) node.children) (sym e)
-          (All-weaker (λ c. (c.0 < length before) × (parent before c ≡ Some n)) (λ c. parent all c ≡ Some n) (λ c h. old_parent c h.0 ∙ h.1) (children before n)
-              (both_all (λ c. c.0 < length before) (λ c. parent before c ≡ Some n) (children before n) (trees.below n) (trees.agree n))))
+      (All-weaker (λ c. (c.0 < length before) × (parent before c ≡ Some n)) (λ c. parent all c ≡ Some n) (λ c h. old_parent c h.0 ∙ h.1) (children before n)
+      (both_all (λ c. c.0 < length before) (λ c. parent before c ≡ Some n) (children before n) (trees.below n) (trees.agree n))))
       (λ n a. All-weaker (IsChild all (length before) (length before + length xs) (Some n)) (λ c. parent all c ≡ Some n) (λ c h. h.up) (children all n) (forest.kids n a))
       (λ n l e. subst (λ (node : Node). All (λ c. parent all c ≡ Some n) node.children) (sym e) (All-nil (λ c. parent all c ≡ Some n)))
 
@@ -63,20 +63,20 @@ module _ (before xs : List Node) (trees : AreTrees before) (high : ℕ) (low : h
   parent_lives : (m p : NodeId) → parent before m ≡ Some p → p.0 < length before
   parent_lives m p e =
       ⊎_elim (λ l. l) (λ l. absurd (none_once (ap (λ (node : Node). count_by (λ c. c.0 == m.0) node.children) (get_or_past before p.0 no_node l)))) (cases_lt p.0 (length before)) where
-    none_once : count_by (λ c. c.0 == m.0) (children before p) ≡ 0 → ⊥
-    none_once z = let one = trees.once m p e in omega (arith, one, z)
+        none_once : count_by (λ c. c.0 == m.0) (children before p) ≡ 0 → ⊥
+        none_once z = let one = trees.once m p e in omega (arith, one, z)
 
   once : (m p : NodeId) → parent all m ≡ Some p → count_by (λ c. c.0 == m.0) (children all p) ≡ 1
   once m p = which (λ m. parent all m ≡ Some p → count_by (λ c. c.0 == m.0) (children all p) ≡ 1)
       (λ n l e up.
-          let was : parent before n ≡ Some p = sym (old_parent n l) ∙ up in
-          ap (λ (cs : List NodeId). count_by (λ c. c.0 == n.0) cs) (old_children p (parent_lives n p was)) ∙ trees.once n p was)
+      let was : parent before n ≡ Some p = sym (old_parent n l) ∙ up in
+      ap (λ (cs : List NodeId). count_by (λ c. c.0 == n.0) cs) (old_children p (parent_lives n p was)) ∙ trees.once n p was)
       (λ n a up. new n up (forest.ups n a))
       (λ n l e up. absurd (none_some (sym (ap (λ (node : Node). node.parent) e) ∙ up))) m where
-    new : (n : NodeId) → parent all n ≡ Some p → (IsTopmost all None (nth (length before) ∷ []) n) ⊎ (HasParent all (length before) (length before + length xs) n) → count_by (λ c. c.0 == n.0) (children all p) ≡ 1
-    new n up (inl t) = absurd (none_some (sym t.up ∙ up))
-    new n up (inr h) =
-        times_count n (children all p) ∙ subst (λ (q : NodeId). times n (children all q) ≡ 1) (some_inj h.node p (sym h.up ∙ up)) h.once
+        new : (n : NodeId) → parent all n ≡ Some p → (IsTopmost all None (nth (length before) ∷ []) n) ⊎ (HasParent all (length before) (length before + length xs) n) → count_by (λ c. c.0 == n.0) (children all p) ≡ 1
+        new n up (inl t) = absurd (none_some (sym t.up ∙ up))
+        new n up (inr h) =
+            times_count n (children all p) ∙ subst (λ (q : NodeId). times n (children all q) ≡ 1) (some_inj h.node p (sym h.up ∙ up)) h.once
 
   old_depth : (k : ℕ) (n : NodeId) → n.0 < length before → depth_within k all n ≡ depth_within k before n
   old_depth zero n l = refl

@@ -1,11 +1,10 @@
 -- A page whose queue changed keeps stores valid, where its entries came with started scripts.
-use Rattle.std.proofs.Common.{◌≡◌, ℕ, zero, suc, ◌+◌, ◌<◌, ◌≤◌, ◌⊎◌, Bool, true, false, cond, ◌==◌, eqb, ◌||◌, Option, Some, None, List, [], ◌∷◌, ◌++◌, length, get_or, set, drop, map, filter_map, count_by, sum_by, All, refl, sym, ap, subst, ◌∙◌, arith, length-set, length-append, length-drop}
+use Rattle.std.proofs.Common.{◌≡◌, ℕ, suc, ◌+◌, ◌<◌, ◌≤◌, false, eqb, List, [], ◌∷◌, ◌++◌, length, get_or, set, filter_map, sum_by, All, refl, sym, ap, subst, ◌∙◌, arith, length-set}
 use Rattle.std.specs.Prelude.{nat_eq}
-use Rattle.std.proofs.lemmas.List.{length-map}
-use Rattle.std.specs.List.{IsDistinct, AllByRecursion, list_any}
-use Rattle.std.proofs.lemmas.Bool.{eqb-true, ne_eqb, or_from}
+use Rattle.std.specs.List.{IsDistinct, list_any}
+use Rattle.std.proofs.lemmas.Bool.{ne_eqb, or_from}
 use Rattle.std.proofs.lemmas.Map.Keys.{IsDistinct-push}
-use Rattle.std.proofs.lemmas.List.Elements.{All-weaker, All-set, All-push, All-drop, All-map, All-head, All-tail, All-cons, All-nil}
+use Rattle.std.proofs.lemmas.List.Elements.{All-weaker, All-set, All-push, All-head, All-tail}
 use Rattle.std.proofs.lemmas.List.Sums.{sum_by-set, count_by-le-length, get_or-le-sum_by}
 use Rattle.std.specs.Cmp.{nat_eq_equiv}
 use Rattle.ff_tree.specs.declared.tree.Expr.{Expr}
@@ -15,7 +14,6 @@ use Rattle.ff_value.specs.declared.ids.PageId.{PageId}
 use Rattle.ff_value.specs.declared.ids.NodeId.{NodeId}
 use Rattle.ff_value.specs.declared.ids.WinId.{WinId}
 use Rattle.ff_value.specs.declared.ids.ActId.{ActId}
-use Rattle.ff_machine.specs.declared.limits.TheConstants.{MOST_NODES, MOST_ENTRIES, MOST_SLOTS}
 use Rattle.ff_machine.specs.declared.records.Entry.{Entry}
 use Rattle.ff_machine.specs.declared.records.Entry.TheVariants.{Ready, Wait}
 use Rattle.ff_machine.specs.Shapes.{is_started}
@@ -23,16 +21,14 @@ use Rattle.ff_machine.specs.declared.records.Shape.TheVariants as shape
 use Rattle.ff_machine.specs.Nodes.{Node, node_at}
 use Rattle.ff_machine.specs.Windows as windows
 use Rattle.ff_machine.specs.Windows.{Page, Window, no_page, nth_page, page_at, set_page, is_slot, fill_entry}
-use Rattle.ff_machine.specs.Stores as stores
 use Rattle.ff_machine.specs.Stores.{Stores}
 use Rattle.ff_machine.specs.Alone.{IsEntry, waiting, IsQueue, IsPage, IsWindow}
-use Rattle.ff_machine.specs.References.{Made, Grows, made, PageRefers}
+use Rattle.ff_machine.specs.References.{Grows, made, PageRefers}
 use Rattle.ff_machine.specs.Valid.{IsStores, count_started}
 use Rattle.ff_laws.specs.Keeps.{Keeps}
 use Rattle.ff_laws.specs.Later.{IsSamePage}
 use Rattle.ff_laws.proofs.Growing as growing
 use Rattle.ff_laws.proofs.Lists.{at_set}
-use Rattle.ff_laws.proofs.LaterWindows.{same_page}
 
 -- what a changed page has to keep
 pub record IsQueued (s : Stores) (p : PageId) (page : Page) : Type 0 where
@@ -106,8 +102,8 @@ page_changed s p page valid lives is =
       };
       grows = grows;
     } where
-  same_root : (q : PageId) → (nth_page (set s.windows.pages p.0 page) q).root ≡ (nth_page s.windows.pages q).root
-  same_root q = at_set (λ j (x : Page). x.root ≡ (get_or s.windows.pages j no_page).root) s.windows.pages p.0 q.0 page no_page is.same.root refl
+      same_root : (q : PageId) → (nth_page (set s.windows.pages p.0 page) q).root ≡ (nth_page s.windows.pages q).root
+      same_root q = at_set (λ j (x : Page). x.root ≡ (get_or s.windows.pages j no_page).root) s.windows.pages p.0 q.0 page no_page is.same.root refl
 
 -- Queues.
 

@@ -1,5 +1,5 @@
 -- Runtime expressions stay valid: their redex, what is put for it, and sources.
-use Rattle.std.proofs.Common.{◌≡◌, ◌<◌, ℕ, List}
+use Rattle.std.proofs.Common.{◌<◌}
 use Rattle.ff_tree.specs.Spelled.{IsLit, IsWellSpelledExpr}
 use Rattle.ff_tree.specs.declared.tree.Expr.{Expr}
 use Rattle.ff_tree.specs.declared.tree.Lit.{Lit}

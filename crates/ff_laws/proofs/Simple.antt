@@ -1,33 +1,24 @@
 -- Changes of the mass, of the touched pages, and of nodes whose links stay, keep stores valid.
-use Rattle.std.proofs.Common.{◌≡◌, ℕ, zero, suc, ◌+◌, ◌<◌, ◌≤◌, ⊎_elim, Bool, true, false, cond, ◌||◌, ◌==◌, Option, Some, None, List, [], ◌∷◌, ◌++◌, length, get_or, set, count_by, sum_by, All, IsTrue, refl, sym, ap, subst, ◌∙◌, arith, length-set, ltb-true, length-append}
+use Rattle.std.proofs.Common.{◌≡◌, ℕ, ◌+◌, ◌<◌, ◌≤◌, ⊎_elim, true, Option, Some, None, List, length, get_or, All, refl, sym, subst, ◌∙◌}
 use Rattle.std.proofs.lemmas.Bool.{leb-true, cases_lt, or_cases, false≢true}
 use Rattle.std.proofs.lemmas.List.{get_or_past}
-use Rattle.std.proofs.lemmas.List.Elements.{All-weaker, All-set, All-push, All-nil}
-use Rattle.std.proofs.lemmas.List.Sums.{sum_by-set}
-use Rattle.std.specs.Option.{ForSome}
+use Rattle.std.proofs.lemmas.List.Elements.{All-nil}
 use Rattle.std.specs.Cmp.{nat_cmp_total, Equal-is}
 use Rattle.std.specs.Ordering.{nat_cmp, eq_by_cmp}
 use Rattle.std.specs.FinSet as finset
-use Rattle.std.specs.Str.{IsUtf8}
 use Rattle.ff_operators.specs.Limits.{most_mass}
 use Rattle.ff_value.specs.declared.ids.NodeId.{NodeId}
 use Rattle.ff_value.specs.declared.ids.PageId.{PageId}
-use Rattle.ff_value.specs.declared.value.Code.{Code}
 use Rattle.ff_machine.specs.declared.records.Shape.{Shape}
 use Rattle.ff_machine.specs.declared.records.Shape.TheVariants as shape
-use Rattle.ff_machine.specs.declared.limits.TheConstants.{MOST_NODES, MOST_TREE_DEPTH}
-use Rattle.ff_machine.specs.Shapes.{page_of, is_started, with_text, as_started, may_have_handlers, may_have_children}
-use Rattle.ff_machine.specs.Nodes as nodes
-use Rattle.ff_machine.specs.Nodes.{Node, no_node, node_at, children, parent, depth, depth_within, at_parent, set_node, page_root_of, root}
-use Rattle.ff_machine.specs.Windows.{Page, nth_page}
+use Rattle.ff_machine.specs.Shapes.{page_of}
+use Rattle.ff_machine.specs.Nodes.{Node, no_node, node_at, page_root_of, root}
 use Rattle.ff_machine.specs.Stores as stores
 use Rattle.ff_machine.specs.Stores.{Stores, Pages, may_weigh}
-use Rattle.ff_machine.specs.Alone.{IsNode, AreNodes, AreTrees}
-use Rattle.ff_machine.specs.References.{Made, Grows, made, CodeRefers, ShapeRefers, NodeRefers, TouchedRefer}
-use Rattle.ff_machine.specs.Valid.{IsStores, AreRooted, AreQueued, count_started}
+use Rattle.ff_machine.specs.References.{Made, made, CodeRefers, ShapeRefers, NodeRefers, TouchedRefer}
+use Rattle.ff_machine.specs.Valid.{IsStores}
 use Rattle.ff_laws.specs.Keeps.{Keeps}
 use Rattle.ff_laws.proofs.Growing as growing
-use Rattle.ff_laws.proofs.Lists.{at_set}
 
 -- The mass and the touched pages.
 

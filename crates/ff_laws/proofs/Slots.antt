@@ -1,6 +1,6 @@
 -- Slots that are filled, scripts that are taken out, and windows that close keep stores valid.
-use Rattle.std.proofs.Common.{◌≡◌, ℕ, zero, suc, ◌+◌, ◌-◌, ◌<◌, ◌≤◌, Bool, true, false, cond, not, ◌==◌, eqb, Option, Some, None, List, [], ◌∷◌, ◌++◌, length, get_or, drop, map, filter, filter_map, All, refl, sym, ap, subst, ◌∙◌, arith, length-drop}
-use Rattle.std.specs.Prelude.{nat_eq, ⊤}
+use Rattle.std.proofs.Common.{◌≡◌, ℕ, ◌-◌, ◌<◌, ◌≤◌, Bool, true, false, cond, not, ◌==◌, List, [], ◌∷◌, length, drop, map, filter, filter_map, refl, arith, length-drop}
+use Rattle.std.specs.Prelude.{nat_eq}
 use Rattle.std.specs.List.{IsDistinct, AllByRecursion}
 use Rattle.std.proofs.lemmas.List.{length-map}
 use Rattle.std.proofs.lemmas.List.Elements.{All-map, All-drop, All-weaker, All-filter}
@@ -15,12 +15,11 @@ use Rattle.ff_machine.specs.Windows as windows
 use Rattle.ff_machine.specs.Windows.{Page, page_at, is_slot, fill_entry, is_win}
 use Rattle.ff_machine.specs.Stores as stores
 use Rattle.ff_machine.specs.Stores.{Stores}
-use Rattle.ff_machine.specs.Alone.{IsEntry, waiting, IsQueue, AreOpen}
+use Rattle.ff_machine.specs.Alone.{IsEntry, waiting, IsQueue}
 use Rattle.ff_machine.specs.References.{made}
 use Rattle.ff_machine.specs.Valid.{IsStores}
 use Rattle.ff_laws.specs.Keeps.{Keeps}
 use Rattle.ff_laws.proofs.Growing.{as_many}
-use Rattle.ff_laws.proofs.LaterWindows.{same_page}
 use Rattle.ff_laws.proofs.Queues.{page_changed}
 
 -- Filling.

@@ -1,14 +1,12 @@
 -- Scripts that start keep stores valid.
-use Rattle.std.proofs.Common.{◌≡◌, ◌≢◌, ℕ, zero, suc, ◌+◌, ◌<◌, ◌≤◌, ⊎_elim, Bool, true, false, cond, not, ◌==◌, eqb, Option, Some, None, List, [], ◌∷◌, ◌++◌, length, get_or, set, filter, count_by, sum_by, All, refl, sym, ap, subst, ◌∙◌, arith, length-append, get_or-set_other, get_or-set_same}
-use Rattle.std.specs.Prelude.{⊤}
+use Rattle.std.proofs.Common.{◌≡◌, ℕ, suc, ◌+◌, ◌<◌, ◌≤◌, ⊎_elim, Bool, true, false, cond, ◌==◌, eqb, List, [], ◌∷◌, ◌++◌, length, filter, sum_by, refl, sym, ap, subst, ◌∙◌, arith, length-append}
 use Rattle.std.specs.List.{AllByRecursion}
-use Rattle.std.proofs.lemmas.Bool.{true≢false, false≢true, cases_lt, eq-eqb, eqb-true, eqb-false}
+use Rattle.std.proofs.lemmas.Bool.{false≢true, cases_lt, eq-eqb, eqb-false}
 use Rattle.std.proofs.lemmas.List.{get_or_past}
 use Rattle.std.proofs.lemmas.List.Sums.{sum_by-set}
 use Rattle.ff_reactive.specs.Turns.{Stepped}
 use Rattle.ff_name.specs.Spelling.{IsDomain}
-use Rattle.ff_name.specs.Address.{IsRequest, IsWellSpelled}
-use Rattle.ff_name.specs.declared.urls.Url.{Url}
+use Rattle.ff_name.specs.Address.{IsRequest}
 use Rattle.ff_name.specs.declared.urls.Url.TheVariants as url
 use Rattle.ff_tree.specs.Spelled.{IsWellSpelledExpr, doc_depth, expr_depth, handler_depth, doc_nesting, expr_nesting, handler_nesting}
 use Rattle.ff_tree.specs.declared.tree.Doc.{Doc}
@@ -23,7 +21,6 @@ use Rattle.ff_value.specs.Spelled.{IsNat}
 use Rattle.ff_value.specs.declared.ids.NodeId.{NodeId}
 use Rattle.ff_value.specs.declared.ids.PageId.{PageId}
 use Rattle.ff_value.specs.declared.output.Out.{Out}
-use Rattle.ff_machine.specs.declared.limits.TheConstants.{MOST_SLOTS}
 use Rattle.ff_machine.specs.declared.records.Dst.TheVariants as dst
 use Rattle.ff_machine.specs.declared.records.Entry.TheVariants.{Ready, Wait}
 use Rattle.ff_machine.specs.declared.records.Shape.{Shape}
@@ -31,12 +28,11 @@ use Rattle.ff_machine.specs.declared.records.Shape.TheVariants as shape
 use Rattle.ff_machine.specs.Shapes.{is_started, is_unstarted, as_started}
 use Rattle.ff_machine.specs.Nodes as nodes
 use Rattle.ff_machine.specs.Nodes.{Node, no_node, node_at, set_node, Walk}
-use Rattle.ff_machine.specs.Windows as windows
 use Rattle.ff_machine.specs.Windows.{Page, no_page, page_at}
 use Rattle.ff_machine.specs.Stores as stores
 use Rattle.ff_machine.specs.Stores.{Stores}
-use Rattle.ff_machine.specs.Alone.{IsShape, IsPage, IsQueue}
-use Rattle.ff_machine.specs.References.{Made, Grows, made}
+use Rattle.ff_machine.specs.Alone.{IsShape, IsPage}
+use Rattle.ff_machine.specs.References.{made}
 use Rattle.ff_machine.specs.Valid.{IsStores, count_started}
 use Rattle.ff_laws.specs.Keeps.{Keeps}
 use Rattle.ff_laws.proofs.Growing.{as_many, grown}
@@ -45,7 +41,7 @@ use Rattle.ff_laws.proofs.Sums.{if_so}
 use Rattle.ff_laws.proofs.Asking.{sent_valid}
 use Rattle.ff_laws.proofs.NodeChanges.{started_valid}
 use Rattle.ff_laws.proofs.Queues.{page_changed, with_ready, with_wait}
-use Rattle.ff_laws.proofs.Walks.{times, scripts_once, same_node}
+use Rattle.ff_laws.proofs.Walks.{times, scripts_once}
 
 -- stores that are kept twice
 pub kept_twice : (a b c : Stores) → Keeps a b → Keeps b c → Keeps a c
@@ -110,9 +106,9 @@ fetched_valid s page domain uri valid lives slack is_domain is_request =
     let asks = stores.sent s domain uri [] to in
     one_keeps s (stores.has_ask_room s domain) (stores.then asks (stores.slotted page)) (stores.queued s page (expr.Lit lit.Null))
     (λ room.
-        let first = sent_valid s domain uri [] to valid is_domain is_request (slot_fits s page valid lives slack) lives room in
-        kept_twice s asks.after (stores.slotted page asks.after).after first
-        (slotted_valid asks.after page first.stores lives (record { entries = slack.entries; slots = slack.slots })))
+    let first = sent_valid s domain uri [] to valid is_domain is_request (slot_fits s page valid lives slack) lives room in
+    kept_twice s asks.after (stores.slotted page asks.after).after first
+    (slotted_valid asks.after page first.stores lives (record { entries = slack.entries; slots = slack.slots })))
     (queued_valid s page valid lives slack (expr.Lit lit.Null) null_spelled)
 
 -- a script of a valid shape begins

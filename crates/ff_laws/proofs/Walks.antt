@@ -1,6 +1,6 @@
 -- A walk of a valid tree comes to each node once at most.
-use Rattle.std.proofs.Common.{◌≡◌, ℕ, zero, suc, ◌+◌, ◌<◌, ◌≤◌, ⊎_elim, Bool, true, false, cond, ◌==◌, eqb, Option, Some, None, List, [], ◌∷◌, ◌++◌, length, filter, flat_map, count_by, All, refl, sym, ap, subst, ◌∙◌, arith}
-use Rattle.std.proofs.lemmas.Bool.{eqb-true, eqb-false, eq-eqb, true≢false, cases_lt}
+use Rattle.std.proofs.Common.{◌≡◌, ℕ, zero, suc, ◌+◌, ◌<◌, ◌≤◌, ⊎_elim, Bool, true, false, cond, ◌==◌, Option, Some, None, List, [], ◌∷◌, ◌++◌, filter, flat_map, count_by, All, refl, sym, ap, subst, ◌∙◌, arith}
+use Rattle.std.proofs.lemmas.Bool.{eqb-true, eq-eqb, true≢false, cases_lt}
 use Rattle.std.proofs.lemmas.List.Elements.{All-head, All-tail}
 use Rattle.std.proofs.lemmas.List.Sums.{sum_by-cons}
 use Rattle.ff_value.specs.declared.ids.NodeId.{NodeId}
@@ -142,15 +142,15 @@ module _ (all : List Node) (trees : AreTrees all) where
   walked_once zero n m = omega arith
   walked_once (suc k) n m =
       subst (λ (t : ℕ). t ≤ 1) (sym (last_step k n m)) (by (n.0 == m.0) (parent all m) refl refl (λ p. walked_once k n p)) where
-    above_none : (p : NodeId) → parent all m ≡ Some p → (n.0 == m.0) ≡ true → times p (walk_within k all n) ≡ 0
-    above_none p q e =
-        ⊎_elim (λ h. absurd (omega (arith, deeper k n p h, depth_child m p q, ap (depth all) (same_node n m e)))) (λ h. omega (arith, h)) (cases_lt 0 (times p (walk_within k all n)))
+        above_none : (p : NodeId) → parent all m ≡ Some p → (n.0 == m.0) ≡ true → times p (walk_within k all n) ≡ 0
+        above_none p q e =
+            ⊎_elim (λ h. absurd (omega (arith, deeper k n p h, depth_child m p q, ap (depth all) (same_node n m e)))) (λ h. omega (arith, h)) (cases_lt 0 (times p (walk_within k all n)))
 
-    by : (b : Bool) (o : Option NodeId) → (n.0 == m.0) ≡ b → parent all m ≡ o → ((p : NodeId) → times p (walk_within k all n) ≤ 1) → if_so b + up k n o ≤ 1
-    by true None e q ih = omega arith
-    by true (Some p) e q ih = let none = above_none p q e in omega (arith, none)
-    by false None e q ih = omega arith
-    by false (Some p) e q ih = let one = ih p in omega (arith, one)
+        by : (b : Bool) (o : Option NodeId) → (n.0 == m.0) ≡ b → parent all m ≡ o → ((p : NodeId) → times p (walk_within k all n) ≤ 1) → if_so b + up k n o ≤ 1
+        by true None e q ih = omega arith
+        by true (Some p) e q ih = let none = above_none p q e in omega (arith, none)
+        by false None e q ih = omega arith
+        by false (Some p) e q ih = let one = ih p in omega (arith, one)
 
 -- the scripts of a tree that weren't started, each once at most
 pub scripts_once : (all : List Node) → AreTrees all → (n m : NodeId) → times m (scripts all n) ≤ 1

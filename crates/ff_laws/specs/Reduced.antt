@@ -1,5 +1,5 @@
 -- What an operator, a redex and a reduction leave, where they don't fail.
-use Rattle.std.specs.Prelude.{◌<◌, Option, Result, Ok, Err, length}
+use Rattle.std.specs.Prelude.{◌<◌, Result, Ok, Err, length}
 use Rattle.ff_value.specs.declared.fault.Fault.{Fault}
 use Rattle.ff_machine.specs.Stores.{Stores}
 use Rattle.ff_machine.specs.Operators.{Did, Outcome}
