@@ -36,3 +36,4 @@ pub mod Rooted
 pub mod Joining
 pub mod Inserting
 pub mod Reducing
+pub mod PureValues
