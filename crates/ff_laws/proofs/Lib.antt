@@ -37,3 +37,5 @@ pub mod Joining
 pub mod Inserting
 pub mod Reducing
 pub mod PureValues
+pub mod Bytes
+pub mod Operating

@@ -25,6 +25,7 @@ use Rattle.ff_operators.specs.Limits.{longest_made, most_mass}
 use Rattle.ff_operators.specs.Operands.{with_operands, one_bool, one_num, two_nums, one_str, two_strs, str_num, str_nums}
 use Rattle.ff_operators.specs.Pure as pure
 use Rattle.ff_operators.proofs.Places.{boundary}
+use Rattle.ff_laws.proofs.Bytes.{text_bytes, got_item}
 use Rattle.ff_machine.specs.References.{Made, ValRefers}
 use Rattle.ff_machine.specs.Valid.{IsVal}
 
@@ -148,3 +149,28 @@ module _ (m : Made) (mass : ℕ) (light : mass ≤ most_mass) where
   byte_fits : (text : List ℕ) (o : Option ℕ) → ((b : ℕ) → o ≡ Some b → b < 256) → IsApplied (pure.byte mass o)
   byte_fits text None h = tt
   byte_fits text (Some b) h = let small = h b refl in number (pos b) (fits_signed_from_abs w64 (pos b) (omega (arith, small)))
+
+  byte_got : (text : List ℕ) (n : ℤ) → IsUtf8 text → (b : ℕ) → pure.byte_at text n ≡ Some b → b < 256
+  byte_got text n is b e = by (int_le (pos 0) n) e where
+    by : (t : Bool) → cond t (slice_get text (nat_abs n)) None ≡ Some b → b < 256
+    by true h = got_item (λ c. c < 256) text (nat_abs n) b h (text_bytes text is)
+    by false h = cc
+
+  -- a pure operator gives a valid value, and a mass within its limit
+  pub apply_valid : (o : Op) (args : List Val) → Are args → IsApplied (pure.apply o args mass)
+  apply_valid op.Add args are = on_nums args _ are (λ a b p q. fitting (a +ℤ b))
+  apply_valid op.Sub args are = on_nums args _ are (λ a b p q. fitting (a -ℤ b))
+  apply_valid op.Mul args are = on_nums args _ are (λ a b p q. fitting (a *ℤ b))
+  apply_valid op.Div args are = on_nums args _ are (λ a b p q. dividing a b (int_div a b) (λ e f. FitsSigned-from_fits (int_div a b) f))
+  apply_valid op.Rem args are = on_nums args _ are (λ a b p q. dividing a b (int_rem a b) (λ e f. remainder a b q e))
+  apply_valid op.Less args are = ordering int_lt pure.text_lt args
+  apply_valid op.AtMost args are = ordering int_le pure.text_le args
+  apply_valid op.Equal args are = equality args
+  apply_valid op.Not args are = on_bool args _ (λ b. truth (not b))
+  apply_valid op.Cat args are = on_strs args _ are (λ a b p q. made_text (a ++ b) (IsUtf8-append a b p q))
+  apply_valid op.Len args are = on_str args _ are (λ a p. fitting (pos (length a)))
+  apply_valid op.Byte args are = on_str_num args _ are (λ a n p. byte_fits a (pure.byte_at a n) (byte_got a n p))
+  apply_valid op.Cut args are = on_str_nums args _ are (λ a n k p. cutting a n k p)
+  apply_valid op.Str args are = on_num args _ are (λ n p. made_text (num_text n) (IsUtf8-from_ascii (num_text n) (IsAscii-signed n p.sfits)))
+  apply_valid op.Num args are = on_str args _ are (λ a p. reading a)
+  apply_valid other args are = tt
