@@ -39,3 +39,4 @@ pub mod Reducing
 pub mod PureValues
 pub mod Bytes
 pub mod Operating
+pub mod Operate

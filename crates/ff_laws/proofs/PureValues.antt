@@ -53,7 +53,8 @@ module _ (m : Made) (mass : ℕ) (light : mass ≤ most_mass) where
   fitting : (n : ℤ) → IsApplied (pure.num_or_overflow mass n)
   fitting n = one_of (fits n) (pure.free mass (val.Num n)) (Err fault.Overflow) (λ e. number n (FitsSigned-from_fits n e)) tt
 
-  made_text : (text : List ℕ) → IsUtf8 text → IsApplied (pure.made mass text)
+  -- a text that is made
+  pub made_text : (text : List ℕ) → IsUtf8 text → IsApplied (pure.made mass text)
   made_text text is =
       one_of (pure.has_room mass (length text)) (Ok (record { value = val.Str text; mass = mass + length text })) (Err fault.Limit)
       (λ e. ((is, tt), leb-true (mass + length text) most_mass (and_parts _ _ e).1)) tt

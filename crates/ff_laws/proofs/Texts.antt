@@ -46,7 +46,8 @@ text_may s n text e = within _ (no_first (nodes.text_fault s.nodes n) (limit_unl
 
 -- Handlers.
 
-takes_one : (code : Code) (xs : List (List ℕ)) → code.params ≡ xs → length xs ≡ 1 → TakesOne code
+-- a function of one parameter takes one
+pub takes_one : (code : Code) (xs : List (List ℕ)) → code.params ≡ xs → length xs ≡ 1 → TakesOne code
 takes_one code [] e h = absurd (omega (arith, h))
 takes_one code (x ∷ []) e h = record { param = x; params = e }
 takes_one code (x ∷ y ∷ xs) e h = absurd (omega (arith, h))
