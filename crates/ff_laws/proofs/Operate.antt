@@ -1,5 +1,5 @@
 -- Each operator keeps valid stores, and gives a valid value for valid operands.
-use Rattle.std.proofs.Common.{◌≡◌, ℕ, zero, suc, ◌+◌, ◌<◌, ◌≤◌, ◌^◌, Bool, true, false, cond, ◌&&◌, ◌==◌, ℤ, pos, int_lt, nat_abs, Option, Some, None, Result, Ok, Err, List, [], ◌∷◌, ◌++◌, length, slice_get, filter, find, flat_map, get_or, All, FitsSigned, arith, refl, sym, ap, subst, ◌∙◌, option_and_then, length-append, length-set}
+use Rattle.std.proofs.Common.{◌≡◌, ℕ, zero, suc, ◌+◌, ◌<◌, ◌≤◌, ◌^◌, Bool, true, false, cond, ◌&&◌, ◌==◌, ℤ, pos, int_lt, nat_abs, ltb, ltb-true, Option, Some, None, Result, Ok, Err, List, [], ◌∷◌, ◌++◌, length, slice_get, filter, find, flat_map, get_or, All, FitsSigned, arith, refl, sym, ap, subst, ◌∙◌, option_and_then, length-append, length-set}
 use Rattle.std.specs.Int.{w64}
 use Rattle.std.specs.Option.{ForSome}
 use Rattle.std.specs.Str.{IsUtf8}
@@ -7,12 +7,13 @@ use Rattle.std.specs.FinMap as finmap
 use Rattle.std.proofs.lemmas.Bool.{and_parts, eqb-true}
 use Rattle.std.proofs.lemmas.Int.{fits_signed_from_abs}
 use Rattle.std.proofs.lemmas.Str.{IsUtf8-append}
-use Rattle.ff_name.proofs.Ascii.{IsUtf8-from_name, IsUtf8-from_domain, IsUtf8-from_request}
+use Rattle.ff_name.proofs.Ascii.{IsUtf8-from_test, IsUtf8-from_name, IsUtf8-from_domain, IsUtf8-from_request}
 use Rattle.ff_name.proofs.Reading.{IsName-from}
 use Rattle.ff_name.specs.Reading.{is_name}
 use Rattle.std.proofs.lemmas.List.Elements.{All-head, All-tail, All-nil, All-cons, All-append, All-filter}
 use Rattle.ff_name.specs.Spelling.{IsDomain}
-use Rattle.ff_name.specs.Address.{IsWellSpelled, printed}
+use Rattle.ff_name.specs.Address.{IsWellSpelled, scheme, printed}
+use Rattle.std.specs.List.{list_all}
 use Rattle.ff_name.specs.Reading.{read_url}
 use Rattle.ff_name.specs.declared.urls.Url.{Url}
 use Rattle.ff_name.specs.declared.urls.Url.TheVariants as url
@@ -119,13 +120,18 @@ or_null_valid : {X : Type 0} (P : Val → Type 0) (f : X → Val) (o : Option X)
 or_null_valid P f None null some = null
 or_null_valid P f (Some x) null some = some x refl
 
-cookie_of : (m : Val → Type 0) (jar : net.Jar) (domain : Option (List ℕ)) (key v : List ℕ) → ((d : List ℕ) → net.cookie jar d key ≡ Some v → IsUtf8 v) → option_and_then (λ d. net.cookie jar d key) domain ≡ Some v → IsUtf8 v
-cookie_of m jar None key v h e = cc
-cookie_of m jar (Some d) key v h e = h d e
+cookie_of : (jar : net.Jar) (domain : Option (List ℕ)) (key v : List ℕ) → ((d : List ℕ) → net.cookie jar d key ≡ Some v → IsUtf8 v) → option_and_then (λ d. net.cookie jar d key) domain ≡ Some v → IsUtf8 v
+cookie_of jar None key v h e = cc
+cookie_of jar (Some d) key v h e = h d e
 
+ascii_text : (bytes : List ℕ) → list_all (λ b. ltb b 128) bytes ≡ true → IsUtf8 bytes
+ascii_text bytes e = IsUtf8-from_test (λ b. ltb b 128) (λ b h. ltb-true b 128 h) bytes e
+
+-- a well spelled address is printed as a text
 printed_text : (u : Url) → IsWellSpelled u → IsUtf8 (printed u)
-printed_text url.Blank is = ?
-printed_text (url.At domain uri) is = ?
+printed_text url.Blank is = ascii_text (printed url.Blank) refl
+printed_text (url.At domain uri) is =
+    IsUtf8-append scheme (domain ++ uri) (ascii_text scheme refl) (IsUtf8-append domain uri (IsUtf8-from_domain domain is.0) (IsUtf8-from_request uri is.1.made_of))
 
 module _ (s : Stores) (page : PageId) (valid : IsStores s) (lives : page.0 < length s.windows.pages) where
   abbrev own : Page
@@ -202,3 +208,57 @@ module _ (s : Stores) (page : PageId) (valid : IsStores s) (lives : page.0 < len
       (if_room s (stores.has_ask_room s domain) (stores.sent s domain uri body (dst.Call page code))
           (sent_valid s domain uri body (dst.Call page code) valid spelled.0 spelled.1 (record { spelled = is.0; takes_one = takes_one code code.params refl (eqb-true (length code.params) 1 one) }) (lives, is.1)))
       (λ t k. (tt, tt))
+
+  node_shape : (n : NodeId) → n.0 < length s.nodes → IsShape (node_at s.nodes n).shape
+  node_shape n h = (valid.nodes.each n.0 no_node h).shape
+
+  named_there : (name : List ℕ) (w : WinId) → windows.named s.windows name ≡ Some w → w.0 < length s.windows.windows
+  named_there name w e = found_item (λ v. v.0 < length s.windows.windows) _ s.windows.opened w valid.windows.opened.there e
+
+  count_fits : (n : NodeId) → FitsSigned w64 (pos (length (children s.nodes n)))
+  count_fits n =
+      let few = children_few s.nodes valid.nodes.trees n in
+      let all = valid.nodes.few in
+      fits_signed_from_abs w64 (pos (length (children s.nodes n))) (omega (arith, few, all))
+
+  -- an operator with valid operands keeps the stores, and gives a valid value
+  pub operate_valid : (o : Op) (args : List Val) → All (IsVal (made s)) args → KeepsUnlessFault s (operate s page o args)
+  operate_valid op.Cookie args are = on_str s valid args _ are (λ key p.
+      value_given s valid _ (or_null_valid (IsVal (made s)) val.Str _ (tt, tt) (λ v e. (cookie_of s.jar (operators.page_domain s page) key v (λ d f. (valid.jar.each d key v f).value_is) e, tt))))
+  operate_valid op.SetCookie args are = on_strs s valid args _ are (λ key value p q. set_cookie_valid (operators.page_domain s page) key value (λ d e. url_domain own.url d own_page.url e) p q)
+  operate_valid op.DelCookie args are = on_str s valid args _ are (λ key p. del_cookie_valid (operators.page_domain s page) key)
+  operate_valid op.SelfWindow args are = on_none s valid args _ (value_given s valid (val.Win own.win) (tt, own_refers.win))
+  operate_valid op.Opener args are = on_win s valid args _ are (λ w there. with_open s valid w _ (value_given s valid _
+      (or_null_valid (IsVal (made s)) val.Win _ (tt, tt) (λ v e. (tt, (valid.windows.windows w.0 no_window there).opener v e)))))
+  operate_valid op.Live args are = on_win s valid args _ are (λ w there. value_given s valid (val.Bool (is_open s.windows w)) (tt, tt))
+  operate_valid op.Url args are = on_win s valid args _ are (λ w there.
+      let shows = page_at s.windows (window_at s.windows w).page in
+      let is : IsPage (length s.windows.acts) shows = valid.windows.pages.each (window_at s.windows w).page.0 no_page (shown_page w there) in
+      with_open s valid w _ (applied s valid light _ (made_text (made s) s.mass light (printed shows.url) (printed_text shows.url is.url))))
+  operate_valid op.Page args are = on_win s valid args _ are (λ w there.
+      let is : PageRefers (made s) (page_at s.windows (window_at s.windows w).page) = valid.refer.pages (window_at s.windows w).page.0 no_page (shown_page w there) in
+      with_open s valid w _ (value_given s valid _ (tt, is.root)))
+  operate_valid op.Window args are = on_str s valid args _ are (λ name p. value_given s valid _ (or_null_valid (IsVal (made s)) val.Win _ (tt, tt) (λ w e. (tt, named_there name w e))))
+  operate_valid op.Open args are = on_str s valid args _ are (λ address p. with_url s valid address _ (λ u is. open_at_valid None u (λ o e. cc) is))
+  operate_valid op.OpenNamed args are = on_strs s valid args _ are (λ name address p q. with_url s valid address _ (λ u is. open_named_valid name u (windows.named s.windows name) (named_there name) p is))
+  operate_valid op.Go args are = on_win_str s valid args _ are (λ w address there. with_open s valid w _ (with_url s valid address _ (λ u is. or_limit s valid val.Null (stores.go s w u) (go_valid s w u valid there is) (λ t k. (tt, tt)))))
+  operate_valid op.Close args are = on_win s valid args _ are (λ w there. with_open s valid w _ (record { keeps = closed_valid s w valid; value = (tt, tt) }))
+  operate_valid op.Kind args are = on_node s valid args _ are (λ n there. value_given s valid _ (word_text (kind_of (node_at s.nodes n).shape), tt))
+  operate_valid op.Text args are = on_node s valid args _ are (λ n there. text_valid (text_of (node_at s.nodes n).shape) (λ t e. shape_text (node_at s.nodes n).shape t (node_shape n there) e))
+  operate_valid op.SetText args are = on_node_str s valid args _ are (λ n t there p.
+      unless_fault s valid (stores.set_text_fault s n t) _ (λ no. record { keeps = with_text_valid s n t valid there p (text_may s n t no); value = (tt, tt) }))
+  operate_valid op.Count args are = on_node s valid args _ are (λ n there. value_given s valid _ (count_fits n, tt))
+  operate_valid op.Child args are = on_node_num s valid args _ are (λ n k there.
+      child_valid (operators.item_at (children s.nodes n) k) (λ c e. item_below (length s.nodes) (children s.nodes n) k c (valid.nodes.trees.below n) e))
+  operate_valid op.Find args are = on_node_str s valid args _ are (λ n x there p.
+      value_given s valid _ (or_null_valid (IsVal (made s)) val.Node _ (tt, tt) (λ m e. (tt, found_item (λ c. c.0 < length s.nodes) _ (Walk s.nodes n) m (walked_below s.nodes valid.nodes.trees n there) e))))
+  operate_valid op.Nth args are = on_node_str_num s valid args _ are (λ n word k there.
+      value_given s valid _ (or_null_valid (IsVal (made s)) val.Node _ (tt, tt)
+      (λ m e. (tt, item_below (length s.nodes) (nodes.of_word s.nodes n word) k m (All-filter _ (λ c. c.0 < length s.nodes) (Walk s.nodes n) (walked_below s.nodes valid.nodes.trees n there)) e))))
+  operate_valid op.Insert args are = on_nodes_num s valid args _ are (λ n c k there also.
+      unless_fault s valid (nodes.insert_fault s.nodes n c k) _ (λ no. record { keeps = inserted_valid s n c k (nat_abs k) valid there also no; value = (tt, tt) }))
+  operate_valid op.Listen args are = on_node_code s valid args _ are (λ n code there is.
+      unless_fault s valid (nodes.handler_fault s.nodes n code) _ (λ no. record { keeps = handler_added_valid s n code valid there is no; value = (tt, tt) }))
+  operate_valid op.Ask args are = on_strs_code s valid args _ are (λ address body code p q is.
+      one_outcome s valid (length code.params == 1) _ (Err fault.Kind) (λ one. with_url s valid address _ (λ u spelled. ask_at_valid body code u is one spelled)) tt)
+  operate_valid pure args are = applied s valid light _ (apply_valid (made s) s.mass light pure args are)
