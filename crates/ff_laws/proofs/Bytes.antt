@@ -1,5 +1,5 @@
 -- The bytes of a text are bytes.
-use Rattle.std.proofs.Common.{◌≡◌, ℕ, zero, suc, ◌+◌, ◌/◌, ◌%◌, ◌<◌, ◌≤◌, Bool, true, false, cond, ◌&&◌, ltb, leb, ltb-true, Option, Some, None, List, [], ◌∷◌, ◌++◌, slice_get, get_or, length, All, encode_utf8_all, arith, refl, sym, ap, subst, ◌∙◌}
+use Rattle.std.proofs.Common.{◌≡◌, ℕ, ◌+◌, ◌/◌, ◌%◌, ◌<◌, Bool, true, false, cond, ◌&&◌, ltb, leb, ltb-true, Some, List, [], ◌∷◌, slice_get, All, encode_utf8_all, arith, refl, subst}
 use Rattle.std.specs.Str.{IsUtf8}
 use lib.Utf8.{scalars}
 use Rattle.std.specs.Char.{IsScalar, encode_utf8}

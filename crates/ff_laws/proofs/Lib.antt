@@ -39,4 +39,5 @@ pub mod Reducing
 pub mod PureValues
 pub mod Bytes
 pub mod Operating
+pub mod Readings
 pub mod Operate

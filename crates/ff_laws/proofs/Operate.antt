@@ -1,20 +1,13 @@
 -- Each operator keeps valid stores, and gives a valid value for valid operands.
-use Rattle.std.proofs.Common.{◌≡◌, ℕ, zero, suc, ◌+◌, ◌<◌, ◌≤◌, ◌^◌, Bool, true, false, cond, ◌&&◌, ◌==◌, ℤ, pos, int_lt, nat_abs, ltb, ltb-true, Option, Some, None, Result, Ok, Err, List, [], ◌∷◌, ◌++◌, length, slice_get, filter, find, flat_map, get_or, All, FitsSigned, arith, refl, sym, ap, subst, ◌∙◌, option_and_then, length-append, length-set}
+use Rattle.std.proofs.Common.{◌≡◌, ℕ, ◌<◌, ◌≤◌, Bool, true, false, cond, ◌&&◌, ◌==◌, pos, nat_abs, Option, Some, None, Err, List, [], ◌∷◌, length, All, FitsSigned, arith, refl, subst, length-append}
 use Rattle.std.specs.Int.{w64}
 use Rattle.std.specs.Option.{ForSome}
 use Rattle.std.specs.Str.{IsUtf8}
-use Rattle.std.specs.FinMap as finmap
 use Rattle.std.proofs.lemmas.Bool.{and_parts, eqb-true}
 use Rattle.std.proofs.lemmas.Int.{fits_signed_from_abs}
-use Rattle.std.proofs.lemmas.Str.{IsUtf8-append}
-use Rattle.ff_name.proofs.Ascii.{IsUtf8-from_test, IsUtf8-from_name, IsUtf8-from_domain, IsUtf8-from_request}
-use Rattle.ff_name.proofs.Reading.{IsName-from}
-use Rattle.ff_name.specs.Reading.{is_name}
-use Rattle.std.proofs.lemmas.List.Elements.{All-head, All-tail, All-nil, All-cons, All-append, All-filter}
+use Rattle.std.proofs.lemmas.List.Elements.{All-filter}
 use Rattle.ff_name.specs.Spelling.{IsDomain}
-use Rattle.ff_name.specs.Address.{IsWellSpelled, scheme, printed}
-use Rattle.std.specs.List.{list_all}
-use Rattle.ff_name.specs.Reading.{read_url}
+use Rattle.ff_name.specs.Address.{IsWellSpelled, printed}
 use Rattle.ff_name.specs.declared.urls.Url.{Url}
 use Rattle.ff_name.specs.declared.urls.Url.TheVariants as url
 use Rattle.ff_tree.specs.declared.op.Op.{Op}
@@ -27,14 +20,8 @@ use Rattle.ff_value.specs.declared.value.Code.{Code}
 use Rattle.ff_value.specs.declared.value.Val.{Val}
 use Rattle.ff_value.specs.declared.value.Val.TheVariants as val
 use Rattle.ff_operators.specs.Limits.{most_mass}
-use Rattle.ff_operators.specs.Pure as pure
-use Rattle.ff_machine.specs.declared.kinds.Kind.{Kind}
-use Rattle.ff_machine.specs.declared.kinds.Kind.TheVariants as kind
-use Rattle.ff_machine.specs.declared.limits.TheConstants.{MOST_NODES, MOST_TREE_DEPTH}
 use Rattle.ff_machine.specs.declared.records.Dst.TheVariants as dst
-use Rattle.ff_machine.specs.declared.records.Shape.{Shape}
-use Rattle.ff_machine.specs.declared.records.Shape.TheVariants as shape
-use Rattle.ff_machine.specs.Shapes.{kind_of, kind_word, text_of}
+use Rattle.ff_machine.specs.Shapes.{kind_of, text_of}
 use Rattle.ff_machine.specs.Nodes as nodes
 use Rattle.ff_machine.specs.Nodes.{Node, no_node, node_at, children, walk_within, Walk}
 use Rattle.ff_machine.specs.Windows as windows
@@ -44,94 +31,22 @@ use Rattle.ff_machine.specs.Stores as stores
 use Rattle.ff_machine.specs.Stores.{Stores}
 use Rattle.ff_machine.specs.Operators as operators
 use Rattle.ff_machine.specs.Operators.{Outcome, operate, unless, does, does_or_limit}
-use Rattle.ff_machine.specs.Alone.{IsShape, IsPage, IsWindow, IsHandler, AreTrees}
+use Rattle.ff_machine.specs.Alone.{IsShape, IsPage, IsWindow}
 use Rattle.ff_machine.specs.References.{made, PageRefers}
 use Rattle.ff_machine.specs.Valid.{IsCode, IsVal, IsStores}
 use Rattle.ff_machine.proofs.Children.{children_few}
-use Rattle.ff_laws.specs.Keeps.{Keeps, KeepsIfMade}
+use Rattle.ff_laws.specs.Keeps.{Keeps}
 use Rattle.ff_laws.specs.Reduced.{KeepsUnlessFault}
 use Rattle.ff_laws.proofs.Asking.{sent_valid}
-use Rattle.ff_laws.proofs.Bytes.{got_item}
 use Rattle.ff_laws.proofs.Cookies.{jar_changed, put_valid, deleted_valid}
 use Rattle.ff_laws.proofs.Inserting.{inserted_valid}
 use Rattle.ff_laws.proofs.Loading.{if_room, opened_valid, go_valid}
 use Rattle.ff_laws.proofs.Operating.{value_given, unless_fault, or_limit, one_outcome, with_open, with_url, applied, on_none, on_str, on_strs, on_win, on_win_str, on_node, on_node_str, on_node_num, on_node_str_num, on_nodes_num, on_node_code, on_strs_code}
-use Rattle.ff_laws.proofs.PureValues.{IsApplied, made_text, apply_valid}
+use Rattle.ff_laws.proofs.PureValues.{made_text, apply_valid}
 use Rattle.ff_laws.proofs.Slots.{closed_valid}
 use Rattle.ff_laws.proofs.Starting.{kept, kept_twice}
 use Rattle.ff_laws.proofs.Texts.{takes_one, text_may, with_text_valid, handler_added_valid}
-
-name_text : (bytes : List ℕ) → is_name bytes ≡ true → IsUtf8 bytes
-name_text bytes e = IsUtf8-from_name bytes (IsName-from bytes e)
-
-word_text : (k : Kind) → IsUtf8 (kind_word k)
-word_text kind.Page = name_text (kind_word kind.Page) refl
-word_text kind.Text = name_text (kind_word kind.Text) refl
-word_text kind.Link = name_text (kind_word kind.Link) refl
-word_text kind.TextBox = name_text (kind_word kind.TextBox) refl
-word_text kind.Button = name_text (kind_word kind.Button) refl
-word_text kind.Script = name_text (kind_word kind.Script) refl
-word_text kind.Src = name_text (kind_word kind.Src) refl
-word_text kind.Div = name_text (kind_word kind.Div) refl
-
-url_domain : (u : Url) (d : List ℕ) → IsWellSpelled u → operators.domain_of u ≡ Some d → IsDomain d
-url_domain url.Blank d is e = cc
-url_domain (url.At domain uri) d is e = let same : domain ≡ d = cc in subst IsDomain same is.0
-
-shape_text : (x : Shape) (t : List ℕ) → IsShape x → text_of x ≡ Some t → IsUtf8 t
-shape_text (shape.Text x text) t is e = let same : text ≡ t = cc in subst IsUtf8 same is.1
-shape_text (shape.Link x u text) t is e = let same : text ≡ t = cc in subst IsUtf8 same is.2
-shape_text (shape.TextBox x text) t is e = let same : text ≡ t = cc in subst IsUtf8 same is.1
-shape_text (shape.Button x text) t is e = let same : text ≡ t = cc in subst IsUtf8 same is.1
-shape_text other t is e = cc
-
-found_item : {X : Type 0} (P : X → Type 0) (test : X → Bool) (xs : List X) (x : X) → All P xs → find test xs ≡ Some x → P x
-found_item P test [] x all e = cc
-found_item P test (y ∷ ys) x all e = by (test y) e (λ h. found_item P test ys x (All-tail P y ys all) h) where
-  by : (b : Bool) → cond b (Some y) (find test ys) ≡ Some x → (find test ys ≡ Some x → P x) → P x
-  by true h rest = let same : y ≡ x = cc in subst P same (All-head P y ys all)
-  by false h rest = rest h
-
--- Walks stay among the nodes.
-
-flat_below : (size : ℕ) (f : NodeId → List NodeId) (cs : List NodeId) → All (λ c. c.0 < size) cs → ((c : NodeId) → c.0 < size → All (λ m. m.0 < size) (f c)) → All (λ m. m.0 < size) (flat_map f cs)
-flat_below size f [] h each = All-nil (λ m. m.0 < size)
-flat_below size f (c ∷ cs) h each =
-    All-append (λ m. m.0 < size) (f c) (flat_map f cs) (each c (All-head (λ m. m.0 < size) c cs h)) (flat_below size f cs (All-tail (λ m. m.0 < size) c cs h) each)
-
-walk_below : (all : List Node) → AreTrees all → (k : ℕ) (n : NodeId) → n.0 < length all → All (λ m. m.0 < length all) (walk_within k all n)
-walk_below all trees zero n h = All-nil (λ m. m.0 < length all)
-walk_below all trees (suc k) n h =
-    All-cons (λ m. m.0 < length all) n (flat_map (walk_within k all) (children all n)) h
-    (flat_below (length all) (walk_within k all) (children all n) (trees.below n) (λ c lt. walk_below all trees k c lt))
-
-walked_below : (all : List Node) → AreTrees all → (n : NodeId) → n.0 < length all → All (λ m. m.0 < length all) (Walk all n)
-unfolding Walk
-walked_below all trees n h = walk_below all trees (suc MOST_TREE_DEPTH) n h
-
-item_below : (size : ℕ) (xs : List NodeId) (k : ℤ) (n : NodeId) → All (λ m. m.0 < size) xs → operators.item_at xs k ≡ Some n → n.0 < size
-item_below size xs k n all e = by (int_lt k (pos 0)) e where
-  by : (b : Bool) → cond b None (slice_get xs (nat_abs k)) ≡ Some n → n.0 < size
-  by true h = cc
-  by false h = got_item (λ m. m.0 < size) xs (nat_abs k) n h all
-
--- a value or null
-or_null_valid : {X : Type 0} (P : Val → Type 0) (f : X → Val) (o : Option X) → P val.Null → ((x : X) → o ≡ Some x → P (f x)) → P (operators.or_null f o)
-or_null_valid P f None null some = null
-or_null_valid P f (Some x) null some = some x refl
-
-cookie_of : (jar : net.Jar) (domain : Option (List ℕ)) (key v : List ℕ) → ((d : List ℕ) → net.cookie jar d key ≡ Some v → IsUtf8 v) → option_and_then (λ d. net.cookie jar d key) domain ≡ Some v → IsUtf8 v
-cookie_of jar None key v h e = cc
-cookie_of jar (Some d) key v h e = h d e
-
-ascii_text : (bytes : List ℕ) → list_all (λ b. ltb b 128) bytes ≡ true → IsUtf8 bytes
-ascii_text bytes e = IsUtf8-from_test (λ b. ltb b 128) (λ b h. ltb-true b 128 h) bytes e
-
--- a well spelled address is printed as a text
-printed_text : (u : Url) → IsWellSpelled u → IsUtf8 (printed u)
-printed_text url.Blank is = ascii_text (printed url.Blank) refl
-printed_text (url.At domain uri) is =
-    IsUtf8-append scheme (domain ++ uri) (ascii_text scheme refl) (IsUtf8-append domain uri (IsUtf8-from_domain domain is.0) (IsUtf8-from_request uri is.1.made_of))
+use Rattle.ff_laws.proofs.Readings.{word_text, url_domain, shape_text, found_item, walked_below, item_below, or_null_valid, cookie_of, printed_text}
 
 module _ (s : Stores) (page : PageId) (valid : IsStores s) (lives : page.0 < length s.windows.pages) where
   abbrev own : Page
@@ -178,10 +93,10 @@ module _ (s : Stores) (page : PageId) (valid : IsStores s) (lives : page.0 < len
       let t = (stores.opened s name (Some own.win)).after in
       one_outcome s valid (stores.has_window_room s && stores.has_ask_room s domain) _ (Err fault.Limit)
       (λ e.
-          let rooms = and_parts (stores.has_window_room s) (stores.has_ask_room s domain) e in
-          let there : w.0 < length t.windows.windows = omega (arith, length-append s.windows.windows (record { name = name; opener = Some own.win; page = windows.next_page s.windows } ∷ [])) in
-          let first = opened_valid s name (Some own.win) valid named (λ o f. let same : own.win ≡ o = cc in subst (λ (v : WinId). v.0 < length s.windows.windows) same own_refers.win) rooms.0 in
-          record { keeps = kept_twice s t (stores.sent t domain uri [] (dst.Window w)).after first (sent_valid t domain uri [] (dst.Window w) first.stores is.0 is.1 tt there rooms.1); value = (tt, there) })
+      let rooms = and_parts (stores.has_window_room s) (stores.has_ask_room s domain) e in
+      let there : w.0 < length t.windows.windows = omega (arith, length-append s.windows.windows (record { name = name; opener = Some own.win; page = windows.next_page s.windows } ∷ [])) in
+      let first = opened_valid s name (Some own.win) valid named (λ o f. let same : own.win ≡ o = cc in subst (λ (v : WinId). v.0 < length s.windows.windows) same own_refers.win) rooms.0 in
+      record { keeps = kept_twice s t (stores.sent t domain uri [] (dst.Window w)).after first (sent_valid t domain uri [] (dst.Window w) first.stores is.0 is.1 tt there rooms.1); value = (tt, there) })
       tt
 
   win_stays : (w : WinId) → w.0 < length s.windows.windows → (t : Stores) → Keeps s t → IsVal (made t) (val.Win w)
@@ -206,7 +121,7 @@ module _ (s : Stores) (page : PageId) (valid : IsStores s) (lives : page.0 < len
   ask_at_valid body code (url.At domain uri) is one spelled =
       or_limit s valid val.Null (stores.send s domain uri body (dst.Call page code))
       (if_room s (stores.has_ask_room s domain) (stores.sent s domain uri body (dst.Call page code))
-          (sent_valid s domain uri body (dst.Call page code) valid spelled.0 spelled.1 (record { spelled = is.0; takes_one = takes_one code code.params refl (eqb-true (length code.params) 1 one) }) (lives, is.1)))
+      (sent_valid s domain uri body (dst.Call page code) valid spelled.0 spelled.1 (record { spelled = is.0; takes_one = takes_one code code.params refl (eqb-true (length code.params) 1 one) }) (lives, is.1)))
       (λ t k. (tt, tt))
 
   node_shape : (n : NodeId) → n.0 < length s.nodes → IsShape (node_at s.nodes n).shape

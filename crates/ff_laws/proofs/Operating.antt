@@ -1,26 +1,16 @@
 -- Operators on valid stores with valid operands keep the stores, and give valid values.
-use Rattle.std.proofs.Common.{◌≡◌, ℕ, zero, suc, ◌+◌, ◌<◌, ◌≤◌, Bool, true, false, cond, ◌&&◌, ◌==◌, ℤ, pos, int_lt, nat_abs, ◌^◌, Option, Some, None, Result, Ok, Err, List, [], ◌∷◌, ◌++◌, length, slice_get, filter, find, flat_map, get_or, All, FitsSigned, arith, refl, sym, ap, subst, ◌∙◌, option_and_then}
-use Rattle.std.specs.Prelude.{⊤}
-use Rattle.std.specs.Int.{w64}
-use Rattle.std.specs.Option.{ForSome}
+use Rattle.std.proofs.Common.{◌≡◌, ℕ, ◌<◌, ◌≤◌, Bool, true, false, cond, ℤ, Option, Some, None, Result, Ok, Err, List, [], ◌∷◌, length, All, refl}
 use Rattle.std.specs.Str.{IsUtf8}
-use Rattle.std.specs.FinMap as finmap
-use Rattle.std.proofs.lemmas.Bool.{and_parts}
-use Rattle.std.proofs.lemmas.Int.{fits_signed_from_abs}
-use Rattle.std.proofs.lemmas.List.Elements.{All-head, All-tail, All-nil}
+use Rattle.std.proofs.lemmas.List.Elements.{All-head, All-tail}
 use Rattle.ff_reactive.specs.Turns.{Stepped}
 use Rattle.ff_name.specs.Address.{IsWellSpelled, Spells, IsRequest}
 use Rattle.ff_name.specs.Address.Spells.{as_printed, with_no_request}
 use Rattle.ff_name.specs.Reading.{read_url}
 use Rattle.ff_name.proofs.Reading.{read_url_spelled, IsRequest-from}
 use Rattle.ff_name.specs.declared.urls.Url.{Url}
-use Rattle.ff_name.specs.declared.urls.Url.TheVariants as url
-use Rattle.ff_tree.specs.declared.op.Op.{Op}
-use Rattle.ff_tree.specs.declared.op.Op.TheVariants as op
 use Rattle.ff_value.specs.declared.fault.Fault.{Fault}
 use Rattle.ff_value.specs.declared.fault.Fault.TheVariants as fault
 use Rattle.ff_value.specs.declared.ids.WinId.{WinId}
-use Rattle.ff_value.specs.declared.ids.PageId.{PageId}
 use Rattle.ff_value.specs.declared.ids.NodeId.{NodeId}
 use Rattle.ff_value.specs.declared.output.Out.{Out}
 use Rattle.ff_value.specs.declared.value.Code.{Code}
@@ -29,7 +19,6 @@ use Rattle.ff_value.specs.declared.value.Val.TheVariants as val
 use Rattle.ff_operators.specs.declared.answer.Applied.{Applied}
 use Rattle.ff_operators.specs.Limits.{most_mass}
 use Rattle.ff_operators.specs.Operands.{with_operands, no_operands, one_str, two_strs, one_win, win_str, one_node, node_str, node_num, node_str_num, nodes_num, node_code, strs_code}
-use Rattle.ff_machine.specs.Stores as stores
 use Rattle.ff_machine.specs.Stores.{Stores}
 use Rattle.ff_machine.specs.Windows.{is_open}
 use Rattle.ff_machine.specs.Operators as operators

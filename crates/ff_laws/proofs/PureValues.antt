@@ -1,5 +1,5 @@
 -- What pure operators give for valid operands is valid.
-use Rattle.std.proofs.Common.{◌≡◌, ℕ, zero, suc, ◌+◌, ◌-◌, ◌^◌, ◌<◌, ◌≤◌, Bool, true, false, cond, not, ◌&&◌, ◌||◌, ◌==◌, ◌+ℤ◌, ◌-ℤ◌, ◌*ℤ◌, ℤ, pos, negsuc, int_lt, int_le, int_div, int_rem, nat_abs, unsigned_abs, Option, Some, None, Result, Ok, Err, List, [], ◌∷◌, ◌++◌, take, drop, length, slice_get, All, IsSome, FitsSigned, arith, refl, sym, ap, subst, ◌∙◌, bytes_eq}
+use Rattle.std.proofs.Common.{◌≡◌, ℕ, zero, suc, ◌+◌, ◌-◌, ◌<◌, ◌≤◌, Bool, true, false, cond, not, ◌&&◌, ◌||◌, ◌+ℤ◌, ◌-ℤ◌, ◌*ℤ◌, ℤ, pos, negsuc, int_lt, int_le, int_div, int_rem, nat_abs, Option, Some, None, Result, Ok, Err, List, [], ◌∷◌, ◌++◌, take, drop, length, slice_get, All, FitsSigned, arith, refl, bytes_eq}
 use Rattle.std.specs.Prelude.{⊤, nat_le}
 use Rattle.std.specs.Int.{w64}
 use Rattle.std.specs.Ordering.{int_eq}
@@ -19,14 +19,13 @@ use Rattle.ff_value.specs.declared.fault.Fault.{Fault}
 use Rattle.ff_value.specs.declared.fault.Fault.TheVariants as fault
 use Rattle.ff_value.specs.declared.value.Val.{Val}
 use Rattle.ff_value.specs.declared.value.Val.TheVariants as val
-use Rattle.ff_value.specs.Spelled.{IsWellSpelledVal}
 use Rattle.ff_operators.specs.declared.answer.Applied.{Applied}
-use Rattle.ff_operators.specs.Limits.{longest_made, most_mass}
+use Rattle.ff_operators.specs.Limits.{most_mass}
 use Rattle.ff_operators.specs.Operands.{with_operands, one_bool, one_num, two_nums, one_str, two_strs, str_num, str_nums}
 use Rattle.ff_operators.specs.Pure as pure
 use Rattle.ff_operators.proofs.Places.{boundary}
 use Rattle.ff_laws.proofs.Bytes.{text_bytes, got_item}
-use Rattle.ff_machine.specs.References.{Made, ValRefers}
+use Rattle.ff_machine.specs.References.{Made}
 use Rattle.ff_machine.specs.Valid.{IsVal}
 
 module _ (m : Made) (mass : ℕ) (light : mass ≤ most_mass) where
@@ -124,9 +123,9 @@ module _ (m : Made) (mass : ℕ) (light : mass ≤ most_mass) where
   cutting text from to is =
       cut_place text from to (pure.is_place text from && pure.is_place text to && nat_le (nat_abs from) (nat_abs to))
       (λ e.
-          let one = and_parts (pure.is_place text from && pure.is_place text to) (nat_le (nat_abs from) (nat_abs to)) e in
-          let two = and_parts (pure.is_place text from) (pure.is_place text to) one.0 in
-          IsUtf8-between text (nat_abs from) (nat_abs to) is (leb-true (nat_abs from) (nat_abs to) one.1) (boundary text from (nat_abs from) two.0 refl) (boundary text to (nat_abs to) two.1 refl))
+      let one = and_parts (pure.is_place text from && pure.is_place text to) (nat_le (nat_abs from) (nat_abs to)) e in
+      let two = and_parts (pure.is_place text from) (pure.is_place text to) one.0 in
+      IsUtf8-between text (nat_abs from) (nat_abs to) is (leb-true (nat_abs from) (nat_abs to) one.1) (boundary text from (nat_abs from) two.0 refl) (boundary text to (nat_abs to) two.1 refl))
 
   zero_or : (b : Bool) (n : ℤ) → (b ≡ true → FitsSigned w64 n) → IsApplied (pure.free mass (pure.num_or_null (cond b (Some n) None)))
   zero_or true n h = number n (h refl)

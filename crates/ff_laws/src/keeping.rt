@@ -17,7 +17,6 @@ ghost use Rattle.ff_value.specs.declared.reply.CookieOp.{CookieOp};
 ghost use Rattle.ff_value.specs.declared.value.Code.{Code};
 ghost use Rattle.ff_value.specs.declared.value.Val.{Val};
 ghost use Rattle.ff_term.specs.Running.{Running, Evaluation, is_value};
-ghost use Rattle.ff_term.specs.declared.redex.Redex.TheVariants as redex;
 ghost use Rattle.ff_machine.specs.declared.records.Dst.{Dst};
 ghost use Rattle.ff_machine.specs.Nodes as nodes;
 ghost use Rattle.ff_machine.specs.Windows as windows;
@@ -29,7 +28,7 @@ ghost use Rattle.ff_machine.specs.Reduction.{Red, with_acts, make_tree};
 ghost use Rattle.ff_machine.specs.State.{Task};
 ghost use Rattle.ff_machine.specs.Alone.{IsDst};
 ghost use Rattle.ff_machine.specs.References.{Made, Grows, made, DstRefers, StoresRefer};
-ghost use Rattle.ff_machine.specs.Valid.{IsCode, IsVal, IsRunning, IsRedex, IsStores, IsTask};
+ghost use Rattle.ff_machine.specs.Valid.{IsCode, IsVal, IsRunning, IsStores, IsTask};
 ghost use Rattle.ff_laws.specs.Keeps.{Keeps, KeepsIfMade};
 ghost use Rattle.ff_laws.specs.Reduced.{KeepsUnlessFault, MovesUnlessFault};
 
@@ -76,7 +75,13 @@ pub fn windows_keep_stores_valid()
     ensures popped { (s : Stores) (p : PageId) → IsStores s → p.0 < length s.windows.pages → Keeps s (record s { windows = windows.popped s.windows p }) }
 {}
 
-/// One reduction keeps stores and the evaluation valid, if operators do.
+/// Each operator, for a page that was made and with valid operands, keeps stores valid and gives a
+/// valid value.
+pub fn operators_keep_stores_valid()
+    ensures { (s : Stores) (page : PageId) → IsStores s → page.0 < length s.windows.pages → (op : Op) (args : List Val) → All (IsVal (made s)) args → KeepsUnlessFault s (operate s page op args) }
+{}
+
+/// One reduction, for a page that was made, keeps stores and the evaluation valid.
 pub fn a_reduction_keeps_stores_valid()
-    ensures { (s : Stores) (page : PageId) (t : Evaluation) → IsStores s → t.base.0 < length s.windows.acts → IsRunning (made s) t.expr → is_value t.expr ≡ false → ((op : Op) (vs : List Val) → IsRedex (made s) (redex.Prim op vs) → KeepsUnlessFault s (operate s page op vs)) → MovesUnlessFault s (Red s page t) }
+    ensures { (s : Stores) (page : PageId) (t : Evaluation) → IsStores s → page.0 < length s.windows.pages → t.base.0 < length s.windows.acts → IsRunning (made s) t.expr → is_value t.expr ≡ false → MovesUnlessFault s (Red s page t) }
 {}

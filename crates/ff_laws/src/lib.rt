@@ -16,6 +16,8 @@
 //!   valid, and that there is no fault, and says that the stores are kept (`Acts`, `Calling`,
 //!   `Asking`, `Answering`, `Cookies`, `Simple`, `NodeChanges`, `Texts`, `Queues`, `Slots`,
 //!   `Starting`, `Making`, `Loading`, `Inserting`).
+//! - Operators give valid values and keep stores (`Bytes`, `PureValues`, `Operating`, `Readings`,
+//!   `Operate`), and so does one reduction (`Becoming`, `Reducing`).
 //! - Trees: a walk comes to a node once at most (`Walks`); documents are laid as trees (`Forests`,
 //!   `Laid`, `LaidDocs`, `Planted`); a tree put under a node leaves trees (`Rooted`, `Joining`).
 #![tactic(auto)]
@@ -25,7 +27,8 @@ mod law;
 
 pub use keeping::{
     a_reduction_keeps_stores_valid, counts_only_grow, nodes_keep_stores_valid,
-    requests_and_cookies_keep_stores_valid, variables_keep_stores_valid, windows_keep_stores_valid,
+    operators_keep_stores_valid, requests_and_cookies_keep_stores_valid,
+    variables_keep_stores_valid, windows_keep_stores_valid,
 };
 pub use law::{
     a_page_that_is_not_live_never_runs, an_input_ends_at_rest, nothing_that_has_gone_comes_back,
