@@ -9,4 +9,3 @@ pub mod Leak
 pub mod Empty
 pub mod Stays
 pub mod Fuel
-pub mod Children
