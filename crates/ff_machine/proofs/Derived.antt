@@ -1,12 +1,26 @@
 -- Runs put together from what each input and each turn gives.
-use Rattle.std.proofs.Common.{◌≡◌, ℕ, suc, true, false, cond, List, [], ◌∷◌, ◌++◌, refl, sym, ap, ◌∙◌}
+use Rattle.std.proofs.Common.{◌≡◌, ℕ, zero, suc, ◌+◌, ◌-◌, ◌≤◌, true, false, cond, List, [], ◌∷◌, ◌++◌, arith, refl, ap, ◌∙◌, subst}
 use Rattle.ff_reactive.specs.Runs.{Machine, Handled, plain_from}
 use Rattle.ff_reactive.specs.Turns.{Stepped, Reactor, settle, machine_of}
 
+-- so many more than n
+abbrev pub more : ℕ → ℕ → ℕ
+more zero n = n
+more (suc k) n = suc (more k n)
+
+more_is : (k n : ℕ) → more k n ≡ k + n
+more_is zero n = omega arith
+more_is (suc k) n = let e = more_is k n in omega (arith, e)
+
+-- what holds of so many more than any number holds of any number that is at least so many
+pub at_least : (P : ℕ → Type 0) (k : ℕ) → ((n : ℕ) → P (more k n)) → (m : ℕ) → k ≤ m → P m
+at_least P k holds m h = let e : more k (m - k) ≡ m = more_is k (m - k) ∙ omega (arith, h) in subst P e (holds (m - k))
+
 module _ {I O S : Type 0} (r : Reactor I O S) where
   -- a quiet state makes no turn
-  pub rest : (most : ℕ) (s : S) → r.quiet s ≡ true → settle r (suc most) s ≡ record { outputs = []; after = s; turns = 0 }
-  rest most s quiet = ap (λ b. cond b (record { outputs = []; after = s; turns = 0 }) (record { outputs = (r.turn s).outputs ++ (settle r most (r.turn s).after).outputs; after = (settle r most (r.turn s).after).after; turns = suc (settle r most (r.turn s).after).turns })) quiet
+  pub rest : (most : ℕ) (s : S) → r.quiet s ≡ true → settle r most s ≡ record { outputs = []; after = s; turns = 0 }
+  rest zero s quiet = refl
+  rest (suc most) s quiet = ap (λ b. cond b (record { outputs = []; after = s; turns = 0 }) (record { outputs = (r.turn s).outputs ++ (settle r most (r.turn s).after).outputs; after = (settle r most (r.turn s).after).after; turns = suc (settle r most (r.turn s).after).turns })) quiet
 
   -- one turn of a state that isn't, and then the others
   pub turned : (most : ℕ) (s t u : S) (first others : List O) (k : ℕ) → r.quiet s ≡ false → r.turn s ≡ record { outputs = first; after = t }

@@ -4,7 +4,5 @@ pub mod Weights
 pub mod Derived
 pub mod Given
 pub mod Rows
-pub mod Scripts
-pub mod Leak
 pub mod Empty
 pub mod Stays

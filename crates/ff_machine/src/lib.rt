@@ -48,6 +48,7 @@ mod law;
 mod limits;
 mod records;
 mod reduced;
+mod traces;
 #[cfg(test)]
 mod tests;
 
@@ -60,3 +61,4 @@ pub use limits::{
 };
 pub use records::{Dst, Entry, Pending, Shape};
 pub use reduced::Reduced;
+pub use traces::a_page_is_loaded_once;
