@@ -4,5 +4,6 @@ pub mod Weights
 pub mod Derived
 pub mod Given
 pub mod Rows
+pub mod Texts
 pub mod Empty
 pub mod Stays
