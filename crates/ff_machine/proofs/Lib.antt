@@ -5,5 +5,6 @@ pub mod Derived
 pub mod Given
 pub mod Rows
 pub mod Texts
+pub mod Scripts
 pub mod Empty
 pub mod Stays
