@@ -6,5 +6,6 @@ pub mod Given
 pub mod Rows
 pub mod Texts
 pub mod Scripts
+pub mod Leak
 pub mod Empty
 pub mod Stays

@@ -63,5 +63,5 @@ pub use records::{Dst, Entry, Pending, Shape};
 pub use reduced::Reduced;
 pub use traces::{
     a_fault_ends_its_script_alone, a_page_is_loaded_once, a_queue_waits_for_fuel,
-    a_slot_holds_back_the_next_script,
+    a_slot_holds_back_the_next_script, the_plain_machine_leaks,
 };

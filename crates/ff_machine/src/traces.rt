@@ -1,6 +1,6 @@
 ghost use Rattle.std.specs.Prelude.{◌≡◌, ℕ, ◌≤◌};
 ghost use Rattle.ff_reactive.specs.Runs.{plain};
-ghost use Rattle.ff_machine.specs.Traces.{browser, page_load, fault_in_script, waiting_slot, queue_left};
+ghost use Rattle.ff_machine.specs.Traces.{browser, page_load, leak, without_typing, fault_in_script, waiting_slot, queue_left};
 
 /// A page load: the reply to a window's request loads its page, once.
 pub fn a_page_is_loaded_once()
@@ -20,4 +20,11 @@ pub fn a_slot_holds_back_the_next_script()
 /// With one fuel for each input a script is stopped, and the next one waits for the next input.
 pub fn a_queue_waits_for_fuel()
     ensures { plain (browser 1) queue_left.inputs ≡ queue_left.outputs }
+{}
+
+/// The leak: alone, the machine sends what the user typed. A copy that doesn't see the typing sends
+/// an empty text in its place.
+pub fn the_plain_machine_leaks()
+    ensures typed { (fuel : ℕ) → 9 ≤ fuel → plain (browser fuel) leak.inputs ≡ leak.outputs }
+    ensures unseen { (fuel : ℕ) → 9 ≤ fuel → plain (browser fuel) without_typing.inputs ≡ without_typing.outputs }
 {}
