@@ -1,16 +1,13 @@
 -- Nothing was made: the empty stores, and a new browser, are valid.
-use Rattle.std.proofs.Common.{◌≡◌, ℕ, ◌≤◌, ◌<◌, Bool, true, false, Option, Some, None, List, [], ◌∷◌, length, map, sum_by, count_by, bytes_eq, unwrap_or, All, IsTrue, arith, refl, sym, subst, ap, ◌∙◌}
+use Rattle.std.proofs.Common.{◌≡◌, ℕ, ◌≤◌, ◌<◌, Some, None, List, [], length, map, sum_by, count_by, bytes_eq, All, IsTrue, arith, refl, sym, subst, ◌∙◌}
 use Rattle.std.proofs.lemmas.List.Elements.{All-nil}
 use Rattle.std.proofs.lemmas.Bool.{false≢true}
-use Rattle.std.specs.Prelude.{nat_eq}
 use Rattle.std.specs.List.{IsDistinct}
 use Rattle.std.specs.Cmp.Lexicographic.{slice_cmp}
 use Rattle.std.specs.Ordering.{nat_cmp}
 use Rattle.std.specs.FinMap as finmap
 use Rattle.std.specs.FinSet as finset
 use Rattle.ff_value.specs.declared.ids.ActId.{ActId}
-use Rattle.ff_value.specs.declared.ids.WinId.{WinId}
-use Rattle.ff_value.specs.declared.value.Val.{Val}
 use Rattle.ff_machine.specs.declared.limits.TheConstants.{MOST_COOKIES_OF_DOMAIN, MOST_ASKS}
 use Rattle.ff_machine.specs.declared.records.Pending.{Pending}
 use Rattle.ff_machine.specs.Nodes.{depth}

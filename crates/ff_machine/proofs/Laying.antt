@@ -9,7 +9,6 @@ use Rattle.ff_tree.specs.declared.tree.Doc.TheOpen.{Doc-F}
 use Rattle.ff_tree.specs.declared.tree.Doc.TheViews.{out-Doc, roll-out-Doc, roll-Handler}
 use Rattle.ff_tree.specs.declared.tree.Doc.TheFolds.{map-Doc, para-roll-Doc}
 use Rattle.ff_value.specs.declared.ids.ActId.{ActId}
-use Rattle.ff_value.specs.declared.value.Code.{Code}
 use Rattle.ff_machine.specs.declared.records.Shape.TheVariants as shape
 use Rattle.ff_machine.specs.Documents.{Laid, lay_leaf, lay_over, lay_doc, laid, handler_code}
 

@@ -1,5 +1,5 @@
 -- What is read off stores of cookies, requests and touched pages to which little was done.
-use Rattle.std.proofs.Common.{◌≡◌, ℕ, ◌+◌, Bool, true, false, cond, Option, Some, None, List, [], ◌∷◌, ◌++◌, length, sum_by, map, filter, refl, sym, ap, ◌∙◌, unwrap_or, arith, remove, bytes_eq, ◌||◌}
+use Rattle.std.proofs.Common.{◌≡◌, ℕ, Bool, true, false, cond, Option, Some, None, List, [], ◌∷◌, ◌++◌, length, sum_by, map, filter, refl, sym, ap, ◌∙◌, unwrap_or, arith, remove, bytes_eq, ◌||◌}
 use Rattle.std.specs.declared.cmp.Ordering.{Ordering}
 use Rattle.std.specs.Ordering.{nat_cmp, eq_by_cmp}
 use Rattle.std.specs.Cmp.{nat_cmp_total, eq_by_cmp_equiv}
@@ -7,7 +7,7 @@ use Rattle.std.specs.Cmp.Lexicographic.{slice_cmp, nat_list_cmp_total}
 use Rattle.std.specs.FinMap as finmap
 use Rattle.std.specs.FinSet as finset
 use Rattle.ff_machine.specs.declared.records.Pending.{Pending}
-use Rattle.ff_machine.specs.Net.{Requests, cookie_cmp, pairs_of, asked, with_ask, with_asked, answered, count_asks, has_ask_room}
+use Rattle.ff_machine.specs.Net.{cookie_cmp, pairs_of, asked, with_ask, with_asked, answered, count_asks, has_ask_room}
 use Rattle.ff_value.specs.declared.output.Pair.{Pair}
 
 no_length : {A : Type 0} (xs : List A) → length xs ≡ 0 → xs ≡ []

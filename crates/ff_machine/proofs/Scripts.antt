@@ -1,12 +1,11 @@
 -- Traces of scripts: a fault, a slot that waits, and a queue that is left for want of fuel.
-use Rattle.std.proofs.Common.{◌≡◌, ℕ, zero, suc, ◌≤◌, pos, true, false, Some, List, [], ◌∷◌, refl, ap, ◌∙◌}
+use Rattle.std.proofs.Common.{◌≡◌, ℕ, suc, ◌≤◌, pos, true, false, List, [], ◌∷◌, refl, ap, ◌∙◌}
 use Rattle.std.specs.Prelude.{codes}
 use Rattle.std.specs.FinMap as finmap
 use Rattle.std.specs.FinSet as finset
 use Rattle.ff_reactive.specs.Runs.{plain}
 use Rattle.ff_reactive.specs.Turns.{settle}
 use Rattle.ff_tree.specs.declared.op.Op.TheVariants as op
-use Rattle.ff_tree.specs.declared.tree.Doc.TheVariants as doc
 use Rattle.ff_tree.specs.declared.tree.Expr.{Expr}
 use Rattle.ff_tree.specs.declared.tree.Lit.TheVariants as lit
 use Rattle.ff_tree.specs.Weight.{expr_weight}
@@ -26,11 +25,11 @@ use Rattle.ff_machine.specs.declared.records.Pending.{Pending}
 use Rattle.ff_machine.specs.declared.records.Dst.TheVariants as dst
 use Rattle.ff_machine.specs.declared.records.Shape.TheVariants as shape
 use Rattle.ff_machine.specs.Nodes.{Node, Walk, root, shown}
-use Rattle.ff_machine.specs.Net.{Requests, with_ask}
-use Rattle.ff_machine.specs.Documents.{Laid, laid, laid_page, lay_leaf}
+use Rattle.ff_machine.specs.Net.{with_ask}
+use Rattle.ff_machine.specs.Documents.{Laid, laid_page, lay_leaf}
 use Rattle.ff_machine.specs.Stores as stores
 use Rattle.ff_machine.specs.Stores.{Stores, has_load_room}
-use Rattle.ff_machine.specs.State.{State, empty, lifted}
+use Rattle.ff_machine.specs.State.{empty, lifted}
 use Rattle.ff_machine.specs.Inputs.{begin}
 use Rattle.ff_machine.specs.Turns.{turn}
 use Rattle.ff_machine.specs.Reduction.{Red, reduction}
@@ -38,7 +37,7 @@ use Rattle.ff_machine.specs.Machine.{reactor}
 use Rattle.ff_machine.specs.Traces.{browser, home, opening, replying, script_comes, opened, loaded, updated, send_to, num, set_x, a_com, too_large, faulty, fault_in_script, address, slotted, waiting_slot, numbers, close_five, queue_left}
 use Rattle.ff_machine.proofs.Derived as derived
 use Rattle.ff_machine.proofs.Derived.{at_least, rest, turned, handled, ran}
-use Rattle.ff_machine.proofs.Given.{plain_node, root_of, leaf, waiting, answered, with_home, busy, between, running, resting, activation, node, page, win}
+use Rattle.ff_machine.proofs.Given.{root_of, leaf, waiting, answered, with_home, busy, between, running, resting, activation, node, page, win}
 use Rattle.ff_machine.proofs.Maps.{no_pairs, room_first, same_domain, asked_one, answered_one, touched_none}
 use Rattle.ff_machine.proofs.Laying.{laid-Text, laid-Script, laid-Src}
 use Rattle.ff_machine.proofs.Weights.{weight-Text, weight-Script, weight-Src, weight-Lit, weight-Prim}

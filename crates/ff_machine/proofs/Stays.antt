@@ -1,16 +1,15 @@
 -- Reductions that change nothing, and weights past 64 bits.
-use Rattle.std.proofs.Common.{◌≡◌, ℕ, ◌+◌, ◌-◌, ◌^◌, ◌≤◌, Bool, true, false, min, Option, Some, None, Result, Ok, Err, leb, arith, refl, sym, ap, ◌∙◌}
-use Rattle.std.proofs.lemmas.Bool.{leb-true, le-leb, false≢true}
+use Rattle.std.proofs.Common.{◌≡◌, ℕ, ◌+◌, ◌≤◌, Bool, true, false, Option, Some, None, Result, Ok, Err, arith, refl, sym}
+use Rattle.std.proofs.lemmas.Bool.{leb-true, le-leb}
 use Rattle.ff_operators.specs.Limits.{most_mass}
 use Rattle.ff_tree.specs.Weight.{capped}
 use Rattle.ff_value.specs.declared.fault.Fault.{Fault}
 use Rattle.ff_value.specs.declared.ids.PageId.{PageId}
 use Rattle.ff_value.specs.declared.value.Val.{Val}
-use Rattle.ff_term.specs.Running.{Evaluation, Done, value_of}
-use Rattle.ff_machine.specs.declared.reduced.Reduced.{Reduced}
+use Rattle.ff_term.specs.Running.{Evaluation, value_of}
 use Rattle.ff_machine.specs.declared.reduced.Reduced.TheVariants as answer
 use Rattle.ff_machine.specs.Stores.{Stores, may_weigh}
-use Rattle.ff_machine.specs.Reduction.{Reduction, Moved, Red, reduction, as_reduction, StaysAt}
+use Rattle.ff_machine.specs.Reduction.{Moved, Red, reduction, as_reduction, StaysAt}
 
 done_stays_as : (s : Stores) (t : Evaluation) (o : Option Val) (red : Result Moved Fault) (v : Val) → (as_reduction s t o red).answer ≡ answer.Done v → StaysAt s t (as_reduction s t o red)
 done_stays_as s t (Some w) red v e = record { running_is = refl; after_is = refl; outputs_are = refl }

@@ -1,5 +1,5 @@
 -- What documents and expressions weigh, by their forms.
-use Rattle.std.proofs.Common.{◌≡◌, ℕ, ◌+◌, List, map, length, sum, refl, ap, ◌∙◌}
+use Rattle.std.proofs.Common.{◌≡◌, ℕ, ◌+◌, List, map, length, sum, ap, ◌∙◌}
 use Rattle.ff_name.specs.declared.urls.Url.{Url}
 use Rattle.ff_tree.specs.declared.op.Op.{Op}
 use Rattle.ff_tree.specs.declared.tree.Lit.{Lit}

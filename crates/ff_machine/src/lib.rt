@@ -48,9 +48,9 @@ mod law;
 mod limits;
 mod records;
 mod reduced;
-mod traces;
 #[cfg(test)]
 mod tests;
+mod traces;
 
 pub use kinds::Kind;
 pub use law::{a_capped_weight_is_weighed_alike, a_fault_changes_nothing, a_new_browser_is_valid};
