@@ -9,3 +9,4 @@ pub mod Scripts
 pub mod Leak
 pub mod Empty
 pub mod Stays
+pub mod Fuel

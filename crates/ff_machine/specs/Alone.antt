@@ -7,6 +7,7 @@ use Rattle.std.specs.Str.{IsUtf8}
 use Rattle.std.specs.FinMap as finmap
 use Rattle.ff_name.specs.Spelling.{IsName, IsDomain}
 use Rattle.ff_name.specs.Address.{IsRequest, IsWellSpelled}
+use Rattle.ff_tree.specs.declared.limits.TheConstants.{MOST_HANDLERS}
 use Rattle.ff_tree.specs.Spelled.{IsVar, IsWellSpelledExpr}
 use Rattle.ff_value.specs.Spelled.{IsNat, IsWellSpelledCode, IsWellSpelledVal, TakesOne}
 use Rattle.ff_value.specs.declared.ids.WinId.{WinId}
@@ -21,7 +22,7 @@ use Rattle.ff_machine.specs.declared.records.Entry.TheVariants.{Ready, Wait}
 use Rattle.ff_machine.specs.declared.records.Pending.{Pending}
 use Rattle.ff_machine.specs.declared.records.Shape.{Shape}
 use Rattle.ff_machine.specs.declared.records.Shape.TheVariants as shape
-use Rattle.ff_machine.specs.declared.limits.TheConstants.{MOST_WINDOWS, MOST_PAGES, MOST_NODES, MOST_DEPTH, MOST_ACTS, MOST_VARS, MOST_HANDLERS, MOST_ENTRIES, MOST_SLOTS, MOST_ASKS, MOST_ASKS_OF_DOMAIN, MOST_COOKIES, MOST_COOKIES_OF_DOMAIN}
+use Rattle.ff_machine.specs.declared.limits.TheConstants.{MOST_WINDOWS, MOST_PAGES, MOST_NODES, MOST_TREE_DEPTH, MOST_ACTS, MOST_VARS, MOST_ENTRIES, MOST_SLOTS, MOST_ASKS, MOST_ASKS_OF_DOMAIN, MOST_COOKIES, MOST_COOKIES_OF_DOMAIN}
 use Rattle.ff_machine.specs.Shapes.{page_of, may_have_children, may_have_handlers}
 use Rattle.ff_machine.specs.Nodes.{Node, children, parent, depth}
 use Rattle.ff_machine.specs.Windows.{Windows, Window, Page, Activation, Vars, nth_window, nth_page, act_at, count_vars}
@@ -64,7 +65,7 @@ pub record AreTrees (nodes : List Node) : Type 0 where
   pub below : (n : NodeId) → All (λ c. c.0 < length nodes) (children nodes n)
   pub agree : (n : NodeId) → All (λ c. parent nodes c ≡ Some n) (children nodes n)
   pub once : (n p : NodeId) → parent nodes n ≡ Some p → count_by (λ c. c.0 == n.0) (children nodes p) ≡ 1
-  pub ends : (n : NodeId) → depth nodes n ≤ MOST_DEPTH
+  pub ends : (n : NodeId) → depth nodes n ≤ MOST_TREE_DEPTH
 
 -- a store of nodes that is valid by itself
 pub record AreNodes (nodes : List Node) : Type 0 where

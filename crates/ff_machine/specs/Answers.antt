@@ -2,7 +2,6 @@
 -- is a front of what it was to put, and of its object no more is said. Whether a call fails is said
 -- by `Answers` and `OnFault` of the operators.
 use Rattle.std.specs.Prelude.{◌≡◌, ℕ, Bool, true, false, List, [], ◌++◌, Option, Some, None, Result, Ok, Err, ⊤}
-use Rattle.std.specs.Borrow.{Bor}
 use Rattle.ff_contract.specs.Appending.{AppendsFront}
 use Rattle.ff_operators.specs.declared.answer.Fail.{Fail}
 use Rattle.ff_operators.specs.declared.answer.Fail.TheVariants as fail
@@ -18,11 +17,6 @@ use Rattle.ff_machine.specs.Operators.{Outcome}
 use Rattle.ff_machine.specs.Reduction.{Reduction}
 use Rattle.ff_machine.specs.State.{Task}
 use Rattle.ff_machine.specs.Turns.{Worked}
-
--- the text that is lent, if one is
-abbrev pub text_now : Option (Bor (List ℕ)) → Option (List ℕ)
-text_now None = None
-text_now (Some text) = Some text.now
 
 -- Steps: `old` and `new` are what the call changes, `puts` and `puts'` the outputs before and after
 -- it.

@@ -102,13 +102,15 @@ fill_reply s page slot reply = cond (is_live s.stores.windows page) (nothing (wi
 abbrev pub call_reply : State → PageId → Code → Option Resp → Step
 call_reply s page code reply = cond (is_live s.stores.windows page) (nothing (with_calls s page (code ∷ []) (call_value reply))) (nothing s)
 
--- what the destination makes of a reply of a domain, which counts or doesn't
+-- what a destination makes of a reply from an address, which counts or doesn't
+abbrev pub deliver_to : State → Url → Option Resp → Dst → Step
+deliver_to s from reply (dst.Window w) = load_reply s w from reply
+deliver_to s from reply (dst.Slot page slot) = fill_reply s page slot reply
+deliver_to s from reply (dst.Call page code) = call_reply s page code reply
+
+-- the same of the destination of a request to a domain
 abbrev pub deliver : State → List ℕ → Pending → Option Resp → Step
-deliver s domain pending reply = to pending.dst where
-  to : Dst → Step
-  to (dst.Window w) = load_reply s w (url.At domain pending.uri) reply
-  to (dst.Slot page slot) = fill_reply s page slot reply
-  to (dst.Call page code) = call_reply s page code reply
+deliver s domain pending reply = deliver_to s (url.At domain pending.uri) reply pending.dst
 
 -- a reply counts where its weight is within the limit: the mass grows by it, and its cookies are
 -- put; the destination gets it

@@ -33,7 +33,7 @@ cookies_of jar domain = count_by (λ e. bytes_eq e.0.0 domain) (finmap.entries j
 abbrev pub pairs_of : Jar → List ℕ → List Pair
 pairs_of jar domain = map (λ e. record { key = e.0.1; value = e.1 }) (filter (λ e. bytes_eq e.0.0 domain) (finmap.entries jar))
 
--- a key of 1 to 256 bytes, and a value of at most 4,096
+-- the key has a byte or more, and neither the key nor the value is too long
 abbrev pub has_cookie_size : List ℕ → List ℕ → Bool
 has_cookie_size key value = nat_le 1 (length key) && nat_le (length key) MOST_KEY_BYTES && nat_le (length value) MOST_VALUE_BYTES
 

@@ -2,6 +2,7 @@
 -- and changed.
 use Rattle.std.specs.Prelude.{ℕ, zero, suc, ◌+◌, Bool, false, cond, not, ◌==◌, ◌||◌, nat_lt, nat_le, ℤ, pos, int_lt, nat_abs, Option, Some, None, is_some, is_none, List, [], ◌∷◌, ◌++◌, map, filter, flat_map, find, length, slice_get, slice_index_or, slice_set, bytes_eq}
 use Rattle.std.specs.List.{insert}
+use Rattle.ff_tree.specs.declared.limits.TheConstants.{MOST_HANDLERS}
 use Rattle.ff_tree.specs.Spelled.{most}
 use Rattle.ff_value.specs.declared.fault.Fault.{Fault}
 use Rattle.ff_value.specs.declared.fault.Fault.TheVariants as fault
@@ -13,7 +14,7 @@ use Rattle.ff_machine.specs.declared.kinds.Kind.{Kind}
 use Rattle.ff_machine.specs.declared.records.Shape.{Shape}
 use Rattle.ff_machine.specs.declared.records.Shape.TheVariants as shape
 use Rattle.ff_machine.specs.Faults.{limit_unless}
-use Rattle.ff_machine.specs.declared.limits.TheConstants.{MOST_NODES, MOST_DEPTH, MOST_HANDLERS}
+use Rattle.ff_machine.specs.declared.limits.TheConstants.{MOST_NODES, MOST_TREE_DEPTH}
 use Rattle.ff_machine.specs.Shapes.{kind_of, kind_word, name_of, text_of, with_text, page_of, is_unstarted, as_started, may_have_children, may_have_handlers, seen_as}
 
 -- a node: what it is, its handlers in order, its children in order, and the node that it is a child
@@ -57,7 +58,7 @@ walk_within (suc more) nodes n = n ∷ flat_map (walk_within more nodes) (childr
 
 -- the nodes at and below n in preorder
 unfoldable pub Walk : List Node → NodeId → List NodeId
-Walk nodes n = walk_within (suc MOST_DEPTH) nodes n
+Walk nodes n = walk_within (suc MOST_TREE_DEPTH) nodes n
 
 -- what is at a node that has no parent, or what its parent gives
 abbrev pub at_parent : {X : Type 0} → X → (NodeId → X) → Option NodeId → X
@@ -71,7 +72,7 @@ depth_within (suc more) nodes n = at_parent 0 (λ p. suc (depth_within more node
 
 -- how many nodes stand above n
 unfoldable pub depth : List Node → NodeId → ℕ
-depth nodes n = depth_within (suc MOST_DEPTH) nodes n
+depth nodes n = depth_within (suc MOST_TREE_DEPTH) nodes n
 
 -- the topmost node above n, looked for through so many generations
 abbrev pub root_within : ℕ → List Node → NodeId → NodeId
@@ -80,7 +81,7 @@ root_within (suc more) nodes n = at_parent n (root_within more nodes) (parent no
 
 -- the root of the tree that n is in
 unfoldable pub root : List Node → NodeId → NodeId
-root nodes n = root_within (suc MOST_DEPTH) nodes n
+root nodes n = root_within (suc MOST_TREE_DEPTH) nodes n
 
 -- the page whose root is the root of the tree that n is in, if there is one
 abbrev pub page_root_of : List Node → NodeId → Option PageId
@@ -118,7 +119,7 @@ shown_within (suc more) nodes n = flat_map (λ c. seen_as (node_at nodes c).shap
 
 -- what the user sees of the children of n
 unfoldable pub shown : List Node → NodeId → List Seen
-shown nodes n = shown_within (suc MOST_DEPTH) nodes n
+shown nodes n = shown_within (suc MOST_TREE_DEPTH) nodes n
 
 -- Changes. Each is refused by the fault that stands above it.
 
@@ -144,7 +145,7 @@ insert_fault nodes p c at =
     (cond (is_some (parent nodes c)) (Some fault.Range)
     (cond ((root nodes p).0 == c.0) (Some fault.Range)
     (cond (is_none (place_of at (length (children nodes p)))) (Some fault.Range)
-    (cond (nat_lt MOST_DEPTH (suc (depth nodes p + height nodes c))) (Some fault.Limit) None)))))
+    (cond (nat_lt MOST_TREE_DEPTH (suc (depth nodes p + height nodes c))) (Some fault.Limit) None)))))
 
 -- the child stands under the parent, at a place
 unfoldable pub joined : List Node → NodeId → NodeId → ℕ → List Node

@@ -255,12 +255,14 @@ insert s p c at = start_in (page_root_of s.nodes p) c (record s { nodes = nodes.
 
 -- Replies.
 
+-- the k-th pending request of a domain is this one, if there is one, and is taken out
+abbrev pub taken_out : Stores → List ℕ → ℕ → Option Pending → Option (Pending × Stores)
+taken_out s domain k None = None
+taken_out s domain k (Some pending) = Some (pending, record s { requests = net.answered s.requests domain k })
+
 -- the k-th pending request of a domain, taken out, if there is one
 abbrev pub take_answer : Stores → List ℕ → ℕ → Option (Pending × Stores)
-take_answer s domain k = taken (slice_get (net.asked s.requests domain) k) where
-  taken : Option Pending → Option (Pending × Stores)
-  taken None = None
-  taken (Some pending) = Some (pending, record s { requests = net.answered s.requests domain k })
+take_answer s domain k = taken_out s domain k (slice_get (net.asked s.requests domain) k)
 
 -- one entry of a reply's cookies; one that can't be put is skipped
 abbrev pub put_cookie : List ℕ → CookieOp → Jar → Jar
@@ -282,16 +284,19 @@ fill_slot s page slot body = record s { windows = windows.filled s.windows page 
 
 -- Scripts that may run.
 
+-- the page's queue begins with this script, if it begins with one, which is taken out
+abbrev pub popped_script : Stores → PageId → Option Expr → Option ((PageId × Expr) × Stores)
+popped_script s page None = None
+popped_script s page (Some body) = Some ((page, body), record s { windows = windows.popped s.windows page })
+
+-- the script that the queue of a page, if there is one, begins with, taken out
+abbrev pub popped_of : Stores → Option PageId → Option ((PageId × Expr) × Stores)
+popped_of s None = None
+popped_of s (Some page) = popped_script s page (windows.first_ready (page_at s.windows page).queue)
+
 -- the first script that may run, with its page, taken out of its queue, if there is one
 abbrev pub take_ready : Stores → Option ((PageId × Expr) × Stores)
-take_ready s = first (windows.ready s.windows) where
-  script : PageId → Option Expr → Option ((PageId × Expr) × Stores)
-  script page None = None
-  script page (Some body) = Some ((page, body), record s { windows = windows.popped s.windows page })
-
-  first : Option PageId → Option ((PageId × Expr) × Stores)
-  first None = None
-  first (Some page) = script page (windows.first_ready (page_at s.windows page).queue)
+take_ready s = popped_of s (windows.ready s.windows)
 
 -- Settling.
 

@@ -74,17 +74,20 @@ begin_script s taken = nothing (record s { stores = taken.1; tasks = task_for s 
 
 -- The turn.
 
+-- what is done with a script that was taken out, if one was
+abbrev pub script_work : Option ((PageId × Expr) × Stores) → Option (State → Step)
+script_work None = None
+script_work (Some taken) = Some (λ t. begin_script t taken)
+
+-- what is done with the first of these tasks, else with a script
+abbrev pub work_of : List Task → Option ((PageId × Expr) × Stores) → Option (State → Step)
+work_of [] script = script_work script
+work_of (task ∷ tasks) script = Some (λ t. first_work t (task ∷ tasks))
+
 -- what is done next for one fuel, if there is anything: the first task, else the first script that
 -- may run
 abbrev pub next_work : State → Option (State → Step)
-next_work s = of_tasks s.tasks where
-  of_script : Option ((PageId × Expr) × Stores) → Option (State → Step)
-  of_script None = None
-  of_script (Some taken) = Some (λ t. begin_script t taken)
-
-  of_tasks : List Task → Option (State → Step)
-  of_tasks [] = of_script (stores.take_ready s.stores)
-  of_tasks (task ∷ tasks) = Some (λ t. first_work t (task ∷ tasks))
+next_work s = work_of s.tasks (stores.take_ready s.stores)
 
 -- one fuel is spent on what is to be done; without fuel the browser stops
 abbrev pub spend : State → ℕ → (State → Step) → Step

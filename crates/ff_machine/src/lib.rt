@@ -38,9 +38,10 @@
 //!
 //! # Laws
 //!
-//! Law functions say that a new browser is valid, that a reduction which fails changes nothing, and
-//! that weights may be capped at the greatest number of 64 bits. What keeps stores valid is proved
-//! in `ff_laws`.
+//! Law functions say that a new browser is valid, that a reduction which fails changes nothing, that
+//! an input is handled in at most one turn more than it brings fuel, and that weights may be capped
+//! at the greatest number of 64 bits. That what the definitions make of valid stores is valid is no
+//! law of this crate.
 #![tactic(auto)]
 
 mod kinds;
@@ -53,11 +54,14 @@ mod tests;
 mod traces;
 
 pub use kinds::Kind;
-pub use law::{a_capped_weight_is_weighed_alike, a_fault_changes_nothing, a_new_browser_is_valid};
+pub use law::{
+    a_capped_weight_is_weighed_alike, a_fault_changes_nothing, a_new_browser_is_valid,
+    an_input_ends_within_its_fuel,
+};
 pub use limits::{
-    MOST_ACTS, MOST_ASKS, MOST_ASKS_OF_DOMAIN, MOST_COOKIES, MOST_COOKIES_OF_DOMAIN, MOST_DEPTH,
-    MOST_ENTRIES, MOST_HANDLERS, MOST_KEY_BYTES, MOST_NODES, MOST_PAGES, MOST_SLOTS,
-    MOST_VALUE_BYTES, MOST_VARS, MOST_WINDOWS,
+    MOST_ACTS, MOST_ASKS, MOST_ASKS_OF_DOMAIN, MOST_COOKIES, MOST_COOKIES_OF_DOMAIN, MOST_ENTRIES,
+    MOST_KEY_BYTES, MOST_NODES, MOST_PAGES, MOST_SLOTS, MOST_TREE_DEPTH, MOST_VALUE_BYTES,
+    MOST_VARS, MOST_WINDOWS,
 };
 pub use records::{Dst, Entry, Pending, Shape};
 pub use reduced::Reduced;

@@ -1,5 +1,6 @@
 //! The limits of one copy of the browser. Those of the mass and of the texts that operators make
-//! stand in `ff_operators`, that of calls inside one another in `ff_term`.
+//! stand in `ff_operators`, that of calls inside one another in `ff_term`, that of a node's handlers
+//! in `ff_tree`.
 
 /// Open windows.
 pub const MOST_WINDOWS: usize = 64;
@@ -11,16 +12,13 @@ pub const MOST_PAGES: u32 = 65_536;
 pub const MOST_NODES: u32 = 524_288;
 
 /// Nodes that stand above a node.
-pub const MOST_DEPTH: u32 = 256;
+pub const MOST_TREE_DEPTH: u32 = 256;
 
 /// Activations ever made.
 pub const MOST_ACTS: u32 = 524_288;
 
 /// Variables ever declared.
 pub const MOST_VARS: u32 = 1_048_576;
-
-/// Handlers of a node.
-pub const MOST_HANDLERS: usize = 16;
 
 /// Entries in the queues of all pages together.
 pub const MOST_ENTRIES: u32 = 1_048_576;
