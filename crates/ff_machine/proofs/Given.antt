@@ -1,13 +1,17 @@
--- The states in which the traces stand.
-use Rattle.std.proofs.Common.{ℕ, true, false, Option, Some, None, List, [], ◌∷◌}
+-- The states in which the traces stand, and their runs.
+use Rattle.std.proofs.Common.{◌≡◌, ℕ, suc, ◌+◌, ◌≤◌, true, false, Option, Some, None, List, [], ◌∷◌, arith, ap, ◌∙◌}
 use Rattle.std.specs.Prelude.{codes}
 use Rattle.std.specs.FinMap as finmap
 use Rattle.std.specs.FinSet as finset
+use Rattle.ff_reactive.specs.Runs.{Machine, plain}
+use Rattle.ff_reactive.specs.Turns.{machine_of}
 use Rattle.ff_name.specs.declared.urls.Url.TheVariants as url
 use Rattle.ff_value.specs.declared.ids.WinId.{WinId}
 use Rattle.ff_value.specs.declared.ids.PageId.{PageId}
 use Rattle.ff_value.specs.declared.ids.NodeId.{NodeId}
 use Rattle.ff_value.specs.declared.ids.ActId.{ActId}
+use Rattle.ff_value.specs.declared.input.Input.{Input}
+use Rattle.ff_value.specs.declared.output.Out.{Out}
 use Rattle.ff_term.specs.Running.{Running}
 use Rattle.ff_machine.specs.declared.records.Entry.{Entry}
 use Rattle.ff_machine.specs.declared.records.Pending.{Pending}
@@ -19,7 +23,9 @@ use Rattle.ff_machine.specs.Nodes.{Node}
 use Rattle.ff_machine.specs.Windows as windows
 use Rattle.ff_machine.specs.Stores.{Stores, Pages}
 use Rattle.ff_machine.specs.State.{State}
-use Rattle.ff_machine.specs.Traces.{home}
+use Rattle.ff_machine.specs.Machine.{reactor, browser}
+use Rattle.ff_machine.specs.Traces.{Trace, home}
+use Rattle.ff_machine.proofs.Derived.{more, at_least}
 
 -- Numbers.
 
@@ -119,3 +125,18 @@ running budget fuel s e = record { stores = s; budget = budget; fuel = fuel; tas
 -- an input was handled
 abbrev pub resting : ℕ → Stores → State
 resting budget s = record { stores = s; budget = budget; fuel = 0; tasks = []; quiet = true }
+
+-- Runs.
+
+-- the browser, with a number of turns that computes
+abbrev pub settling : ℕ → Machine Input Out State
+settling fuel = machine_of (reactor fuel) (suc fuel)
+
+-- its runs are the browser's
+pub runs_alike : (fuel : ℕ) (trace : Trace) → plain (settling fuel) trace.inputs ≡ trace.outputs → plain (browser fuel) trace.inputs ≡ trace.outputs
+runs_alike fuel trace run = let e : fuel + 1 ≡ suc fuel = omega arith in ap (λ most. plain (machine_of (reactor fuel) most) trace.inputs) e ∙ run
+
+-- a trace that is run with so much fuel and any number more is run with any fuel that is at least so
+-- much
+pub runs_from : (k : ℕ) (trace : Trace) → ((n : ℕ) → plain (settling (more k n)) trace.inputs ≡ trace.outputs) → (fuel : ℕ) → k ≤ fuel → plain (browser fuel) trace.inputs ≡ trace.outputs
+runs_from k trace run fuel enough = runs_alike fuel trace (at_least (λ f. plain (settling f) trace.inputs ≡ trace.outputs) k run fuel enough)

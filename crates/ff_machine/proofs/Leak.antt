@@ -30,11 +30,11 @@ use Rattle.ff_machine.specs.State.{State, empty, lifted}
 use Rattle.ff_machine.specs.Inputs.{begin}
 use Rattle.ff_machine.specs.Turns.{turn}
 use Rattle.ff_machine.specs.Reduction.{Red, reduction}
-use Rattle.ff_machine.specs.Machine.{reactor}
-use Rattle.ff_machine.specs.Traces.{browser, home, opening, replying, opened, loaded, updated, send_to, null, evil_com, asks_text, sends_text, leaky, leaky_shown, typing, clicking, leak, without_typing}
+use Rattle.ff_machine.specs.Machine.{reactor, browser}
+use Rattle.ff_machine.specs.Traces.{home, opening, replying, opened, loaded, updated, send_to, null, evil_com, asks_text, sends_text, leaky, leaky_shown, typing, clicking, leak, without_typing}
 use Rattle.ff_machine.proofs.Derived as derived
-use Rattle.ff_machine.proofs.Derived.{at_least, rest, turned, handled, ran}
-use Rattle.ff_machine.proofs.Given.{root_of, leaf, waiting, answered, with_home, busy, between, running, resting, activation, node, page, win}
+use Rattle.ff_machine.proofs.Derived.{rest, turned, handled, ran}
+use Rattle.ff_machine.proofs.Given.{root_of, leaf, waiting, answered, with_home, busy, between, running, resting, activation, node, page, win, settling, runs_from}
 use Rattle.ff_machine.proofs.Maps.{no_pairs, room_first, touched_none, touched_last}
 use Rattle.ff_machine.proofs.Laying.{laid-TextBox, laid-Button, handler-code}
 use Rattle.ff_machine.proofs.Weights.{weight-TextBox, weight-Button, weight-Handler, weight-Lit, weight-Make, weight-Prim}
@@ -196,14 +196,14 @@ module _ (n : ℕ) where
   abbrev has_text : State
   has_text = resting nine (before (codes "pin") 535 nine)
 
-  handles_leaky : (browser nine).handle waits (replying evil_com leaky) ≡ record { outputs = page_lines; after = untouched; turns = 1 }
+  handles_leaky : (settling nine).handle waits (replying evil_com leaky) ≡ record { outputs = page_lines; after = untouched; turns = 1 }
   handles_leaky =
       let r = reactor nine in
       handled r (suc nine) waits (busy nine (before [] 532 nine)) untouched (replying evil_com leaky) page_lines [] 1
       (loads_page evil_com nine 532 leaky weight_leaky refl room_leaky ∙ ap (lifted (busy nine (answered evil_com 532))) shows_leaky)
       (turned r nine (busy nine (before [] 532 nine)) untouched untouched [] [] 0 refl (settles_before [] 532 nine) (rest r nine untouched refl))
 
-  handles_typing : (browser nine).handle untouched typing ≡ record { outputs = updated (leaky_shown (codes "pin")) ∷ []; after = has_text; turns = 1 }
+  handles_typing : (settling nine).handle untouched typing ≡ record { outputs = updated (leaky_shown (codes "pin")) ∷ []; after = has_text; turns = 1 }
   handles_typing =
       let r = reactor nine in
       let os = updated (leaky_shown (codes "pin")) ∷ [] in
@@ -211,7 +211,7 @@ module _ (n : ℕ) where
       (turned r nine (busy nine typed) has_text has_text os [] 0 refl (updates nine) (rest r nine has_text refl))
 
   -- the click takes ten turns, nine of which spend fuel
-  handles_click : (text : List ℕ) (mass : ℕ) → (browser nine).handle (resting nine (before text mass nine)) clicking ≡ record { outputs = send_to evil_com (codes "/x") text ∷ []; after = resting nine (after text mass nine); turns = 10 }
+  handles_click : (text : List ℕ) (mass : ℕ) → (settling nine).handle (resting nine (before text mass nine)) clicking ≡ record { outputs = send_to evil_com (codes "/x") text ∷ []; after = resting nine (after text mass nine); turns = 10 }
   handles_click text mass =
       let r = reactor nine in
       let os = send_to evil_com (codes "/x") text ∷ [] in
@@ -228,10 +228,10 @@ module _ (n : ℕ) where
       (turned r (derived.more 1 n) _ _ end [] [] 1 refl (ends text mass nine n)
       (turned r n _ end end [] [] 0 refl (settles text mass nine n) (rest r n end refl)))))))))))
 
-  sends_typed : plain (browser nine) leak.inputs ≡ leak.outputs
+  sends_typed : plain (settling nine) leak.inputs ≡ leak.outputs
   unfolding plain
   sends_typed =
-      let m = browser nine in
+      let m = settling nine in
       let shown = updated (leaky_shown (codes "pin")) ∷ [] in
       let sent = send_to evil_com (codes "/x") (codes "pin") ∷ [] in
       ran m (empty nine) waits (opening evil_com) (replying evil_com leaky ∷ typing ∷ clicking ∷ []) (opened evil_com) (page_lines ∷ shown ∷ sent ∷ []) 1 (handles_opening evil_com nine)
@@ -239,10 +239,10 @@ module _ (n : ℕ) where
       (ran m untouched has_text typing (clicking ∷ []) shown (sent ∷ []) 1 handles_typing
       (ran m has_text (resting nine (after (codes "pin") 535 nine)) clicking [] sent [] 10 (handles_click (codes "pin") 535) refl)))
 
-  sends_nothing : plain (browser nine) without_typing.inputs ≡ without_typing.outputs
+  sends_nothing : plain (settling nine) without_typing.inputs ≡ without_typing.outputs
   unfolding plain
   sends_nothing =
-      let m = browser nine in
+      let m = settling nine in
       let sent = send_to evil_com (codes "/x") [] ∷ [] in
       ran m (empty nine) waits (opening evil_com) (replying evil_com leaky ∷ clicking ∷ []) (opened evil_com) (page_lines ∷ sent ∷ []) 1 (handles_opening evil_com nine)
       (ran m waits untouched (replying evil_com leaky) (clicking ∷ []) page_lines (sent ∷ []) 1 handles_leaky
@@ -250,8 +250,8 @@ module _ (n : ℕ) where
 
 -- what was typed is sent
 pub the_leak : (fuel : ℕ) → 9 ≤ fuel → plain (browser fuel) leak.inputs ≡ leak.outputs
-the_leak fuel enough = at_least (λ f. plain (browser f) leak.inputs ≡ leak.outputs) 9 sends_typed fuel enough
+the_leak fuel enough = runs_from 9 leak sends_typed fuel enough
 
 -- a copy that doesn't see the typing sends an empty text in its place
 pub no_leak : (fuel : ℕ) → 9 ≤ fuel → plain (browser fuel) without_typing.inputs ≡ without_typing.outputs
-no_leak fuel enough = at_least (λ f. plain (browser f) without_typing.inputs ≡ without_typing.outputs) 9 sends_nothing fuel enough
+no_leak fuel enough = runs_from 9 without_typing sends_nothing fuel enough

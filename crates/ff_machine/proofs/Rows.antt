@@ -20,10 +20,10 @@ use Rattle.ff_machine.specs.Stores.{Stores, has_load_room}
 use Rattle.ff_machine.specs.State.{empty, lifted}
 use Rattle.ff_machine.specs.Inputs.{begin}
 use Rattle.ff_machine.specs.Turns.{turn}
-use Rattle.ff_machine.specs.Machine.{reactor}
-use Rattle.ff_machine.specs.Traces.{browser, home, opening, replying, opened, loaded, a_com, greeting, page_load}
+use Rattle.ff_machine.specs.Machine.{reactor, browser}
+use Rattle.ff_machine.specs.Traces.{home, opening, replying, opened, loaded, a_com, greeting, page_load}
 use Rattle.ff_machine.proofs.Derived.{rest, turned, handled, ran}
-use Rattle.ff_machine.proofs.Given.{for_window, root_of, leaf, waiting, answered, with_home, busy, resting, activation, node, page, win}
+use Rattle.ff_machine.proofs.Given.{for_window, root_of, leaf, waiting, answered, with_home, busy, resting, activation, node, page, win, settling, runs_alike}
 use Rattle.ff_machine.proofs.Maps.{no_pairs, room_first, same_domain, asked_none, asked_one, answered_one, touched_none}
 use Rattle.ff_machine.proofs.Laying.{laid-Text}
 use Rattle.ff_machine.proofs.Weights.{weight-Text}
@@ -44,7 +44,7 @@ module _ (domain : List ℕ) where
   waits fuel = rw (touched_none 0) refl
 
   -- opening the window takes one turn
-  pub handles_opening : (fuel : ℕ) → (browser fuel).handle (empty fuel) (opening domain) ≡ record { outputs = opened domain; after = resting fuel (waiting domain); turns = 1 }
+  pub handles_opening : (fuel : ℕ) → (settling fuel).handle (empty fuel) (opening domain) ≡ record { outputs = opened domain; after = resting fuel (waiting domain); turns = 1 }
   handles_opening fuel =
       let r = reactor fuel in
       let s = resting fuel (waiting domain) in
@@ -100,7 +100,7 @@ module _ (fuel : ℕ) where
   unfolding turn
   settles = rw (touched_none 1) refl
 
-  handles_reply : (browser fuel).handle (resting fuel (waiting a_com)) (replying a_com greeting) ≡ record { outputs = lines; after = resting fuel at_home; turns = 1 }
+  handles_reply : (settling fuel).handle (resting fuel (waiting a_com)) (replying a_com greeting) ≡ record { outputs = lines; after = resting fuel at_home; turns = 1 }
   handles_reply =
       let r = reactor fuel in
       let s = resting fuel at_home in
@@ -114,18 +114,21 @@ module _ (fuel : ℕ) where
   unfolding begin
   nothing_asked = rw (asked_none a_com) refl
 
-  handles_again : (browser fuel).handle (resting fuel at_home) (replying a_com greeting) ≡ record { outputs = []; after = resting fuel at_home; turns = 1 }
+  handles_again : (settling fuel).handle (resting fuel at_home) (replying a_com greeting) ≡ record { outputs = []; after = resting fuel at_home; turns = 1 }
   handles_again =
       let r = reactor fuel in
       let s = resting fuel at_home in
       handled r (suc fuel) s (busy fuel at_home) s (replying a_com greeting) [] [] 1 nothing_asked
       (turned r fuel (busy fuel at_home) s s [] [] 0 refl settles (rest r fuel s refl))
 
-  -- the page is loaded once
-  pub loads_once : plain (browser fuel) page_load.inputs ≡ page_load.outputs
+  runs_once : plain (settling fuel) page_load.inputs ≡ page_load.outputs
   unfolding plain
-  loads_once =
-      let m = browser fuel in
+  runs_once =
+      let m = settling fuel in
       ran m (empty fuel) (resting fuel (waiting a_com)) (opening a_com) (replying a_com greeting ∷ replying a_com greeting ∷ []) (opened a_com) (lines ∷ [] ∷ []) 1 (handles_opening a_com fuel)
       (ran m (resting fuel (waiting a_com)) (resting fuel at_home) (replying a_com greeting) (replying a_com greeting ∷ []) lines ([] ∷ []) 1 handles_reply
       (ran m (resting fuel at_home) (resting fuel at_home) (replying a_com greeting) [] [] [] 1 handles_again refl))
+
+-- the page is loaded once
+pub loads_once : (fuel : ℕ) → plain (browser fuel) page_load.inputs ≡ page_load.outputs
+loads_once fuel = runs_alike fuel page_load (runs_once fuel)

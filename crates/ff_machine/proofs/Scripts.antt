@@ -33,11 +33,11 @@ use Rattle.ff_machine.specs.State.{empty, lifted}
 use Rattle.ff_machine.specs.Inputs.{begin}
 use Rattle.ff_machine.specs.Turns.{turn}
 use Rattle.ff_machine.specs.Reduction.{Red, reduction}
-use Rattle.ff_machine.specs.Machine.{reactor}
-use Rattle.ff_machine.specs.Traces.{browser, home, opening, replying, script_comes, opened, loaded, updated, send_to, num, set_x, a_com, too_large, faulty, fault_in_script, address, slotted, waiting_slot, numbers, close_five, queue_left}
+use Rattle.ff_machine.specs.Machine.{reactor, browser}
+use Rattle.ff_machine.specs.Traces.{home, opening, replying, script_comes, opened, loaded, updated, send_to, num, set_x, a_com, too_large, faulty, fault_in_script, address, slotted, waiting_slot, numbers, close_five, queue_left}
 use Rattle.ff_machine.proofs.Derived as derived
-use Rattle.ff_machine.proofs.Derived.{at_least, rest, turned, handled, ran}
-use Rattle.ff_machine.proofs.Given.{root_of, leaf, waiting, answered, with_home, busy, between, running, resting, activation, node, page, win}
+use Rattle.ff_machine.proofs.Derived.{rest, turned, handled, ran}
+use Rattle.ff_machine.proofs.Given.{root_of, leaf, waiting, answered, with_home, busy, between, running, resting, activation, node, page, win, settling, runs_alike, runs_from}
 use Rattle.ff_machine.proofs.Maps.{no_pairs, room_first, same_domain, asked_one, answered_one, touched_none}
 use Rattle.ff_machine.proofs.Laying.{laid-Text, laid-Script, laid-Src}
 use Rattle.ff_machine.proofs.Weights.{weight-Text, weight-Script, weight-Src, weight-Lit, weight-Prim}
@@ -114,7 +114,7 @@ module _ (n : ℕ) where
   abbrev eight : ℕ
   eight = derived.more 8 n
 
-  handles_faulty : (browser eight).handle (resting eight (waiting a_com)) (replying a_com faulty) ≡ record { outputs = fault_lines; after = resting eight ok_page; turns = 9 }
+  handles_faulty : (settling eight).handle (resting eight (waiting a_com)) (replying a_com faulty) ≡ record { outputs = fault_lines; after = resting eight ok_page; turns = 9 }
   handles_faulty =
       let r = reactor eight in
       let end = resting eight ok_page in
@@ -126,16 +126,16 @@ module _ (n : ℕ) where
       (sets_text a_com faulty_nodes (node 2) faulty_text 0 eight (codes "no") (codes "ok") [] 437 finset.empty refl (suc n) n end os 1
       (turned r n _ end end os [] 0 refl (shows_text a_com faulty_nodes (node 2) faulty_text 0 eight (codes "ok") 439 n finset.empty) (rest r n end refl)))))
 
-  script_fails : plain (browser eight) fault_in_script.inputs ≡ fault_in_script.outputs
+  script_fails : plain (settling eight) fault_in_script.inputs ≡ fault_in_script.outputs
   unfolding plain
   script_fails =
-      let m = browser eight in
+      let m = settling eight in
       ran m (empty eight) (resting eight (waiting a_com)) (opening a_com) (replying a_com faulty ∷ []) (opened a_com) (fault_lines ∷ []) 1 (handles_opening a_com eight)
       (ran m (resting eight (waiting a_com)) (resting eight ok_page) (replying a_com faulty) [] fault_lines [] 9 handles_faulty refl)
 
 -- a script that fails ends with its error, and the next one runs
 pub a_fault_in_a_script : (fuel : ℕ) → 8 ≤ fuel → plain (browser fuel) fault_in_script.inputs ≡ fault_in_script.outputs
-a_fault_in_a_script fuel enough = at_least (λ f. plain (browser f) fault_in_script.inputs ≡ fault_in_script.outputs) 8 script_fails fuel enough
+a_fault_in_a_script fuel enough = runs_from 8 fault_in_script script_fails fuel enough
 
 -- A slot that waits: `(src a http://a.com/s) (script b (set-text .. "two")) (text x ..)`, and then
 -- `(set-text .. "one")` for the slot.
@@ -206,7 +206,7 @@ module _ (n : ℕ) where
   abbrev twelve : ℕ
   twelve = derived.more 12 n
 
-  handles_slotted : (browser twelve).handle (resting twelve (waiting a_com)) (replying a_com slotted) ≡ record { outputs = zero_lines; after = resting twelve slot_waits; turns = 1 }
+  handles_slotted : (settling twelve).handle (resting twelve (waiting a_com)) (replying a_com slotted) ≡ record { outputs = zero_lines; after = resting twelve slot_waits; turns = 1 }
   handles_slotted =
       let r = reactor twelve in
       let s = resting twelve slot_waits in
@@ -214,7 +214,7 @@ module _ (n : ℕ) where
       (loads_page a_com twelve 392 slotted weight_slotted refl room_slotted ∙ ap (lifted (busy twelve (answered a_com 392))) shows_slotted)
       (turned r twelve (busy twelve slot_waits) s s [] [] 0 refl (settles_waiting twelve) (rest r twelve s refl))
 
-  handles_script : (browser twelve).handle (resting twelve slot_waits) (script_comes a_com one) ≡ record { outputs = two_lines; after = resting twelve two_page; turns = 13 }
+  handles_script : (settling twelve).handle (resting twelve slot_waits) (script_comes a_com one) ≡ record { outputs = two_lines; after = resting twelve two_page; turns = 13 }
   handles_script =
       let r = reactor twelve in
       let end = resting twelve two_page in
@@ -224,17 +224,17 @@ module _ (n : ℕ) where
       (sets_text a_com slotted_nodes (node 4) slotted_text 1 twelve (codes "one") (codes "two") [] 607 touched refl (suc n) n end two_lines 1
       (turned r n _ end end two_lines [] 0 refl (shows_text a_com slotted_nodes (node 4) slotted_text 1 twelve (codes "two") 610 n touched) (rest r n end refl))))
 
-  slot_holds_back : plain (browser twelve) waiting_slot.inputs ≡ waiting_slot.outputs
+  slot_holds_back : plain (settling twelve) waiting_slot.inputs ≡ waiting_slot.outputs
   unfolding plain
   slot_holds_back =
-      let m = browser twelve in
+      let m = settling twelve in
       ran m (empty twelve) (resting twelve (waiting a_com)) (opening a_com) (replying a_com slotted ∷ script_comes a_com one ∷ []) (opened a_com) (zero_lines ∷ two_lines ∷ []) 1 (handles_opening a_com twelve)
       (ran m (resting twelve (waiting a_com)) (resting twelve slot_waits) (replying a_com slotted) (script_comes a_com one ∷ []) zero_lines (two_lines ∷ []) 1 handles_slotted
       (ran m (resting twelve slot_waits) (resting twelve two_page) (script_comes a_com one) [] two_lines [] 13 handles_script refl))
 
 -- the script that came late runs first
 pub a_waiting_slot : (fuel : ℕ) → 12 ≤ fuel → plain (browser fuel) waiting_slot.inputs ≡ waiting_slot.outputs
-a_waiting_slot fuel enough = at_least (λ f. plain (browser f) waiting_slot.inputs ≡ waiting_slot.outputs) 12 slot_holds_back fuel enough
+a_waiting_slot fuel enough = runs_from 12 waiting_slot slot_holds_back fuel enough
 
 -- A queue that is left: `(script a 1) (script b 2)`, with one fuel for each input.
 
@@ -293,12 +293,11 @@ stops_next k queue =
     turned r 1 (busy 1 (with_numbers (Ready (num k) ∷ queue))) (running 1 0 (with_numbers queue) (Done (val.Num (pos k)))) end [] stopped 1 refl (begins_next k queue)
     (turned r 0 (running 1 0 (with_numbers queue) (Done (val.Num (pos k)))) end end stopped [] 0 refl (stops k queue) (rest r 0 end refl))
 
--- each script is stopped, the second with the next input
-pub a_queue_that_is_left : plain (browser 1) queue_left.inputs ≡ queue_left.outputs
+both_stop : plain (settling 1) queue_left.inputs ≡ queue_left.outputs
 unfolding plain
-a_queue_that_is_left =
+both_stop =
     let r = reactor 1 in
-    let m = browser 1 in
+    let m = settling 1 in
     let first = busy 1 (with_numbers (Ready (num 1) ∷ Ready (num 2) ∷ [])) in
     let one_left = resting 1 (with_numbers (Ready (num 2) ∷ [])) in
     let end = resting 1 (with_numbers []) in
@@ -311,3 +310,7 @@ a_queue_that_is_left =
     (ran m end end close_five [] [] [] 1
     (handled r 2 end (busy 1 (with_numbers [])) end close_five [] [] 1 (no_such_window [])
     (turned r 1 (busy 1 (with_numbers [])) end end [] [] 0 refl settles_numbers (rest r 1 end refl))) refl)))
+
+-- each script is stopped, the second with the next input
+pub a_queue_that_is_left : plain (browser 1) queue_left.inputs ≡ queue_left.outputs
+a_queue_that_is_left = runs_alike 1 queue_left both_stop

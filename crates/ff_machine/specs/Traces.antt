@@ -1,7 +1,5 @@
 -- Traces: inputs, and what one copy of the browser puts for each of them.
-use Rattle.std.specs.Prelude.{ℕ, suc, pos, None, List, [], ◌∷◌, codes}
-use Rattle.ff_reactive.specs.Runs.{Machine}
-use Rattle.ff_reactive.specs.Turns.{machine_of}
+use Rattle.std.specs.Prelude.{ℕ, pos, None, List, [], ◌∷◌, codes}
 use Rattle.ff_name.specs.declared.urls.Url.{Url}
 use Rattle.ff_name.specs.declared.urls.Url.TheVariants as url
 use Rattle.ff_tree.specs.declared.op.Op.TheVariants as op
@@ -21,12 +19,6 @@ use Rattle.ff_value.specs.declared.output.Out.TheVariants as out
 use Rattle.ff_value.specs.declared.output.Seen.{Seen}
 use Rattle.ff_value.specs.declared.output.Seen.TheVariants as seen
 use Rattle.ff_value.specs.declared.reply.Resp.TheVariants as resp
-use Rattle.ff_machine.specs.State.{State}
-use Rattle.ff_machine.specs.Machine.{reactor}
-
--- one copy of the browser: with so much fuel, an input takes at most one turn more
-abbrev pub browser : ℕ → Machine Input Out State
-browser fuel = machine_of (reactor fuel) (suc fuel)
 
 -- inputs, and the outputs for each of them
 pub record Trace : Type 0 where

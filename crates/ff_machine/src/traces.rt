@@ -1,6 +1,7 @@
 ghost use Rattle.std.specs.Prelude.{◌≡◌, ℕ, ◌≤◌};
 ghost use Rattle.ff_reactive.specs.Runs.{plain};
-ghost use Rattle.ff_machine.specs.Traces.{browser, page_load, leak, without_typing, fault_in_script, waiting_slot, queue_left};
+ghost use Rattle.ff_machine.specs.Machine.{browser};
+ghost use Rattle.ff_machine.specs.Traces.{page_load, leak, without_typing, fault_in_script, waiting_slot, queue_left};
 
 /// A page load: the reply to a window's request loads its page, once.
 pub fn a_page_is_loaded_once()
