@@ -7,6 +7,7 @@ pub mod Rows
 pub mod Texts
 pub mod Scripts
 pub mod Leak
+pub mod Utf8
 pub mod Empty
 pub mod Stays
 pub mod Fuel
