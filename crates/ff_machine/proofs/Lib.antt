@@ -8,6 +8,7 @@ pub mod Texts
 pub mod Scripts
 pub mod Leak
 pub mod Utf8
+pub mod Params
 pub mod Empty
 pub mod Stays
 pub mod Fuel
