@@ -1,5 +1,6 @@
 -- Fuel: an input brings the browser's, and each turn spends some of it or is the last.
-use Rattle.std.proofs.Common.{◌≡◌, ℕ, zero, suc, ◌+◌, ◌<◌, ◌≤◌, ◌⊎◌, inl, inr, Bool, true, false, cond, Option, Some, None, List, [], ◌∷◌, All, ⊤, arith, refl, ◌∙◌}
+use Rattle.std.proofs.Common.{◌≡◌, ℕ, zero, suc, ◌+◌, ◌<◌, ◌⊎◌, inl, inr, Bool, true, false, cond, Option, Some, None, List, [], ◌∷◌, arith, refl, ◌∙◌}
+use Rattle.std.specs.Prelude.{⊤}
 use Rattle.ff_reactive.specs.Turns.{Stepped, machine_of, KeepsOk, IsFuelled}
 use Rattle.ff_reactive.proofs.Turns.{handle_quiet, machine_handle_ok}
 use Rattle.ff_tree.specs.declared.tree.Expr.{Expr}
@@ -17,11 +18,14 @@ use Rattle.ff_value.specs.declared.reply.Resp.TheVariants as resp
 use Rattle.ff_machine.specs.declared.records.Dst.{Dst}
 use Rattle.ff_machine.specs.declared.records.Dst.TheVariants as dst
 use Rattle.ff_machine.specs.declared.records.Pending.{Pending}
+use Rattle.ff_machine.specs.declared.kinds.Kind.TheVariants as kind
+use Rattle.ff_machine.specs.Shapes.{url_of}
+use Rattle.ff_machine.specs.Nodes.{node_at}
 use Rattle.ff_machine.specs.Windows.{is_live, is_open}
 use Rattle.ff_machine.specs.Stores as stores
 use Rattle.ff_machine.specs.Stores.{Stores, may_weigh, weighed}
 use Rattle.ff_machine.specs.State.{State, Step, Task, nothing, with_stores, if_room, given}
-use Rattle.ff_machine.specs.Inputs.{user_window, user_node, goes, links, closes, types, clicks, load_reply, fill_reply, call_reply, deliver_to, deliver, entries_of, receive, replies, perform, begin}
+use Rattle.ff_machine.specs.Inputs.{user_window, user_node, goes, links, closes, types, clicks, call_handlers, load_reply, deliver_to, deliver, entries_of, receive, perform, begin}
 use Rattle.ff_machine.specs.Turns.{script_work, work_of, next_work, spend, turn_of, turn}
 use Rattle.ff_machine.specs.Machine.{reactor}
 
@@ -83,13 +87,19 @@ perform_like : (s : State) (a : Act) → Like s (perform s a).after
 perform_like s (act.Opens u) = changed s _ s.tasks
 perform_like s (act.Goes at u) = given_like s (user_window s at) (goes s u) (λ w. room_like s (stores.go s.stores w u))
 perform_like s (act.Links at n) =
-    given_like s (user_window s at) (links s n) (λ w. given_like s _ _ (λ m. given_like s _ _ (λ u. room_like s (stores.go s.stores w u))))
+    given_like s (user_window s at) (links s n) (λ w.
+    given_like s (user_node s w kind.Link n) (λ m. given s (url_of (node_at s.stores.nodes m).shape) (λ u. goes s u w)) (λ m.
+    given_like s (url_of (node_at s.stores.nodes m).shape) (λ u. goes s u w) (λ u. room_like s (stores.go s.stores w u))))
 perform_like s (act.Closes at) = given_like s (user_window s at) (closes s) (λ w. changed s _ s.tasks)
 perform_like s (act.Types at n text) =
-    given_like s (user_window s at) (types s n text) (λ w. given_like s _ _ (λ m. given_like s (stores.type_text s.stores m text) _ (λ t. changed s t _)))
-perform_like s (act.Clicks at n) = given_like s (user_window s at) (clicks s n) (λ w. given_like s _ _ (λ m. changed s s.stores _))
+    given_like s (user_window s at) (types s n text) (λ w.
+    given_like s (user_node s w kind.TextBox n) (λ m. given s (stores.type_text s.stores m text) (λ t. nothing (call_handlers (with_stores s t) w m))) (λ m.
+    given_like s (stores.type_text s.stores m text) (λ t. nothing (call_handlers (with_stores s t) w m)) (λ t. changed s t _)))
+perform_like s (act.Clicks at n) =
+    given_like s (user_window s at) (clicks s n) (λ w.
+    given_like s (user_node s w kind.Button n) (λ m. nothing (call_handlers s w m)) (λ m. changed s s.stores _))
 perform_like s (act.Replies domain k r) =
-    given_like s (stores.take_answer s.stores domain k) _ (λ taken. over s taken.1 _ (receive_like (with_stores s taken.1) domain r taken.0))
+    given_like s (stores.take_answer s.stores domain k) (λ taken. receive (with_stores s taken.1) domain r taken.0) (λ taken. over s taken.1 _ (receive_like (with_stores s taken.1) domain r taken.0))
 
 begin_fuel : (s : State) (i : Input) → (begin s i).after.fuel ≡ s.budget
 unfolding begin
@@ -102,7 +112,7 @@ begin_budget s i = (perform_like (record s { fuel = s.budget; quiet = false }) i
 -- Turns.
 
 -- what is done next, if anything is, leaves the fuel as it is
-AreLike : Option (State → Step) → Type 0
+abbrev AreLike : Option (State → Step) → Type 0
 AreLike None = ⊤
 AreLike (Some f) = (t : State) → Like t (f t).after
 

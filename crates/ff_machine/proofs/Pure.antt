@@ -23,26 +23,16 @@ use Rattle.ff_value.specs.declared.value.Val.{Val}
 use Rattle.ff_value.specs.declared.value.Val.TheVariants as val
 use Rattle.ff_machine.proofs.Utf8.{IsUtf8-num_text, IsUtf8-part_of, fits_signed, read_num_fits, byte_of_text}
 
--- a text has fewer bytes than the numbers of 64 bits that aren't negative
-abbrev pub IsShort : Val → Type 0
-IsShort (val.Str text) = length text < 2 ^ 63
-IsShort other = Unit {0}
-
--- a value whose number fits and whose text is a text that has a length
-pub record IsPlain (v : Val) : Type 0 where
-  pub spelled : IsWellSpelledVal v
-  pub short : IsShort v
-
--- an answer of an operator with such a value, or a fault
-abbrev pub GivesPlain : Result Applied Fault → Type 0
-GivesPlain (Ok applied) = IsPlain applied.value
-GivesPlain (Err f) = Unit {0}
+-- an answer with a well spelled value, or a fault
+abbrev pub GivesSpelled : Result Applied Fault → Type 0
+GivesSpelled (Ok applied) = IsWellSpelledVal applied.value
+GivesSpelled (Err f) = Unit {0}
 
 -- Operands.
 
-with_plain : {X : Type 0} (o : Option X) (f : X → Result Applied Fault) → ((x : X) → o ≡ Some x → GivesPlain (f x)) → GivesPlain (with_operands o f)
-with_plain None f each = tt
-with_plain (Some x) f each = each x refl
+operands_spelled : {X : Type 0} (o : Option X) (f : X → Result Applied Fault) → ((x : X) → o ≡ Some x → GivesSpelled (f x)) → GivesSpelled (with_operands o f)
+operands_spelled None f each = tt
+operands_spelled (Some x) f each = each x refl
 
 module _ (P : Val → Type 0) where
   one_num_holds : (args : List Val) (n : ℤ) → AllByRecursion P args → one_num args ≡ Some n → P (val.Num n)
@@ -71,92 +61,86 @@ module _ (P : Val → Type 0) where
 
 -- Results.
 
-a_number : (n : ℤ) → FitsSigned w64 n → IsPlain (val.Num n)
-a_number n small = record { spelled = small; short = tt }
+a_count : (n : ℕ) → n < 2 ^ 63 → FitsSigned w64 (pos n)
+a_count n small = record { sfits = small }
 
-a_count : (n : ℕ) → n < 2 ^ 63 → IsPlain (val.Num (pos n))
-a_count n small = a_number (pos n) (record { sfits = small })
+made_spelled : (mass : ℕ) (text : List ℕ) → IsUtf8 text → GivesSpelled (made mass text)
+made_spelled mass text u = by (has_room mass (length text)) where
+  by : (b : Bool) → GivesSpelled (cond b (Ok (record { value = val.Str text; mass = mass + length text })) (Err fault.Limit))
+  by true = u
+  by false = tt
 
-a_test : (b : Bool) → IsPlain (val.Bool b)
-a_test b = record { spelled = tt; short = tt }
-
-made_plain : (mass : ℕ) (text : List ℕ) → IsUtf8 text → GivesPlain (made mass text)
-made_plain mass text u = by (has_room mass (length text)) refl where
-  by : (b : Bool) → has_room mass (length text) ≡ b → GivesPlain (cond b (Ok (record { value = val.Str text; mass = mass + length text })) (Err fault.Limit))
-  by true e = let few = leb-true _ _ (and_parts (nat_le (length text) longest_made) (nat_le (mass + length text) most_mass) e).0 in record { spelled = u; short = omega (arith, few) }
+number_spelled : (mass : ℕ) (n : ℤ) → GivesSpelled (num_or_overflow mass n)
+number_spelled mass n = by (fits n) refl where
+  by : (b : Bool) → fits n ≡ b → GivesSpelled (cond b (free mass (val.Num n)) (Err fault.Overflow))
+  by true e = fits_signed n e
   by false e = tt
 
-number_plain : (mass : ℕ) (n : ℤ) → GivesPlain (num_or_overflow mass n)
-number_plain mass n = by (fits n) refl where
-  by : (b : Bool) → fits n ≡ b → GivesPlain (cond b (free mass (val.Num n)) (Err fault.Overflow))
-  by true e = a_number n (fits_signed n e)
-  by false e = tt
-
-divided_plain : (mass : ℕ) (a b result : ℤ) → (fits (int_div a b) ≡ true → FitsSigned w64 result) → GivesPlain (divided mass a b result)
-divided_plain mass a b result small = by (int_eq b (pos 0)) (fits (int_div a b)) refl where
-  by : (zero within : Bool) → fits (int_div a b) ≡ within → GivesPlain (cond zero (Err fault.Range) (cond within (free mass (val.Num result)) (Err fault.Overflow)))
+divided_spelled : (mass : ℕ) (a b result : ℤ) → (fits (int_div a b) ≡ true → FitsSigned w64 result) → GivesSpelled (divided mass a b result)
+divided_spelled mass a b result small = by (int_eq b (pos 0)) (fits (int_div a b)) refl where
+  by : (zero within : Bool) → fits (int_div a b) ≡ within → GivesSpelled (cond zero (Err fault.Range) (cond within (free mass (val.Num result)) (Err fault.Overflow)))
   by true within e = tt
-  by false true e = a_number result (small e)
+  by false true e = small e
   by false false e = tt
 
 -- a remainder is no larger than the number that is divided
 rem_fits : (a b : ℤ) → FitsSigned w64 a → FitsSigned w64 (int_rem a b)
 rem_fits a b small = let less = mag_rem a b in let few = small.sfits in record { sfits = omega (arith, less, few) }
 
-ordered_plain : (mass : ℕ) (nums : ℤ → ℤ → Bool) (texts : List ℕ → List ℕ → Bool) (args : List Val) → GivesPlain (ordered mass nums texts args)
-ordered_plain mass nums texts (val.Num a ∷ val.Num b ∷ []) = a_test (nums a b)
-ordered_plain mass nums texts (val.Str a ∷ val.Str b ∷ []) = a_test (texts a b)
-ordered_plain mass nums texts other = tt
+ordered_spelled : (mass : ℕ) (nums : ℤ → ℤ → Bool) (texts : List ℕ → List ℕ → Bool) (args : List Val) → GivesSpelled (ordered mass nums texts args)
+ordered_spelled mass nums texts (val.Num a ∷ val.Num b ∷ []) = tt
+ordered_spelled mass nums texts (val.Str a ∷ val.Str b ∷ []) = tt
+ordered_spelled mass nums texts other = tt
 
-equal_plain : (mass : ℕ) (args : List Val) → GivesPlain (equal mass args)
-equal_plain mass (a ∷ b ∷ []) = by (is_code a || is_code b) where
-  by : (t : Bool) → GivesPlain (cond t (Err fault.Kind) (free mass (val.Bool (same a b))))
+equal_spelled : (mass : ℕ) (args : List Val) → GivesSpelled (equal mass args)
+equal_spelled mass (a ∷ b ∷ []) = by (is_code a || is_code b) where
+  by : (t : Bool) → GivesSpelled (cond t (Err fault.Kind) (free mass (val.Bool (same a b))))
   by true = tt
-  by false = a_test (same a b)
-equal_plain mass other = tt
+  by false = tt
+equal_spelled mass other = tt
 
-byte_plain : (mass : ℕ) (text : List ℕ) (n : ℤ) → IsUtf8 text → GivesPlain (byte mass (byte_at text n))
-byte_plain mass text n u = by (int_le (pos 0) n) where
-  given : (o : Option ℕ) → slice_get text (nat_abs n) ≡ o → GivesPlain (byte mass o)
+byte_spelled : (mass : ℕ) (text : List ℕ) (n : ℤ) → IsUtf8 text → GivesSpelled (byte mass (byte_at text n))
+byte_spelled mass text n u = by (int_le (pos 0) n) where
+  given : (o : Option ℕ) → slice_get text (nat_abs n) ≡ o → GivesSpelled (byte mass o)
   given None e = tt
   given (Some b) e = let few = byte_of_text text (nat_abs n) b u e in a_count b (omega (arith, few))
 
-  by : (t : Bool) → GivesPlain (byte mass (cond t (slice_get text (nat_abs n)) None))
+  by : (t : Bool) → GivesSpelled (byte mass (cond t (slice_get text (nat_abs n)) None))
   by true = given (slice_get text (nat_abs n)) refl
   by false = tt
 
-cut_plain : (mass : ℕ) (text : List ℕ) (from to : ℤ) → IsUtf8 text → GivesPlain (cut mass (part_of text from to))
-cut_plain mass text from to u = by (part_of text from to) refl where
-  by : (o : Option (List ℕ)) → part_of text from to ≡ o → GivesPlain (cut mass o)
+cut_spelled : (mass : ℕ) (text : List ℕ) (from to : ℤ) → IsUtf8 text → GivesSpelled (cut mass (part_of text from to))
+cut_spelled mass text from to u = by (part_of text from to) refl where
+  by : (o : Option (List ℕ)) → part_of text from to ≡ o → GivesSpelled (cut mass o)
   by None e = tt
-  by (Some part) e = made_plain mass part (IsUtf8-part_of text part from to u e)
+  by (Some part) e = made_spelled mass part (IsUtf8-part_of text part from to u e)
 
-read_plain : (text : List ℕ) → IsPlain (num_or_null (read_num text))
-read_plain text = by (read_num text) refl where
-  by : (o : Option ℤ) → read_num text ≡ o → IsPlain (num_or_null o)
-  by None e = record { spelled = tt; short = tt }
-  by (Some n) e = a_number n (read_num_fits text n e)
+read_spelled : (text : List ℕ) → IsWellSpelledVal (num_or_null (read_num text))
+read_spelled text = by (read_num text) refl where
+  by : (o : Option ℤ) → read_num text ≡ o → IsWellSpelledVal (num_or_null o)
+  by None e = tt
+  by (Some n) e = read_num_fits text n e
 
 -- All pure operators.
 
-plain_by_recursion : (o : Op) (args : List Val) (mass : ℕ) → AllByRecursion IsPlain args → GivesPlain (apply o args mass)
-plain_by_recursion op.Add args mass all = with_plain (two_nums args) _ (λ o e. number_plain mass (o.0 +ℤ o.1))
-plain_by_recursion op.Sub args mass all = with_plain (two_nums args) _ (λ o e. number_plain mass (o.0 -ℤ o.1))
-plain_by_recursion op.Mul args mass all = with_plain (two_nums args) _ (λ o e. number_plain mass (o.0 *ℤ o.1))
-plain_by_recursion op.Div args mass all = with_plain (two_nums args) _ (λ o e. divided_plain mass o.0 o.1 (int_div o.0 o.1) (fits_signed (int_div o.0 o.1)))
-plain_by_recursion op.Rem args mass all = with_plain (two_nums args) _ (λ o e. divided_plain mass o.0 o.1 (int_rem o.0 o.1) (λ _. rem_fits o.0 o.1 (two_nums_hold IsPlain args o all e).0.spelled))
-plain_by_recursion op.Less args mass all = ordered_plain mass int_lt text_lt args
-plain_by_recursion op.AtMost args mass all = ordered_plain mass int_le text_le args
-plain_by_recursion op.Equal args mass all = equal_plain mass args
-plain_by_recursion op.Not args mass all = with_plain (one_bool args) _ (λ b e. a_test (not b))
-plain_by_recursion op.Cat args mass all = with_plain (two_strs args) _ (λ o e. let both = two_strs_hold IsPlain args o all e in made_plain mass (o.0 ++ o.1) (IsUtf8-append o.0 o.1 both.0.spelled both.1.spelled))
-plain_by_recursion op.Len args mass all = with_plain (one_str args) _ (λ a e. a_count (length a) (one_str_holds IsPlain args a all e).short)
-plain_by_recursion op.Byte args mass all = with_plain (str_num args) _ (λ o e. byte_plain mass o.0 o.1 (str_num_holds IsPlain args o all e).spelled)
-plain_by_recursion op.Cut args mass all = with_plain (str_nums args) _ (λ o e. cut_plain mass o.0 o.1 o.2 (str_nums_hold IsPlain args o all e).spelled)
-plain_by_recursion op.Str args mass all = with_plain (one_num args) _ (λ n e. made_plain mass (num_text n) (IsUtf8-num_text n (one_num_holds IsPlain args n all e).spelled))
-plain_by_recursion op.Num args mass all = with_plain (one_str args) _ (λ a e. read_plain a)
-plain_by_recursion other args mass all = tt
+spelled_by_recursion : (o : Op) (args : List Val) (mass : ℕ) → AllByRecursion IsWellSpelledVal args → GivesSpelled (apply o args mass)
+spelled_by_recursion op.Add args mass all = operands_spelled (two_nums args) _ (λ o e. number_spelled mass (o.0 +ℤ o.1))
+spelled_by_recursion op.Sub args mass all = operands_spelled (two_nums args) _ (λ o e. number_spelled mass (o.0 -ℤ o.1))
+spelled_by_recursion op.Mul args mass all = operands_spelled (two_nums args) _ (λ o e. number_spelled mass (o.0 *ℤ o.1))
+spelled_by_recursion op.Div args mass all = operands_spelled (two_nums args) _ (λ o e. divided_spelled mass o.0 o.1 (int_div o.0 o.1) (fits_signed (int_div o.0 o.1)))
+spelled_by_recursion op.Rem args mass all = operands_spelled (two_nums args) _ (λ o e. divided_spelled mass o.0 o.1 (int_rem o.0 o.1) (λ _. rem_fits o.0 o.1 (two_nums_hold IsWellSpelledVal args o all e).0))
+spelled_by_recursion op.Less args mass all = ordered_spelled mass int_lt text_lt args
+spelled_by_recursion op.AtMost args mass all = ordered_spelled mass int_le text_le args
+spelled_by_recursion op.Equal args mass all = equal_spelled mass args
+spelled_by_recursion op.Not args mass all = operands_spelled (one_bool args) _ (λ b e. tt)
+spelled_by_recursion op.Cat args mass all = operands_spelled (two_strs args) _ (λ o e. let both = two_strs_hold IsWellSpelledVal args o all e in made_spelled mass (o.0 ++ o.1) (IsUtf8-append o.0 o.1 both.0 both.1))
+spelled_by_recursion op.Len args mass all = operands_spelled (one_str args) _ (λ a e. number_spelled mass (pos (length a)))
+spelled_by_recursion op.Byte args mass all = operands_spelled (str_num args) _ (λ o e. byte_spelled mass o.0 o.1 (str_num_holds IsWellSpelledVal args o all e))
+spelled_by_recursion op.Cut args mass all = operands_spelled (str_nums args) _ (λ o e. cut_spelled mass o.0 o.1 o.2 (str_nums_hold IsWellSpelledVal args o all e))
+spelled_by_recursion op.Str args mass all = operands_spelled (one_num args) _ (λ n e. made_spelled mass (num_text n) (IsUtf8-num_text n (one_num_holds IsWellSpelledVal args n all e)))
+spelled_by_recursion op.Num args mass all = operands_spelled (one_str args) _ (λ a e. read_spelled a)
+spelled_by_recursion other args mass all = tt
 
--- operands that are well spelled, with texts that have a length, give such a value or a fault
-pub apply_plain : (o : Op) (args : List Val) (mass : ℕ) → All IsPlain args → GivesPlain (apply o args mass)
-apply_plain o args mass all = plain_by_recursion o args mass (recursion_from_All IsPlain args all)
+-- operands that are well spelled give such a value, or a fault
+pub apply_spelled : (o : Op) (args : List Val) (mass : ℕ) → All IsWellSpelledVal args → GivesSpelled (apply o args mass)
+apply_spelled o args mass all = spelled_by_recursion o args mass (recursion_from_All IsWellSpelledVal args all)

@@ -1,7 +1,7 @@
 -- What calls leave that make what the definitions say. Where a call was refused memory, what it put
 -- is a front of what it was to put, and of its object no more is said. Whether a call fails is said
 -- by `Answers` and `OnFault` of the operators.
-use Rattle.std.specs.Prelude.{◌≡◌, ℕ, Bool, true, false, List, [], ◌++◌, Option, Some, None, Result, Ok, Err, ⊤}
+use Rattle.std.specs.Prelude.{◌≡◌, Bool, true, false, List, [], ◌++◌, Option, Some, None, Result, Ok, Err, ⊤}
 use Rattle.ff_contract.specs.Appending.{AppendsFront}
 use Rattle.ff_operators.specs.declared.answer.Fail.{Fail}
 use Rattle.ff_operators.specs.declared.answer.Fail.TheVariants as fail
