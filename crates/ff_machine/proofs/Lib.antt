@@ -9,6 +9,7 @@ pub mod Scripts
 pub mod Leak
 pub mod Utf8
 pub mod Params
+pub mod Operands
 pub mod Pure
 pub mod Empty
 pub mod Stays

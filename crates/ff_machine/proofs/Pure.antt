@@ -21,126 +21,97 @@ use Rattle.ff_value.specs.declared.fault.Fault.{Fault}
 use Rattle.ff_value.specs.declared.fault.Fault.TheVariants as fault
 use Rattle.ff_value.specs.declared.value.Val.{Val}
 use Rattle.ff_value.specs.declared.value.Val.TheVariants as val
+use Rattle.ff_machine.specs.References.{Made}
+use Rattle.ff_machine.specs.Valid.{IsVal}
+use Rattle.ff_machine.proofs.Operands.{operands_give, one_num_holds, two_nums_hold, two_strs_hold, str_num_holds, str_nums_hold}
 use Rattle.ff_machine.proofs.Utf8.{IsUtf8-num_text, IsUtf8-part_of, fits_signed, read_num_fits, byte_of_text}
 
--- an answer with a well spelled value, or a fault
-abbrev pub GivesSpelled : Result Applied Fault → Type 0
-GivesSpelled (Ok applied) = IsWellSpelledVal applied.value
-GivesSpelled (Err f) = Unit {0}
-
--- Operands.
-
-operands_spelled : {X : Type 0} (o : Option X) (f : X → Result Applied Fault) → ((x : X) → o ≡ Some x → GivesSpelled (f x)) → GivesSpelled (with_operands o f)
-operands_spelled None f each = tt
-operands_spelled (Some x) f each = each x refl
-
-module _ (P : Val → Type 0) where
-  one_num_holds : (args : List Val) (n : ℤ) → AllByRecursion P args → one_num args ≡ Some n → P (val.Num n)
-  one_num_holds (val.Num a ∷ []) n all e = let is : a ≡ n = cc in subst (λ x. P (val.Num x)) is all.0
-  one_num_holds other n all e = cc
-
-  two_nums_hold : (args : List Val) (o : ℤ × ℤ) → AllByRecursion P args → two_nums args ≡ Some o → P (val.Num o.0) × P (val.Num o.1)
-  two_nums_hold (val.Num a ∷ val.Num b ∷ []) o all e = let is : (a, b) ≡ o = cc in subst (λ (x : ℤ × ℤ). P (val.Num x.0) × P (val.Num x.1)) is (all.0, all.1.0)
-  two_nums_hold other o all e = cc
-
-  one_str_holds : (args : List Val) (a : List ℕ) → AllByRecursion P args → one_str args ≡ Some a → P (val.Str a)
-  one_str_holds (val.Str a ∷ []) o all e = let is : a ≡ o = cc in subst (λ x. P (val.Str x)) is all.0
-  one_str_holds other o all e = cc
-
-  two_strs_hold : (args : List Val) (o : List ℕ × List ℕ) → AllByRecursion P args → two_strs args ≡ Some o → P (val.Str o.0) × P (val.Str o.1)
-  two_strs_hold (val.Str a ∷ val.Str b ∷ []) o all e = let is : (a, b) ≡ o = cc in subst (λ (x : List ℕ × List ℕ). P (val.Str x.0) × P (val.Str x.1)) is (all.0, all.1.0)
-  two_strs_hold other o all e = cc
-
-  str_num_holds : (args : List Val) (o : List ℕ × ℤ) → AllByRecursion P args → str_num args ≡ Some o → P (val.Str o.0)
-  str_num_holds (val.Str a ∷ val.Num b ∷ []) o all e = let is : (a, b) ≡ o = cc in subst (λ (x : List ℕ × ℤ). P (val.Str x.0)) is all.0
-  str_num_holds other o all e = cc
-
-  str_nums_hold : (args : List Val) (o : List ℕ × ℤ × ℤ) → AllByRecursion P args → str_nums args ≡ Some o → P (val.Str o.0)
-  str_nums_hold (val.Str a ∷ val.Num b ∷ val.Num c ∷ []) o all e = let is : (a, b, c) ≡ o = cc in subst (λ (x : List ℕ × ℤ × ℤ). P (val.Str x.0)) is all.0
-  str_nums_hold other o all e = cc
-
--- Results.
+-- an answer with a well spelled value that refers to nothing but what was made, or a fault
+abbrev pub GivesVal : Made → Result Applied Fault → Type 0
+GivesVal m (Ok applied) = IsVal m applied.value
+GivesVal m (Err f) = Unit {0}
 
 a_count : (n : ℕ) → n < 2 ^ 63 → FitsSigned w64 (pos n)
 a_count n small = record { sfits = small }
-
-made_spelled : (mass : ℕ) (text : List ℕ) → IsUtf8 text → GivesSpelled (made mass text)
-made_spelled mass text u = by (has_room mass (length text)) where
-  by : (b : Bool) → GivesSpelled (cond b (Ok (record { value = val.Str text; mass = mass + length text })) (Err fault.Limit))
-  by true = u
-  by false = tt
-
-number_spelled : (mass : ℕ) (n : ℤ) → GivesSpelled (num_or_overflow mass n)
-number_spelled mass n = by (fits n) refl where
-  by : (b : Bool) → fits n ≡ b → GivesSpelled (cond b (free mass (val.Num n)) (Err fault.Overflow))
-  by true e = fits_signed n e
-  by false e = tt
-
-divided_spelled : (mass : ℕ) (a b result : ℤ) → (fits (int_div a b) ≡ true → FitsSigned w64 result) → GivesSpelled (divided mass a b result)
-divided_spelled mass a b result small = by (int_eq b (pos 0)) (fits (int_div a b)) refl where
-  by : (zero within : Bool) → fits (int_div a b) ≡ within → GivesSpelled (cond zero (Err fault.Range) (cond within (free mass (val.Num result)) (Err fault.Overflow)))
-  by true within e = tt
-  by false true e = small e
-  by false false e = tt
 
 -- a remainder is no larger than the number that is divided
 rem_fits : (a b : ℤ) → FitsSigned w64 a → FitsSigned w64 (int_rem a b)
 rem_fits a b small = let less = mag_rem a b in let few = small.sfits in record { sfits = omega (arith, less, few) }
 
-ordered_spelled : (mass : ℕ) (nums : ℤ → ℤ → Bool) (texts : List ℕ → List ℕ → Bool) (args : List Val) → GivesSpelled (ordered mass nums texts args)
-ordered_spelled mass nums texts (val.Num a ∷ val.Num b ∷ []) = tt
-ordered_spelled mass nums texts (val.Str a ∷ val.Str b ∷ []) = tt
-ordered_spelled mass nums texts other = tt
+module _ (m : Made) where
+  made_valid : (mass : ℕ) (text : List ℕ) → IsUtf8 text → GivesVal m (made mass text)
+  made_valid mass text u = by (has_room mass (length text)) where
+    by : (b : Bool) → GivesVal m (cond b (Ok (record { value = val.Str text; mass = mass + length text })) (Err fault.Limit))
+    by true = (u, tt)
+    by false = tt
 
-equal_spelled : (mass : ℕ) (args : List Val) → GivesSpelled (equal mass args)
-equal_spelled mass (a ∷ b ∷ []) = by (is_code a || is_code b) where
-  by : (t : Bool) → GivesSpelled (cond t (Err fault.Kind) (free mass (val.Bool (same a b))))
-  by true = tt
-  by false = tt
-equal_spelled mass other = tt
+  number_valid : (mass : ℕ) (n : ℤ) → GivesVal m (num_or_overflow mass n)
+  number_valid mass n = by (fits n) refl where
+    by : (b : Bool) → fits n ≡ b → GivesVal m (cond b (free mass (val.Num n)) (Err fault.Overflow))
+    by true e = (fits_signed n e, tt)
+    by false e = tt
 
-byte_spelled : (mass : ℕ) (text : List ℕ) (n : ℤ) → IsUtf8 text → GivesSpelled (byte mass (byte_at text n))
-byte_spelled mass text n u = by (int_le (pos 0) n) where
-  given : (o : Option ℕ) → slice_get text (nat_abs n) ≡ o → GivesSpelled (byte mass o)
-  given None e = tt
-  given (Some b) e = let few = byte_of_text text (nat_abs n) b u e in a_count b (omega (arith, few))
+  divided_valid : (mass : ℕ) (a b result : ℤ) → (fits (int_div a b) ≡ true → FitsSigned w64 result) → GivesVal m (divided mass a b result)
+  divided_valid mass a b result small = by (int_eq b (pos 0)) (fits (int_div a b)) refl where
+    by : (zero within : Bool) → fits (int_div a b) ≡ within → GivesVal m (cond zero (Err fault.Range) (cond within (free mass (val.Num result)) (Err fault.Overflow)))
+    by true within e = tt
+    by false true e = (small e, tt)
+    by false false e = tt
 
-  by : (t : Bool) → GivesSpelled (byte mass (cond t (slice_get text (nat_abs n)) None))
-  by true = given (slice_get text (nat_abs n)) refl
-  by false = tt
+  ordered_valid : (mass : ℕ) (nums : ℤ → ℤ → Bool) (texts : List ℕ → List ℕ → Bool) (args : List Val) → GivesVal m (ordered mass nums texts args)
+  ordered_valid mass nums texts (val.Num a ∷ val.Num b ∷ []) = (tt, tt)
+  ordered_valid mass nums texts (val.Str a ∷ val.Str b ∷ []) = (tt, tt)
+  ordered_valid mass nums texts other = tt
 
-cut_spelled : (mass : ℕ) (text : List ℕ) (from to : ℤ) → IsUtf8 text → GivesSpelled (cut mass (part_of text from to))
-cut_spelled mass text from to u = by (part_of text from to) refl where
-  by : (o : Option (List ℕ)) → part_of text from to ≡ o → GivesSpelled (cut mass o)
-  by None e = tt
-  by (Some part) e = made_spelled mass part (IsUtf8-part_of text part from to u e)
+  equal_valid : (mass : ℕ) (args : List Val) → GivesVal m (equal mass args)
+  equal_valid mass (a ∷ b ∷ []) = by (is_code a || is_code b) where
+    by : (t : Bool) → GivesVal m (cond t (Err fault.Kind) (free mass (val.Bool (same a b))))
+    by true = tt
+    by false = (tt, tt)
+  equal_valid mass other = tt
 
-read_spelled : (text : List ℕ) → IsWellSpelledVal (num_or_null (read_num text))
-read_spelled text = by (read_num text) refl where
-  by : (o : Option ℤ) → read_num text ≡ o → IsWellSpelledVal (num_or_null o)
-  by None e = tt
-  by (Some n) e = read_num_fits text n e
+  byte_valid : (mass : ℕ) (text : List ℕ) (n : ℤ) → IsUtf8 text → GivesVal m (byte mass (byte_at text n))
+  byte_valid mass text n u = by (int_le (pos 0) n) where
+    given : (o : Option ℕ) → slice_get text (nat_abs n) ≡ o → GivesVal m (byte mass o)
+    given None e = tt
+    given (Some b) e = let few = byte_of_text text (nat_abs n) b u e in (a_count b (omega (arith, few)), tt)
 
--- All pure operators.
+    by : (t : Bool) → GivesVal m (byte mass (cond t (slice_get text (nat_abs n)) None))
+    by true = given (slice_get text (nat_abs n)) refl
+    by false = tt
 
-spelled_by_recursion : (o : Op) (args : List Val) (mass : ℕ) → AllByRecursion IsWellSpelledVal args → GivesSpelled (apply o args mass)
-spelled_by_recursion op.Add args mass all = operands_spelled (two_nums args) _ (λ o e. number_spelled mass (o.0 +ℤ o.1))
-spelled_by_recursion op.Sub args mass all = operands_spelled (two_nums args) _ (λ o e. number_spelled mass (o.0 -ℤ o.1))
-spelled_by_recursion op.Mul args mass all = operands_spelled (two_nums args) _ (λ o e. number_spelled mass (o.0 *ℤ o.1))
-spelled_by_recursion op.Div args mass all = operands_spelled (two_nums args) _ (λ o e. divided_spelled mass o.0 o.1 (int_div o.0 o.1) (fits_signed (int_div o.0 o.1)))
-spelled_by_recursion op.Rem args mass all = operands_spelled (two_nums args) _ (λ o e. divided_spelled mass o.0 o.1 (int_rem o.0 o.1) (λ _. rem_fits o.0 o.1 (two_nums_hold IsWellSpelledVal args o all e).0))
-spelled_by_recursion op.Less args mass all = ordered_spelled mass int_lt text_lt args
-spelled_by_recursion op.AtMost args mass all = ordered_spelled mass int_le text_le args
-spelled_by_recursion op.Equal args mass all = equal_spelled mass args
-spelled_by_recursion op.Not args mass all = operands_spelled (one_bool args) _ (λ b e. tt)
-spelled_by_recursion op.Cat args mass all = operands_spelled (two_strs args) _ (λ o e. let both = two_strs_hold IsWellSpelledVal args o all e in made_spelled mass (o.0 ++ o.1) (IsUtf8-append o.0 o.1 both.0 both.1))
-spelled_by_recursion op.Len args mass all = operands_spelled (one_str args) _ (λ a e. number_spelled mass (pos (length a)))
-spelled_by_recursion op.Byte args mass all = operands_spelled (str_num args) _ (λ o e. byte_spelled mass o.0 o.1 (str_num_holds IsWellSpelledVal args o all e))
-spelled_by_recursion op.Cut args mass all = operands_spelled (str_nums args) _ (λ o e. cut_spelled mass o.0 o.1 o.2 (str_nums_hold IsWellSpelledVal args o all e))
-spelled_by_recursion op.Str args mass all = operands_spelled (one_num args) _ (λ n e. made_spelled mass (num_text n) (IsUtf8-num_text n (one_num_holds IsWellSpelledVal args n all e)))
-spelled_by_recursion op.Num args mass all = operands_spelled (one_str args) _ (λ a e. read_spelled a)
-spelled_by_recursion other args mass all = tt
+  cut_valid : (mass : ℕ) (text : List ℕ) (from to : ℤ) → IsUtf8 text → GivesVal m (cut mass (part_of text from to))
+  cut_valid mass text from to u = by (part_of text from to) refl where
+    by : (o : Option (List ℕ)) → part_of text from to ≡ o → GivesVal m (cut mass o)
+    by None e = tt
+    by (Some part) e = made_valid mass part (IsUtf8-part_of text part from to u e)
 
--- operands that are well spelled give such a value, or a fault
-pub apply_spelled : (o : Op) (args : List Val) (mass : ℕ) → All IsWellSpelledVal args → GivesSpelled (apply o args mass)
-apply_spelled o args mass all = spelled_by_recursion o args mass (recursion_from_All IsWellSpelledVal args all)
+  read_valid : (text : List ℕ) → IsVal m (num_or_null (read_num text))
+  read_valid text = by (read_num text) refl where
+    by : (o : Option ℤ) → read_num text ≡ o → IsVal m (num_or_null o)
+    by None e = (tt, tt)
+    by (Some n) e = (read_num_fits text n e, tt)
+
+  -- All pure operators.
+
+  valid_by_recursion : (o : Op) (args : List Val) (mass : ℕ) → AllByRecursion IsWellSpelledVal args → GivesVal m (apply o args mass)
+  valid_by_recursion op.Add args mass all = operands_give (GivesVal m) tt (two_nums args) _ (λ o e. number_valid mass (o.0 +ℤ o.1))
+  valid_by_recursion op.Sub args mass all = operands_give (GivesVal m) tt (two_nums args) _ (λ o e. number_valid mass (o.0 -ℤ o.1))
+  valid_by_recursion op.Mul args mass all = operands_give (GivesVal m) tt (two_nums args) _ (λ o e. number_valid mass (o.0 *ℤ o.1))
+  valid_by_recursion op.Div args mass all = operands_give (GivesVal m) tt (two_nums args) _ (λ o e. divided_valid mass o.0 o.1 (int_div o.0 o.1) (fits_signed (int_div o.0 o.1)))
+  valid_by_recursion op.Rem args mass all = operands_give (GivesVal m) tt (two_nums args) _ (λ o e. divided_valid mass o.0 o.1 (int_rem o.0 o.1) (λ _. rem_fits o.0 o.1 (two_nums_hold IsWellSpelledVal args o all e).0))
+  valid_by_recursion op.Less args mass all = ordered_valid mass int_lt text_lt args
+  valid_by_recursion op.AtMost args mass all = ordered_valid mass int_le text_le args
+  valid_by_recursion op.Equal args mass all = equal_valid mass args
+  valid_by_recursion op.Not args mass all = operands_give (GivesVal m) tt (one_bool args) _ (λ b e. (tt, tt))
+  valid_by_recursion op.Cat args mass all = operands_give (GivesVal m) tt (two_strs args) _ (λ o e. let both = two_strs_hold IsWellSpelledVal args o all e in made_valid mass (o.0 ++ o.1) (IsUtf8-append o.0 o.1 both.0 both.1))
+  valid_by_recursion op.Len args mass all = operands_give (GivesVal m) tt (one_str args) _ (λ a e. number_valid mass (pos (length a)))
+  valid_by_recursion op.Byte args mass all = operands_give (GivesVal m) tt (str_num args) _ (λ o e. byte_valid mass o.0 o.1 (str_num_holds IsWellSpelledVal args o all e).0)
+  valid_by_recursion op.Cut args mass all = operands_give (GivesVal m) tt (str_nums args) _ (λ o e. cut_valid mass o.0 o.1 o.2 (str_nums_hold IsWellSpelledVal args o all e).0)
+  valid_by_recursion op.Str args mass all = operands_give (GivesVal m) tt (one_num args) _ (λ n e. made_valid mass (num_text n) (IsUtf8-num_text n (one_num_holds IsWellSpelledVal args n all e)))
+  valid_by_recursion op.Num args mass all = operands_give (GivesVal m) tt (one_str args) _ (λ a e. read_valid a)
+  valid_by_recursion other args mass all = tt
+
+  -- for well spelled operands it gives such a value, or a fault
+  pub apply_valid : (o : Op) (args : List Val) (mass : ℕ) → All IsWellSpelledVal args → GivesVal m (apply o args mass)
+  apply_valid o args mass all = valid_by_recursion o args mass (recursion_from_All IsWellSpelledVal args all)
