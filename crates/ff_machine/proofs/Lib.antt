@@ -11,6 +11,7 @@ pub mod Utf8
 pub mod Params
 pub mod Operands
 pub mod Pure
+pub mod Walks
 pub mod Empty
 pub mod Stays
 pub mod Fuel

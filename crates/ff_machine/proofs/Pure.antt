@@ -39,7 +39,7 @@ rem_fits : (a b : ℤ) → FitsSigned w64 a → FitsSigned w64 (int_rem a b)
 rem_fits a b small = let less = mag_rem a b in let few = small.sfits in record { sfits = omega (arith, less, few) }
 
 module _ (m : Made) where
-  made_valid : (mass : ℕ) (text : List ℕ) → IsUtf8 text → GivesVal m (made mass text)
+  pub made_valid : (mass : ℕ) (text : List ℕ) → IsUtf8 text → GivesVal m (made mass text)
   made_valid mass text u = by (has_room mass (length text)) where
     by : (b : Bool) → GivesVal m (cond b (Ok (record { value = val.Str text; mass = mass + length text })) (Err fault.Limit))
     by true = (u, tt)
