@@ -12,6 +12,7 @@ pub mod Params
 pub mod Operands
 pub mod Pure
 pub mod Walks
+pub mod Values
 pub mod Empty
 pub mod Stays
 pub mod Fuel
