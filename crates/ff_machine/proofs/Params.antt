@@ -1,5 +1,5 @@
 -- The variables of a new activation: each parameter has its own argument, since parameters differ.
-use Rattle.std.proofs.Common.{◌≡◌, ◌≢◌, ℕ, zero, suc, ◌+◌, ◌<◌, ◌≤◌, Bool, true, false, cond, Option, Some, None, List, [], ◌∷◌, ◌++◌, length, slice_get, sum_by, is_some, nat_lt, nat_le, All, arith, refl, sym, subst, ap, ◌∙◌}
+use Rattle.std.proofs.Common.{◌≡◌, ◌≢◌, ℕ, zero, suc, ◌+◌, ◌<◌, ◌≤◌, Bool, true, false, cond, Option, Some, None, List, [], ◌∷◌, ◌++◌, length, slice_get, sum_by, is_some, option_and_then, slice_index_or, nat_lt, nat_le, All, arith, refl, sym, subst, ap, ◌∙◌}
 use Rattle.std.specs.declared.cmp.Ordering.{Ordering}
 use Rattle.std.specs.declared.cmp.Ordering.TheVariants.{Less, Equal, Greater}
 use Rattle.std.specs.Cmp.{eq_by_cmp_equiv}
@@ -7,6 +7,7 @@ use Rattle.std.specs.Cmp.Lexicographic.{slice_cmp, nat_list_cmp_total}
 use Rattle.std.specs.List.{AllByRecursion, zip}
 use Rattle.std.specs.Ordering.{nat_cmp, eq_by_cmp, is_eq}
 use Rattle.std.specs.FinMap as finmap
+use Rattle.std.proofs.Math.Seq.{get_or-append_seam}
 use Rattle.std.proofs.lemmas.Bool.{and_parts, leb-true}
 use Rattle.std.proofs.lemmas.List.Elements.{recursion_from_All}
 use Rattle.std.proofs.lemmas.List.Sums.{sum_by-append}
@@ -16,7 +17,7 @@ use Rattle.ff_value.specs.declared.value.Val.{Val}
 use Rattle.ff_value.specs.declared.ids.ActId.{ActId}
 use Rattle.ff_value.specs.Spelled.{IsWellSpelledVal}
 use Rattle.ff_machine.specs.declared.limits.TheConstants.{MOST_ACTS, MOST_VARS}
-use Rattle.ff_machine.specs.Windows.{Vars, Activation, count_vars, with_act, may_call}
+use Rattle.ff_machine.specs.Windows.{Vars, Activation, no_act, act_at, vars_of, holder, holder_within, lookup, count_vars, with_act, may_call}
 use Rattle.ff_machine.specs.Alone.{IsAct}
 use Rattle.ff_machine.specs.References.{Made, ValRefers, ActRefers}
 
@@ -128,3 +129,13 @@ pub called_vars_few : (acts : List Activation) (env : ActId) (params : List (Lis
 called_vars_few acts env params args are e room =
     let room_of = (and_parts (nat_lt (length acts) MOST_ACTS) (nat_le (count_vars acts + length params) MOST_VARS) room).1 in
     subst (λ n. n ≤ MOST_VARS) (sym (called_vars acts env params args are e)) (leb-true _ _ room_of)
+
+-- looked up in the new activation, each parameter has the argument at its place
+pub call_has : (acts : List Activation) (env a : ActId) (params : List (List ℕ)) (args : List Val) (i : ℕ) (x : List ℕ) (v : Val) → AreParams params → a.0 ≡ length acts → slice_get params i ≡ Some x → slice_get args i ≡ Some v
+    → lookup (with_act acts env params args) a x ≡ Some v
+unfolding holder
+call_has acts env a params args i x v are last e f =
+    let all = with_act acts env params args in
+    let vars_are : vars_of all a ≡ vars_with params args = ap (λ n. (slice_index_or all n no_act).vars) last ∙ ap (λ (act : Activation). act.vars) (get_or-append_seam acts (record { parent = Some env; vars = vars_with params args }) [] no_act) in
+    let here : finmap.get (vars_of all a) x ≡ Some v = ap (λ (vars : Vars). finmap.get vars x) vars_are ∙ param_has params args are.differ i x v e f in
+    ap (λ b. option_and_then (λ b. finmap.get (vars_of all b) x) (cond b (Some a) (option_and_then (λ p. holder_within a.0 all p x) (act_at all a).parent))) (ap is_some here) ∙ here

@@ -27,9 +27,9 @@ use Rattle.ff_machine.proofs.Operands.{operands_give, one_num_holds, two_nums_ho
 use Rattle.ff_machine.proofs.Utf8.{IsUtf8-num_text, IsUtf8-part_of, fits_signed, read_num_fits, byte_of_text}
 
 -- an answer with a well spelled value that refers to nothing but what was made, or a fault
-abbrev pub GivesVal : Made → Result Applied Fault → Type 0
-GivesVal m (Ok applied) = IsVal m applied.value
-GivesVal m (Err f) = Unit {0}
+abbrev pub AppliesVal : Made → Result Applied Fault → Type 0
+AppliesVal m (Ok applied) = IsVal m applied.value
+AppliesVal m (Err f) = Unit {0}
 
 a_count : (n : ℕ) → n < 2 ^ 63 → FitsSigned w64 (pos n)
 a_count n small = record { sfits = small }
@@ -39,50 +39,50 @@ rem_fits : (a b : ℤ) → FitsSigned w64 a → FitsSigned w64 (int_rem a b)
 rem_fits a b small = let less = mag_rem a b in let few = small.sfits in record { sfits = omega (arith, less, few) }
 
 module _ (m : Made) where
-  pub made_valid : (mass : ℕ) (text : List ℕ) → IsUtf8 text → GivesVal m (made mass text)
+  pub made_valid : (mass : ℕ) (text : List ℕ) → IsUtf8 text → AppliesVal m (made mass text)
   made_valid mass text u = by (has_room mass (length text)) where
-    by : (b : Bool) → GivesVal m (cond b (Ok (record { value = val.Str text; mass = mass + length text })) (Err fault.Limit))
+    by : (b : Bool) → AppliesVal m (cond b (Ok (record { value = val.Str text; mass = mass + length text })) (Err fault.Limit))
     by true = (u, tt)
     by false = tt
 
-  number_valid : (mass : ℕ) (n : ℤ) → GivesVal m (num_or_overflow mass n)
+  number_valid : (mass : ℕ) (n : ℤ) → AppliesVal m (num_or_overflow mass n)
   number_valid mass n = by (fits n) refl where
-    by : (b : Bool) → fits n ≡ b → GivesVal m (cond b (free mass (val.Num n)) (Err fault.Overflow))
+    by : (b : Bool) → fits n ≡ b → AppliesVal m (cond b (free mass (val.Num n)) (Err fault.Overflow))
     by true e = (fits_signed n e, tt)
     by false e = tt
 
-  divided_valid : (mass : ℕ) (a b result : ℤ) → (fits (int_div a b) ≡ true → FitsSigned w64 result) → GivesVal m (divided mass a b result)
+  divided_valid : (mass : ℕ) (a b result : ℤ) → (fits (int_div a b) ≡ true → FitsSigned w64 result) → AppliesVal m (divided mass a b result)
   divided_valid mass a b result small = by (int_eq b (pos 0)) (fits (int_div a b)) refl where
-    by : (zero within : Bool) → fits (int_div a b) ≡ within → GivesVal m (cond zero (Err fault.Range) (cond within (free mass (val.Num result)) (Err fault.Overflow)))
+    by : (zero within : Bool) → fits (int_div a b) ≡ within → AppliesVal m (cond zero (Err fault.Range) (cond within (free mass (val.Num result)) (Err fault.Overflow)))
     by true within e = tt
     by false true e = (small e, tt)
     by false false e = tt
 
-  ordered_valid : (mass : ℕ) (nums : ℤ → ℤ → Bool) (texts : List ℕ → List ℕ → Bool) (args : List Val) → GivesVal m (ordered mass nums texts args)
+  ordered_valid : (mass : ℕ) (nums : ℤ → ℤ → Bool) (texts : List ℕ → List ℕ → Bool) (args : List Val) → AppliesVal m (ordered mass nums texts args)
   ordered_valid mass nums texts (val.Num a ∷ val.Num b ∷ []) = (tt, tt)
   ordered_valid mass nums texts (val.Str a ∷ val.Str b ∷ []) = (tt, tt)
   ordered_valid mass nums texts other = tt
 
-  equal_valid : (mass : ℕ) (args : List Val) → GivesVal m (equal mass args)
+  equal_valid : (mass : ℕ) (args : List Val) → AppliesVal m (equal mass args)
   equal_valid mass (a ∷ b ∷ []) = by (is_code a || is_code b) where
-    by : (t : Bool) → GivesVal m (cond t (Err fault.Kind) (free mass (val.Bool (same a b))))
+    by : (t : Bool) → AppliesVal m (cond t (Err fault.Kind) (free mass (val.Bool (same a b))))
     by true = tt
     by false = (tt, tt)
   equal_valid mass other = tt
 
-  byte_valid : (mass : ℕ) (text : List ℕ) (n : ℤ) → IsUtf8 text → GivesVal m (byte mass (byte_at text n))
+  byte_valid : (mass : ℕ) (text : List ℕ) (n : ℤ) → IsUtf8 text → AppliesVal m (byte mass (byte_at text n))
   byte_valid mass text n u = by (int_le (pos 0) n) where
-    given : (o : Option ℕ) → slice_get text (nat_abs n) ≡ o → GivesVal m (byte mass o)
+    given : (o : Option ℕ) → slice_get text (nat_abs n) ≡ o → AppliesVal m (byte mass o)
     given None e = tt
     given (Some b) e = let few = byte_of_text text (nat_abs n) b u e in (a_count b (omega (arith, few)), tt)
 
-    by : (t : Bool) → GivesVal m (byte mass (cond t (slice_get text (nat_abs n)) None))
+    by : (t : Bool) → AppliesVal m (byte mass (cond t (slice_get text (nat_abs n)) None))
     by true = given (slice_get text (nat_abs n)) refl
     by false = tt
 
-  cut_valid : (mass : ℕ) (text : List ℕ) (from to : ℤ) → IsUtf8 text → GivesVal m (cut mass (part_of text from to))
+  cut_valid : (mass : ℕ) (text : List ℕ) (from to : ℤ) → IsUtf8 text → AppliesVal m (cut mass (part_of text from to))
   cut_valid mass text from to u = by (part_of text from to) refl where
-    by : (o : Option (List ℕ)) → part_of text from to ≡ o → GivesVal m (cut mass o)
+    by : (o : Option (List ℕ)) → part_of text from to ≡ o → AppliesVal m (cut mass o)
     by None e = tt
     by (Some part) e = made_valid mass part (IsUtf8-part_of text part from to u e)
 
@@ -94,24 +94,24 @@ module _ (m : Made) where
 
   -- All pure operators.
 
-  valid_by_recursion : (o : Op) (args : List Val) (mass : ℕ) → AllByRecursion IsWellSpelledVal args → GivesVal m (apply o args mass)
-  valid_by_recursion op.Add args mass all = operands_give (GivesVal m) tt (two_nums args) _ (λ o e. number_valid mass (o.0 +ℤ o.1))
-  valid_by_recursion op.Sub args mass all = operands_give (GivesVal m) tt (two_nums args) _ (λ o e. number_valid mass (o.0 -ℤ o.1))
-  valid_by_recursion op.Mul args mass all = operands_give (GivesVal m) tt (two_nums args) _ (λ o e. number_valid mass (o.0 *ℤ o.1))
-  valid_by_recursion op.Div args mass all = operands_give (GivesVal m) tt (two_nums args) _ (λ o e. divided_valid mass o.0 o.1 (int_div o.0 o.1) (fits_signed (int_div o.0 o.1)))
-  valid_by_recursion op.Rem args mass all = operands_give (GivesVal m) tt (two_nums args) _ (λ o e. divided_valid mass o.0 o.1 (int_rem o.0 o.1) (λ _. rem_fits o.0 o.1 (two_nums_hold IsWellSpelledVal args o all e).0))
+  valid_by_recursion : (o : Op) (args : List Val) (mass : ℕ) → AllByRecursion IsWellSpelledVal args → AppliesVal m (apply o args mass)
+  valid_by_recursion op.Add args mass all = operands_give (AppliesVal m) tt (two_nums args) _ (λ o e. number_valid mass (o.0 +ℤ o.1))
+  valid_by_recursion op.Sub args mass all = operands_give (AppliesVal m) tt (two_nums args) _ (λ o e. number_valid mass (o.0 -ℤ o.1))
+  valid_by_recursion op.Mul args mass all = operands_give (AppliesVal m) tt (two_nums args) _ (λ o e. number_valid mass (o.0 *ℤ o.1))
+  valid_by_recursion op.Div args mass all = operands_give (AppliesVal m) tt (two_nums args) _ (λ o e. divided_valid mass o.0 o.1 (int_div o.0 o.1) (fits_signed (int_div o.0 o.1)))
+  valid_by_recursion op.Rem args mass all = operands_give (AppliesVal m) tt (two_nums args) _ (λ o e. divided_valid mass o.0 o.1 (int_rem o.0 o.1) (λ _. rem_fits o.0 o.1 (two_nums_hold IsWellSpelledVal args o all e).0))
   valid_by_recursion op.Less args mass all = ordered_valid mass int_lt text_lt args
   valid_by_recursion op.AtMost args mass all = ordered_valid mass int_le text_le args
   valid_by_recursion op.Equal args mass all = equal_valid mass args
-  valid_by_recursion op.Not args mass all = operands_give (GivesVal m) tt (one_bool args) _ (λ b e. (tt, tt))
-  valid_by_recursion op.Cat args mass all = operands_give (GivesVal m) tt (two_strs args) _ (λ o e. let both = two_strs_hold IsWellSpelledVal args o all e in made_valid mass (o.0 ++ o.1) (IsUtf8-append o.0 o.1 both.0 both.1))
-  valid_by_recursion op.Len args mass all = operands_give (GivesVal m) tt (one_str args) _ (λ a e. number_valid mass (pos (length a)))
-  valid_by_recursion op.Byte args mass all = operands_give (GivesVal m) tt (str_num args) _ (λ o e. byte_valid mass o.0 o.1 (str_num_holds IsWellSpelledVal args o all e).0)
-  valid_by_recursion op.Cut args mass all = operands_give (GivesVal m) tt (str_nums args) _ (λ o e. cut_valid mass o.0 o.1 o.2 (str_nums_hold IsWellSpelledVal args o all e).0)
-  valid_by_recursion op.Str args mass all = operands_give (GivesVal m) tt (one_num args) _ (λ n e. made_valid mass (num_text n) (IsUtf8-num_text n (one_num_holds IsWellSpelledVal args n all e)))
-  valid_by_recursion op.Num args mass all = operands_give (GivesVal m) tt (one_str args) _ (λ a e. read_valid a)
+  valid_by_recursion op.Not args mass all = operands_give (AppliesVal m) tt (one_bool args) _ (λ b e. (tt, tt))
+  valid_by_recursion op.Cat args mass all = operands_give (AppliesVal m) tt (two_strs args) _ (λ o e. let both = two_strs_hold IsWellSpelledVal args o all e in made_valid mass (o.0 ++ o.1) (IsUtf8-append o.0 o.1 both.0 both.1))
+  valid_by_recursion op.Len args mass all = operands_give (AppliesVal m) tt (one_str args) _ (λ a e. number_valid mass (pos (length a)))
+  valid_by_recursion op.Byte args mass all = operands_give (AppliesVal m) tt (str_num args) _ (λ o e. byte_valid mass o.0 o.1 (str_num_holds IsWellSpelledVal args o all e).0)
+  valid_by_recursion op.Cut args mass all = operands_give (AppliesVal m) tt (str_nums args) _ (λ o e. cut_valid mass o.0 o.1 o.2 (str_nums_hold IsWellSpelledVal args o all e).0)
+  valid_by_recursion op.Str args mass all = operands_give (AppliesVal m) tt (one_num args) _ (λ n e. made_valid mass (num_text n) (IsUtf8-num_text n (one_num_holds IsWellSpelledVal args n all e)))
+  valid_by_recursion op.Num args mass all = operands_give (AppliesVal m) tt (one_str args) _ (λ a e. read_valid a)
   valid_by_recursion other args mass all = tt
 
   -- for well spelled operands it gives such a value, or a fault
-  pub apply_valid : (o : Op) (args : List Val) (mass : ℕ) → All IsWellSpelledVal args → GivesVal m (apply o args mass)
+  pub apply_valid : (o : Op) (args : List Val) (mass : ℕ) → All IsWellSpelledVal args → AppliesVal m (apply o args mass)
   apply_valid o args mass all = valid_by_recursion o args mass (recursion_from_All IsWellSpelledVal args all)

@@ -41,16 +41,11 @@ use Rattle.ff_machine.specs.Operators as operators
 use Rattle.ff_machine.specs.Operators.{Outcome, operate, gives, does, does_or_limit, becomes, unless, with_mass, or_null, if_open, at_url, page_domain, item_at}
 use Rattle.ff_machine.specs.Alone.{IsShape}
 use Rattle.ff_machine.specs.References.{made as made_of}
-use Rattle.ff_machine.specs.Valid.{IsVal, IsStores}
+use Rattle.ff_machine.specs.Valid.{IsVal, IsStores, GivesVal}
 use Rattle.ff_machine.proofs.Operands.{operands_give, one_win_holds, win_str_holds, one_node_holds, node_str_holds, node_num_holds, node_str_num_holds}
-use Rattle.ff_machine.proofs.Pure.{GivesVal, apply_valid, made_valid}
+use Rattle.ff_machine.proofs.Pure.{AppliesVal, apply_valid, made_valid}
 use Rattle.ff_machine.proofs.Utf8.{IsUtf8-kind_word, IsUtf8-printed}
 use Rattle.ff_machine.proofs.Walks.{walk_made, few_children}
-
--- the value of an outcome refers to what was made before, or is the window that was opened
-abbrev pub GivesValid : Stores → Outcome → Type 0
-GivesValid s (Ok did) = IsVal (made_of s) did.value ⊎ (did.value ≡ val.Win (windows.next_win s.windows))
-GivesValid s (Err f) = Unit {0}
 
 -- Lists.
 
@@ -89,32 +84,32 @@ item_holds P xs k h = by (int_lt k (pos 0)) where
 -- Outcomes.
 
 module _ (s : Stores) where
-  old : (v : Val) (t : Stores) (outputs : List Out) → IsVal (made_of s) v → GivesValid s (Ok (record { value = v; after = t; outputs = outputs }))
+  old : (v : Val) (t : Stores) (outputs : List Out) → IsVal (made_of s) v → GivesVal s (Ok (record { value = v; after = t; outputs = outputs }))
   old v t outputs h = inl h
 
-  or_null_valid : {X : Type 0} (f : X → Val) (o : Option X) → ForSome o (λ x. IsVal (made_of s) (f x)) → GivesValid s (gives s (or_null f o))
+  or_null_valid : {X : Type 0} (f : X → Val) (o : Option X) → ForSome o (λ x. IsVal (made_of s) (f x)) → GivesVal s (gives s (or_null f o))
   or_null_valid f None h = inl (tt, tt)
   or_null_valid f (Some x) h = inl (h x refl)
 
-  unless_valid : (o : Option Fault) (done : Outcome) → GivesValid s done → GivesValid s (unless o done)
+  unless_valid : (o : Option Fault) (done : Outcome) → GivesVal s done → GivesVal s (unless o done)
   unless_valid None done h = h
   unless_valid (Some f) done h = tt
 
-  limit_valid : (v : Val) (o : Option (Stepped Out Stores)) → IsVal (made_of s) v ⊎ (v ≡ val.Win (windows.next_win s.windows)) → GivesValid s (does_or_limit v o)
+  limit_valid : (v : Val) (o : Option (Stepped Out Stores)) → IsVal (made_of s) v ⊎ (v ≡ val.Win (windows.next_win s.windows)) → GivesVal s (does_or_limit v o)
   limit_valid v None h = tt
   limit_valid v (Some step) h = h
 
-  where_open : (w : WinId) (done : Outcome) → (is_open s.windows w ≡ true → GivesValid s done) → GivesValid s (if_open s w done)
+  where_open : (w : WinId) (done : Outcome) → (is_open s.windows w ≡ true → GivesVal s done) → GivesVal s (if_open s w done)
   where_open w done h = by (is_open s.windows w) refl where
-    by : (b : Bool) → is_open s.windows w ≡ b → GivesValid s (cond b done (Err fault.Dead))
+    by : (b : Bool) → is_open s.windows w ≡ b → GivesVal s (cond b done (Err fault.Dead))
     by true e = h e
     by false e = tt
 
-  at_url_valid : (o : Option Url) (f : Url → Outcome) → ((u : Url) → GivesValid s (f u)) → GivesValid s (at_url o f)
+  at_url_valid : (o : Option Url) (f : Url → Outcome) → ((u : Url) → GivesVal s (f u)) → GivesVal s (at_url o f)
   at_url_valid None f h = tt
   at_url_valid (Some u) f h = h u
 
-  mass_valid : (r : Result Applied Fault) → GivesVal (made_of s) r → GivesValid s (with_mass s r)
+  mass_valid : (r : Result Applied Fault) → AppliesVal (made_of s) r → GivesVal s (with_mass s r)
   mass_valid (Ok applied) h = inl h
   mass_valid (Err f) h = tt
 
@@ -161,74 +156,74 @@ module _ (s : Stores) (is : IsStores s) where
     by (shape.Button x text) h t e = let its : text ≡ t = cc in subst IsUtf8 its h.1
     by other h t e = cc
 
-  text_valid : (o : Option (List ℕ)) → ForSome o IsUtf8 → GivesValid s (operators.text s o)
+  text_valid : (o : Option (List ℕ)) → ForSome o IsUtf8 → GivesVal s (operators.text s o)
   text_valid None h = tt
   text_valid (Some t) h = inl (h t refl, tt)
 
-  child_valid : (o : Option NodeId) → ForSome o (λ c. c.0 < length s.nodes) → GivesValid s (operators.child s o)
+  child_valid : (o : Option NodeId) → ForSome o (λ c. c.0 < length s.nodes) → GivesVal s (operators.child s o)
   child_valid None h = tt
   child_valid (Some c) h = inl (tt, h c refl)
 
-  count_valid : (n : NodeId) → GivesValid s (gives s (val.Num (pos (length (children s.nodes n)))))
+  count_valid : (n : NodeId) → GivesVal s (gives s (val.Num (pos (length (children s.nodes n)))))
   count_valid n =
       let few = few_children s.nodes is.nodes.trees n in
       let all = is.nodes.few in
       inl (record { sfits = omega (arith, few, all) }, tt)
 
-  null_valid : (o : Option Fault) (t : Stores) → GivesValid s (unless o (becomes t))
+  null_valid : (o : Option Fault) (t : Stores) → GivesVal s (unless o (becomes t))
   null_valid o t = unless_valid s o (becomes t) (inl (tt, tt))
 
-  does_null_valid : (o : Option Fault) (step : Stepped Out Stores) → GivesValid s (unless o (does val.Null step))
+  does_null_valid : (o : Option Fault) (step : Stepped Out Stores) → GivesVal s (unless o (does val.Null step))
   does_null_valid o step = unless_valid s o (does val.Null step) (inl (tt, tt))
 
-  set_cookie_valid : (d : Option (List ℕ)) (key value : List ℕ) → GivesValid s (operators.set_cookie s d key value)
+  set_cookie_valid : (d : Option (List ℕ)) (key value : List ℕ) → GivesVal s (operators.set_cookie s d key value)
   set_cookie_valid None key value = tt
   set_cookie_valid (Some d) key value = null_valid _ _
 
-  del_cookie_valid : (d : Option (List ℕ)) (key : List ℕ) → GivesValid s (operators.del_cookie s d key)
+  del_cookie_valid : (d : Option (List ℕ)) (key : List ℕ) → GivesVal s (operators.del_cookie s d key)
   del_cookie_valid None key = inl (tt, tt)
   del_cookie_valid (Some d) key = inl (tt, tt)
 
-  opener_valid : (w : WinId) → GivesValid s (operators.opener s w)
+  opener_valid : (w : WinId) → GivesVal s (operators.opener s w)
   opener_valid w = where_open s w _ (λ e. or_null_valid s val.Win (window_at s.windows w).opener (λ v h. (tt, (is.windows.windows w.0 no_window (open_made w e)).opener v h)))
 
-  page_url_valid : (w : WinId) → GivesValid s (operators.page_url s w)
+  page_url_valid : (w : WinId) → GivesVal s (operators.page_url s w)
   page_url_valid w = where_open s w _ (λ e. mass_valid s _ (made_valid (made_of s) s.mass (printed (page_at s.windows (window_at s.windows w).page).url) (IsUtf8-printed (page_at s.windows (window_at s.windows w).page).url (url_spelled (window_at s.windows w).page (page_made w e)))))
 
-  page_root_valid : (w : WinId) → GivesValid s (operators.page_root s w)
+  page_root_valid : (w : WinId) → GivesVal s (operators.page_root s w)
   page_root_valid w = where_open s w _ (λ e. inl (tt, root_made (window_at s.windows w).page (page_made w e)))
 
-  open_at_valid : (page : PageId) (name : Option (List ℕ)) (u : Url) → GivesValid s (operators.open_at s page name u)
+  open_at_valid : (page : PageId) (name : Option (List ℕ)) (u : Url) → GivesVal s (operators.open_at s page name u)
   open_at_valid page name url.Blank = limit_valid s _ _ (inr refl)
   open_at_valid page name (url.At domain uri) = by (stores.has_window_room s && stores.has_ask_room s domain) _ where
-    by : (b : Bool) (step : Stepped Out Stores) → GivesValid s (cond b (does (val.Win (windows.next_win s.windows)) step) (Err fault.Limit))
+    by : (b : Bool) (step : Stepped Out Stores) → GivesVal s (cond b (does (val.Win (windows.next_win s.windows)) step) (Err fault.Limit))
     by true step = inr refl
     by false step = tt
 
-  open_named_valid : (page : PageId) (name : List ℕ) (u : Url) (o : Option WinId) → ForSome o (λ w. w.0 < length s.windows.windows) → GivesValid s (operators.open_named s page name u o)
+  open_named_valid : (page : PageId) (name : List ℕ) (u : Url) (o : Option WinId) → ForSome o (λ w. w.0 < length s.windows.windows) → GivesVal s (operators.open_named s page name u o)
   open_named_valid page name u None h = open_at_valid page (Some name) u
   open_named_valid page name u (Some w) h = limit_valid s (val.Win w) _ (inl (tt, h w refl))
 
-  go_valid : (w : WinId) (text : List ℕ) → GivesValid s (operators.go s w text)
+  go_valid : (w : WinId) (text : List ℕ) → GivesVal s (operators.go s w text)
   go_valid w text = where_open s w _ (λ e. at_url_valid s (read_url text) _ (λ u. limit_valid s val.Null _ (inl (tt, tt))))
 
-  ask_at_valid : (page : PageId) (body : List ℕ) (code : Code) (u : Url) → GivesValid s (operators.ask_at s page body code u)
+  ask_at_valid : (page : PageId) (body : List ℕ) (code : Code) (u : Url) → GivesVal s (operators.ask_at s page body code u)
   ask_at_valid page body code url.Blank = tt
   ask_at_valid page body code (url.At domain uri) = limit_valid s val.Null _ (inl (tt, tt))
 
-  ask_valid : (page : PageId) (address body : List ℕ) (code : Code) → GivesValid s (operators.ask s page address body code)
+  ask_valid : (page : PageId) (address body : List ℕ) (code : Code) → GivesVal s (operators.ask s page address body code)
   ask_valid page address body code = by (length code.params == 1) where
-    by : (b : Bool) → GivesValid s (cond b (at_url (read_url address) (operators.ask_at s page body code)) (Err fault.Kind))
+    by : (b : Bool) → GivesVal s (cond b (at_url (read_url address) (operators.ask_at s page body code)) (Err fault.Kind))
     by true = at_url_valid s (read_url address) _ (ask_at_valid page body code)
     by false = tt
 
-  nth_valid : (n : NodeId) (word : List ℕ) (k : ℤ) → n.0 < length s.nodes → GivesValid s (operators.nth s n word k)
+  nth_valid : (n : NodeId) (word : List ℕ) (k : ℤ) → n.0 < length s.nodes → GivesVal s (operators.nth s n word k)
   nth_valid n word k here = or_null_valid s val.Node _ (λ m e. (tt, item_holds (λ m. m.0 < length s.nodes) (nodes.of_word s.nodes n word) k (kept_hold _ (λ m. m.0 < length s.nodes) (Walk s.nodes n) (walk_there n here)) m e))
 
   -- All operators.
 
-  by_operands : {X : Type 0} (o : Option X) (f : X → Outcome) → ((x : X) → o ≡ Some x → GivesValid s (f x)) → GivesValid s (with_operands o f)
-  by_operands o f each = operands_give (GivesValid s) tt o f each
+  by_operands : {X : Type 0} (o : Option X) (f : X → Outcome) → ((x : X) → o ≡ Some x → GivesVal s (f x)) → GivesVal s (with_operands o f)
+  by_operands o f each = operands_give (GivesVal s) tt o f each
 
   -- a valid value
   abbrev IsGood : Val → Type 0
@@ -237,10 +232,10 @@ module _ (s : Stores) (is : IsStores s) where
   spelled_each : (args : List Val) → All IsGood args → All IsWellSpelledVal args
   spelled_each args all k d here = (all k d here).0
 
-  pure_valid : (o : Op) (args : List Val) → All IsGood args → GivesValid s (with_mass s (apply o args s.mass))
+  pure_valid : (o : Op) (args : List Val) → All IsGood args → GivesVal s (with_mass s (apply o args s.mass))
   pure_valid o args all = mass_valid s (apply o args s.mass) (apply_valid (made_of s) o args s.mass (spelled_each args all))
 
-  operate_by : (page : PageId) → page.0 < length s.windows.pages → (o : Op) (args : List Val) → AllByRecursion IsGood args → All IsGood args → GivesValid s (operate s page o args)
+  operate_by : (page : PageId) → page.0 < length s.windows.pages → (o : Op) (args : List Val) → AllByRecursion IsGood args → All IsGood args → GivesVal s (operate s page o args)
   operate_by page live op.Cookie args good all = by_operands (one_str args) _ (λ key e. or_null_valid s val.Str _ (λ text h. (cookie_text page key text h, tt)))
   operate_by page live op.SetCookie args good all = by_operands (two_strs args) _ (λ o e. set_cookie_valid (page_domain s page) o.0 o.1)
   operate_by page live op.DelCookie args good all = by_operands (one_str args) _ (λ key e. del_cookie_valid (page_domain s page) key)
@@ -268,5 +263,5 @@ module _ (s : Stores) (is : IsStores s) where
 
   -- an operator gives, for valid operands in a task of a page that was made, a valid value, or it
   -- fails
-  pub operate_valid : (page : PageId) → page.0 < length s.windows.pages → (o : Op) (args : List Val) → All (IsVal (made_of s)) args → GivesValid s (operate s page o args)
+  pub operate_valid : (page : PageId) → page.0 < length s.windows.pages → (o : Op) (args : List Val) → All (IsVal (made_of s)) args → GivesVal s (operate s page o args)
   operate_valid page live o args all = operate_by page live o args (recursion_from_All IsGood args all) all

@@ -54,6 +54,7 @@ mod reduced;
 #[cfg(test)]
 mod tests;
 mod traces;
+mod validity;
 
 pub use kinds::Kind;
 pub use law::{
@@ -71,3 +72,4 @@ pub use traces::{
     a_fault_ends_its_script_alone, a_page_is_loaded_once, a_queue_waits_for_fuel,
     a_slot_holds_back_the_next_script, the_plain_machine_leaks,
 };
+pub use validity::{a_call_declares_its_parameters, an_operator_gives_a_valid_value};
