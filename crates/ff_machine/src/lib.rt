@@ -40,10 +40,10 @@
 //!
 //! # Laws
 //!
-//! Law functions say that a new browser is valid, that a reduction which fails changes nothing, that
-//! an input is handled in at most one turn more than it brings fuel, and that weights may be capped
-//! at the greatest number of 64 bits. That what the definitions make of valid stores is valid is no
-//! law of this crate.
+//! Law functions say that a new browser is valid, that a reduction which fails changes nothing,
+//! that an input is handled in at most one turn more than it brings fuel, and that weights may be
+//! capped at the greatest number of 64 bits. That what the definitions make of valid stores is
+//! valid is no law of this crate.
 #![tactic(auto)]
 
 mod kinds;
