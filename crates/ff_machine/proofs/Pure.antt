@@ -1,18 +1,16 @@
 -- What a pure operator gives for well spelled values is a well spelled value.
-use Rattle.std.proofs.Common.{◌≡◌, ℕ, ◌+◌, ◌<◌, ◌≤◌, ◌^◌, ◌&&◌, ℤ, pos, Bool, true, false, cond, Option, Some, None, Result, Ok, Err, List, [], ◌∷◌, ◌++◌, length, nat_le, slice_get, nat_abs, int_le, int_lt, int_div, int_rem, not, ◌||◌, ◌+ℤ◌, ◌-ℤ◌, ◌*ℤ◌, All, arith, refl, subst, FitsSigned}
+use Rattle.std.proofs.Common.{◌≡◌, ℕ, ◌+◌, ◌<◌, ◌^◌, ℤ, pos, Bool, true, false, cond, Option, Some, None, Result, Ok, Err, List, [], ◌∷◌, ◌++◌, length, slice_get, nat_abs, int_le, int_lt, int_div, int_rem, ◌||◌, ◌+ℤ◌, ◌-ℤ◌, ◌*ℤ◌, All, arith, refl, FitsSigned}
 use Rattle.std.specs.Int.{w64}
 use Rattle.std.specs.List.{AllByRecursion}
 use Rattle.std.specs.Ordering.{int_eq}
 use Rattle.std.specs.Str.{IsUtf8}
-use Rattle.std.proofs.lemmas.Bool.{and_parts, leb-true}
 use Rattle.std.proofs.lemmas.List.Elements.{recursion_from_All}
 use Rattle.std.proofs.lemmas.Str.{IsUtf8-append}
 use lib.Signed.{mag_rem}
 use Rattle.ff_number.specs.Decimal.{num_text}
 use Rattle.ff_number.specs.Numbers.{fits, read_num}
 use Rattle.ff_operators.specs.declared.answer.Applied.{Applied}
-use Rattle.ff_operators.specs.Limits.{longest_made, most_mass}
-use Rattle.ff_operators.specs.Operands.{with_operands, one_bool, one_num, two_nums, one_str, two_strs, str_num, str_nums}
+use Rattle.ff_operators.specs.Operands.{one_bool, one_num, two_nums, one_str, two_strs, str_num, str_nums}
 use Rattle.ff_operators.specs.Pure.{apply, text_lt, text_le, free, made, has_room, num_or_overflow, divided, ordered, equal, same, is_code, byte, byte_at, cut, part_of, num_or_null}
 use Rattle.ff_tree.specs.declared.op.Op.{Op}
 use Rattle.ff_tree.specs.declared.op.Op.TheVariants as op

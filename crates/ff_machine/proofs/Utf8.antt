@@ -1,5 +1,5 @@
 -- Texts that the machine makes are UTF-8, and its numbers have 64 bits.
-use Rattle.std.proofs.Common.{◌≡◌, ℕ, zero, suc, slice_get, ℤ, pos, negsuc, ◌<◌, ◌&&◌, Bool, true, false, cond, Option, Some, None, List, [], ◌∷◌, ◌++◌, nat_lt, nat_abs, nat_le, slice_range, arith, refl, sym, subst, ap, ◌∙◌, FitsSigned, take, drop, ◌-◌}
+use Rattle.std.proofs.Common.{◌≡◌, ℕ, zero, suc, slice_get, ℤ, pos, negsuc, ◌<◌, Bool, true, false, cond, Some, None, List, [], ◌∷◌, ◌++◌, nat_lt, nat_abs, arith, refl, subst, ap, ◌∙◌, FitsSigned}
 use Rattle.std.specs.Prelude.{codes}
 use Rattle.std.specs.Int.{w64}
 use Rattle.std.specs.List.{list_all}
@@ -16,7 +16,7 @@ use Rattle.ff_name.specs.declared.urls.Url.TheVariants as url
 use Rattle.ff_name.proofs.Ascii.{IsUtf8-from_test, IsUtf8-from_domain, IsUtf8-from_request}
 use Rattle.ff_number.specs.Decimal.{num_text}
 use Rattle.ff_number.specs.Numbers.{fits, read_num}
-use Rattle.ff_operators.specs.Pure.{is_place, part_of}
+use Rattle.ff_operators.specs.Pure.{part_of}
 use Rattle.ff_operators.proofs.Places.{boundary}
 use Rattle.ff_machine.specs.declared.kinds.Kind.{Kind}
 use Rattle.ff_machine.specs.declared.kinds.Kind.TheVariants as kind

@@ -1,9 +1,8 @@
 -- The value of an operator: one that refers to what was made, or the window that it opens.
-use Rattle.std.proofs.Common.{◌≡◌, ℕ, zero, suc, ℤ, pos, ◌<◌, ◌≤◌, ◌^◌, ◌⊎◌, inl, inr, ◌==◌, ◌||◌, ◌&&◌, Bool, true, false, cond, Option, Some, None, Result, Ok, Err, List, [], ◌∷◌, find, filter, length, slice_get, nat_abs, int_lt, option_and_then, All, arith, refl, sym, subst, ap, ◌∙◌}
+use Rattle.std.proofs.Common.{◌≡◌, ℕ, zero, suc, ℤ, pos, ◌<◌, ◌⊎◌, inl, inr, ◌==◌, ◌||◌, ◌&&◌, Bool, true, false, cond, Option, Some, None, Result, Ok, Err, List, [], ◌∷◌, find, filter, length, slice_get, nat_abs, int_lt, option_and_then, All, arith, refl, sym, subst, ap, ◌∙◌}
 use Rattle.std.specs.List.{AllByRecursion, list_any}
 use Rattle.std.specs.Option.{ForSome}
 use Rattle.std.specs.Str.{IsUtf8}
-use Rattle.std.specs.FinMap as finmap
 use Rattle.std.proofs.lemmas.Bool.{eqb-true}
 use Rattle.std.proofs.lemmas.List.Elements.{recursion_from_All}
 use Rattle.ff_name.specs.Address.{IsWellSpelled, printed}
@@ -12,7 +11,7 @@ use Rattle.ff_name.specs.declared.urls.Url.{Url}
 use Rattle.ff_name.specs.declared.urls.Url.TheVariants as url
 use Rattle.ff_operators.specs.declared.answer.Applied.{Applied}
 use Rattle.ff_operators.specs.Operands.{with_operands, no_operands, one_str, two_strs, one_win, win_str, one_node, node_str, node_num, node_str_num, nodes_num, node_code, strs_code}
-use Rattle.ff_operators.specs.Pure.{apply, made}
+use Rattle.ff_operators.specs.Pure.{apply}
 use Rattle.ff_reactive.specs.Turns.{Stepped}
 use Rattle.ff_tree.specs.declared.op.Op.{Op}
 use Rattle.ff_tree.specs.declared.op.Op.TheVariants as op
@@ -26,10 +25,9 @@ use Rattle.ff_value.specs.declared.output.Out.{Out}
 use Rattle.ff_value.specs.declared.value.Code.{Code}
 use Rattle.ff_value.specs.declared.value.Val.{Val}
 use Rattle.ff_value.specs.declared.value.Val.TheVariants as val
-use Rattle.ff_machine.specs.declared.limits.TheConstants.{MOST_NODES}
 use Rattle.ff_machine.specs.declared.records.Shape.{Shape}
 use Rattle.ff_machine.specs.declared.records.Shape.TheVariants as shape
-use Rattle.ff_machine.specs.Shapes.{kind_of, kind_word, text_of}
+use Rattle.ff_machine.specs.Shapes.{kind_of, text_of}
 use Rattle.ff_machine.specs.Nodes as nodes
 use Rattle.ff_machine.specs.Nodes.{Walk, node_at, no_node, children}
 use Rattle.ff_machine.specs.Net as net
@@ -42,7 +40,7 @@ use Rattle.ff_machine.specs.Operators.{Outcome, operate, gives, does, does_or_li
 use Rattle.ff_machine.specs.Alone.{IsShape}
 use Rattle.ff_machine.specs.References.{made as made_of}
 use Rattle.ff_machine.specs.Valid.{IsVal, IsStores, GivesVal}
-use Rattle.ff_machine.proofs.Operands.{operands_give, one_win_holds, win_str_holds, one_node_holds, node_str_holds, node_num_holds, node_str_num_holds}
+use Rattle.ff_machine.proofs.Operands.{operands_give, one_node_holds, node_str_holds, node_str_num_holds}
 use Rattle.ff_machine.proofs.Pure.{AppliesVal, apply_valid, made_valid}
 use Rattle.ff_machine.proofs.Utf8.{IsUtf8-kind_word, IsUtf8-printed}
 use Rattle.ff_machine.proofs.Walks.{walk_made, few_children}

@@ -1,5 +1,5 @@
 -- Each node of a walk was made, and a node has no more children than there are nodes.
-use Rattle.std.proofs.Common.{◌≡◌, ℕ, zero, suc, ◌+◌, ◌<◌, ◌≤◌, ◌==◌, ◌||◌, Bool, true, false, cond, List, [], ◌∷◌, ◌++◌, length, map, flat_map, count_by, All, arith, refl, sym, subst, ap, ◌∙◌}
+use Rattle.std.proofs.Common.{◌≡◌, ℕ, zero, suc, ◌+◌, ◌<◌, ◌≤◌, ◌==◌, ◌||◌, Bool, true, false, cond, List, [], ◌∷◌, ◌++◌, length, map, flat_map, count_by, arith, refl, sym, subst, ap, ◌∙◌}
 use Rattle.std.specs.Prelude.{nat_eq}
 use Rattle.std.specs.List.{AllByRecursion, IsDistinct, list_any}
 use Rattle.std.proofs.lemmas.Bool.{eqb-true}
@@ -9,9 +9,9 @@ use Rattle.std.proofs.lemmas.List.Elements.{recursion_from_All}
 use Rattle.std.proofs.lemmas.List.Sums.{sum_by-append}
 use Rattle.std.proofs.lemmas.Map.Steps.{length-le_from_distinct_below}
 use Rattle.ff_value.specs.declared.ids.NodeId.{NodeId}
-use Rattle.ff_machine.specs.declared.limits.TheConstants.{MOST_NODES, MOST_TREE_DEPTH}
+use Rattle.ff_machine.specs.declared.limits.TheConstants.{MOST_TREE_DEPTH}
 use Rattle.ff_machine.specs.Nodes.{Node, Walk, walk_within, children}
-use Rattle.ff_machine.specs.Alone.{AreNodes, AreTrees}
+use Rattle.ff_machine.specs.Alone.{AreTrees}
 
 both : {X : Type 0} (P : X → Type 0) (xs ys : List X) → AllByRecursion P xs → AllByRecursion P ys → AllByRecursion P (xs ++ ys)
 both P [] ys h k = k
@@ -67,9 +67,10 @@ there_self x = let e : (x == x) ≡ true = grind (arith, nat_tests) in ap (λ b.
 -- each element is counted
 there : (xs : List ℕ) → AllByRecursion (λ x. 1 ≤ count xs x) xs
 there [] = tt
-there (x ∷ xs) =
-    (let one = there_self x in let e = counted x x xs in omega (arith, one, e),
-    joined (λ y. 1 ≤ count xs y) (λ y. 1 ≤ count xs y) (λ y. 1 ≤ count (x ∷ xs) y) (λ y p q. let e = counted x y xs in omega (arith, p, e)) xs (there xs) (there xs))
+there (x ∷ xs) = (
+  let one = there_self x in let e = counted x x xs in omega (arith, one, e),
+  joined (λ y. 1 ≤ count xs y) (λ y. 1 ≤ count xs y) (λ y. 1 ≤ count (x ∷ xs) y) (λ y p q. let e = counted x y xs in omega (arith, p, e)) xs (there xs) (there xs),
+)
 
 none_again : (x : ℕ) (xs : List ℕ) → count xs x ≡ 0 → AllByRecursion (λ y. nat_eq x y ≡ false) xs
 unfolding one_if
@@ -87,9 +88,9 @@ differ : (xs : List ℕ) → AllByRecursion (λ x. count xs x ≡ 1) xs → IsDi
 unfolding IsDistinct
 differ [] h = tt
 differ (x ∷ xs) h = (
-    none_again x xs (let one = there_self x in let e = counted x x xs in let all = h.0 in omega (arith, one, e, all)),
-    differ xs (joined (λ y. count (x ∷ xs) y ≡ 1) (λ y. 1 ≤ count xs y) (λ y. count xs y ≡ 1) (λ y p q. let e = counted x y xs in omega (arith, p, q, e)) xs h.1 (there xs))
-  )
+  none_again x xs (let one = there_self x in let e = counted x x xs in let all = h.0 in omega (arith, one, e, all)),
+  differ xs (joined (λ y. count (x ∷ xs) y ≡ 1) (λ y. 1 ≤ count xs y) (λ y. count xs y ≡ 1) (λ y p q. let e = counted x y xs in omega (arith, p, q, e)) xs h.1 (there xs)),
+)
 
 -- the numbers of children
 abbrev numbers : List NodeId → List ℕ
