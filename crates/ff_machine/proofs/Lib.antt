@@ -13,6 +13,7 @@ pub mod Operands
 pub mod Pure
 pub mod Walks
 pub mod Values
+pub mod Parts
 pub mod Empty
 pub mod Stays
 pub mod Fuel
