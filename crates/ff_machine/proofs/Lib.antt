@@ -14,6 +14,7 @@ pub mod Pure
 pub mod Walks
 pub mod Values
 pub mod Parts
+pub mod Planting
 pub mod Empty
 pub mod Stays
 pub mod Fuel

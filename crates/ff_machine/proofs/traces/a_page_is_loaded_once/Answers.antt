@@ -1,5 +1,5 @@
 use Rattle.ff_machine.proofs.Rows.{loads_once}
-use Rattle.ff_machine.proofs.Parts.{over_laid}
+use Rattle.ff_machine.proofs.Planting.{planted}
 use Rattle.ff_machine.proofs.traces.a_page_is_loaded_once.Goals as goal
 
 pub returns : goal.returns
