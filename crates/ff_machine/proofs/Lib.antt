@@ -14,7 +14,8 @@ pub mod Pure
 pub mod Walks
 pub mod Values
 pub mod Parts
-pub mod Planting
+pub mod MoreTrees
+pub mod LaidDocs
 pub mod Empty
 pub mod Stays
 pub mod Fuel

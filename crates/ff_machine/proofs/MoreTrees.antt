@@ -96,5 +96,5 @@ module _ (nodes : List Node) (trees : AreTrees nodes) (d : Laid) (h : ℕ) (is :
       (λ n past. subst (λ o. at_parent 0 (λ p. suc (depth_within MOST_TREE_DEPTH all p)) o ≤ MOST_TREE_DEPTH) (sym (ap (λ (m : Node). m.parent) (past_node all n past))) (omega arith))
 
   -- trees with a tree more are trees
-  pub planted : AreTrees all
-  planted = record { below = below; agree = agree; once = once; ends = ends }
+  pub more_trees : AreTrees all
+  more_trees = record { below = below; agree = agree; once = once; ends = ends }
