@@ -129,10 +129,11 @@ page_laid page env ds = over_laid (shape.Page page) (most (map doc_depth ds)) (m
 
 -- Nodes.
 
--- a node that is valid, and refers to what was made
+-- a node that is valid, refers to what was made and is the root of no page
 pub record IsGood (m : Made) (n : Node) : Type 0 where
   pub node : IsNode n
   pub refers : NodeRefers m n
+  pub inner : page_of n.shape ≡ None
 
 -- what is laid has good nodes only, wherever they stand
 abbrev pub HasGood : Made → Laid → Type 0
@@ -148,6 +149,7 @@ module _ (m : Made) where
       form = record { few_handlers = few; no_handlers = none; no_children = λ _. refl; no_parent = λ some. absurd (not_some s no_page some) };
     };
     refers = record { shape = shape_refers s no_page; handlers = refer };
+    inner = no_page;
   }) (All-nil (IsGood m))
     where
       not_some : (s : Shape) → page_of s ≡ None → IsSome (page_of s) → ⊥
@@ -157,7 +159,7 @@ module _ (m : Made) where
       shape_refers (shape.Page page) none = cc
       shape_refers other none = tt
 
-  all_good : (ds : List Laid) → AllByRecursion (HasGood m) ds → (first : ℕ) (under : Option NodeId) → All (IsGood m) (lay_all ds first under)
+  pub all_good : (ds : List Laid) → AllByRecursion (HasGood m) ds → (first : ℕ) (under : Option NodeId) → All (IsGood m) (lay_all ds first under)
   all_good [] parts first under = All-nil (IsGood m)
   all_good (d ∷ ds) parts first under = All-append (IsGood m) (d.nodes first under) (lay_all ds (first + d.size) under) (parts.0 first under) (all_good ds parts.1 (first + d.size) under)
 
@@ -169,6 +171,7 @@ module _ (m : Made) where
       form = record { few_handlers = omega arith; no_handlers = λ _. refl; no_children = λ no. cc; no_parent = λ some. cc };
     };
     refers = record { shape = tt; handlers = All-nil (CodeRefers m) };
+    inner = refl;
   }) (all_good ds parts (suc first) (Some (record { 0 = first })))
 
 -- Spelled documents.

@@ -16,6 +16,7 @@ pub mod Values
 pub mod Parts
 pub mod MoreTrees
 pub mod LaidDocs
+pub mod MadeTrees
 pub mod Empty
 pub mod Stays
 pub mod Fuel
