@@ -8,7 +8,7 @@ abbrev pub more : ℕ → ℕ → ℕ
 more zero n = n
 more (suc k) n = suc (more k n)
 
-more_is : (k n : ℕ) → more k n ≡ k + n
+pub more_is : (k n : ℕ) → more k n ≡ k + n
 more_is zero n = omega arith
 more_is (suc k) n = let e = more_is k n in omega (arith, e)
 

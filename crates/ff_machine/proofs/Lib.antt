@@ -17,6 +17,7 @@ pub mod Parts
 pub mod MoreTrees
 pub mod LaidDocs
 pub mod MadeTrees
+pub mod Depths
 pub mod Empty
 pub mod Stays
 pub mod Fuel
