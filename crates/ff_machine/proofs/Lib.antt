@@ -18,6 +18,7 @@ pub mod MoreTrees
 pub mod LaidDocs
 pub mod MadeTrees
 pub mod Depths
+pub mod Joining
 pub mod Empty
 pub mod Stays
 pub mod Fuel
