@@ -42,8 +42,10 @@
 //!
 //! Law functions say that a new browser is valid, that a reduction which fails changes nothing,
 //! that an input is handled in at most one turn more than it brings fuel, and that weights may be
-//! capped at the greatest number of 64 bits. That what the definitions make of valid stores is
-//! valid is no law of this crate.
+//! capped at the greatest number of 64 bits. Of validity they say that an operator gives a valid
+//! value, that a call declares its parameters, each with its own argument, and that trees which are
+//! made or joined leave valid nodes. That what the definitions make of valid stores is valid is no
+//! law of this crate.
 #![tactic(auto)]
 
 mod kinds;
@@ -72,4 +74,7 @@ pub use traces::{
     a_fault_ends_its_script_alone, a_page_is_loaded_once, a_queue_waits_for_fuel,
     a_slot_holds_back_the_next_script, the_plain_machine_leaks,
 };
-pub use validity::{a_call_declares_its_parameters, an_operator_gives_a_valid_value};
+pub use validity::{
+    a_call_declares_its_parameters, a_joined_tree_leaves_valid_nodes,
+    a_made_tree_leaves_valid_nodes, an_operator_gives_a_valid_value,
+};
