@@ -1,11 +1,10 @@
 -- A tree that is joined to another leaves trees.
-use Rattle.std.proofs.Common.{◌≡◌, ◌≢◌, ℕ, zero, suc, ◌+◌, ◌<◌, ◌≤◌, ◌⊎◌, inl, inr, ◌==◌, nat_lt, not, ℤ, nat_abs, Bool, true, false, cond, Option, Some, None, is_some, is_none, List, [], ◌∷◌, ◌++◌, length, take, drop, slice_set, All, arith, le_trans, refl, sym, subst, ap, ◌∙◌}
+use Rattle.std.proofs.Common.{◌≡◌, ◌≢◌, ℕ, zero, suc, ◌+◌, ◌<◌, ◌≤◌, ◌⊎◌, inl, inr, ◌==◌, nat_lt, not, ℤ, Bool, true, false, cond, Option, Some, None, is_some, is_none, List, [], ◌∷◌, ◌++◌, length, take, drop, All, arith, le_trans, refl, sym, subst, ap, ◌∙◌}
 use Rattle.std.specs.List.{AllByRecursion, insert}
 use Rattle.std.proofs.lemmas.Bool.Decides.{nat_tests}
 use Rattle.std.proofs.lemmas.List.{take-append-drop, length-set, get_or-set_same, get_or-set_other}
 use Rattle.std.proofs.lemmas.List.Elements.{recursion_from_All, All-from_get_or, All-append, All-cons, All-take, All-drop}
 use Rattle.std.proofs.lemmas.List.Sums.{sum_by-cons, sum_by-append}
-use Rattle.ff_value.specs.declared.fault.Fault.{Fault}
 use Rattle.ff_value.specs.declared.fault.Fault.TheVariants as fault
 use Rattle.ff_value.specs.declared.ids.NodeId.{NodeId}
 use Rattle.ff_machine.specs.declared.limits.TheConstants.{MOST_TREE_DEPTH}
@@ -13,7 +12,7 @@ use Rattle.ff_machine.specs.Shapes.{page_of, may_have_children}
 use Rattle.ff_machine.specs.Nodes.{Node, node_at, no_node, set_node, children, parent, at_parent, depth, depth_within, root, height, insert_fault, place_of, joined}
 use Rattle.ff_machine.specs.Alone.{AreTrees, AreNodes, IsNode}
 use Rattle.ff_machine.proofs.Parts.{times}
-use Rattle.ff_machine.proofs.Depths.{depth_up, root_up, depth_top, root_top, within_height}
+use Rattle.ff_machine.proofs.Depths.{depth_up, root_up, root_top, within_height}
 
 -- What no fault says.
 
@@ -262,13 +261,15 @@ module _ (nodes : List Node) (trees : AreTrees nodes) (p c : NodeId) (at : ℕ) 
 
       joined_parent : IsNode (node_at new p)
       joined_parent = subst IsNode (sym at_parent_node) (let old = before p p_there in record {
-        shape = old.shape; handlers = old.handlers;
+        shape = old.shape;
+        handlers = old.handlers;
         form = record { few_handlers = old.form.few_handlers; no_handlers = old.form.no_handlers; no_children = λ no. absurd (let has = may.has_children in let both : true ≡ false = sym has ∙ no in cc); no_parent = old.form.no_parent };
       })
 
       joined_child : IsNode (node_at new c)
       joined_child = subst IsNode (sym at_child) (let old = before c c_there in record {
-        shape = old.shape; handlers = old.handlers;
+        shape = old.shape;
+        handlers = old.handlers;
         form = record { few_handlers = old.form.few_handlers; no_handlers = old.form.no_handlers; no_children = old.form.no_children; no_parent = λ some. absurd (let no = may.no_page in let both : true ≡ false = sym some ∙ no in cc) };
       })
 

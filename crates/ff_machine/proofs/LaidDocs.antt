@@ -1,5 +1,5 @@
 -- Documents that are spelled are laid as good nodes, within the height of their lists.
-use Rattle.std.proofs.Common.{◌≡◌, ℕ, suc, ◌+◌, ◌<◌, ◌≤◌, max, true, false, Option, Some, None, List, [], ◌∷◌, ◌++◌, map, length, All, IsSome, arith, refl, sym, subst, ap, ◌∙◌}
+use Rattle.std.proofs.Common.{◌≡◌, ℕ, suc, ◌+◌, ◌<◌, ◌≤◌, max, false, Option, Some, None, List, [], ◌∷◌, map, length, All, IsSome, arith, refl, sym, subst, ap, ◌∙◌}
 use Rattle.std.specs.List.{AllByRecursion}
 use Rattle.std.proofs.lemmas.List.{length-map}
 use Rattle.std.proofs.lemmas.List.Elements.{All-nil, All-cons, All-append, All-from_recursion}
@@ -7,14 +7,14 @@ use denote.Hole.Carrier
 use denote.Hole.Holds.{Such}
 use Rattle.ff_name.specs.declared.limits.TheConstants.{MOST_DEPTH}
 use Rattle.ff_name.specs.declared.urls.Url.{Url}
-use Rattle.ff_tree.specs.Spelled.{IsSpelledDoc, IsSpelledHandler, IsVar, AreParams, IsWellSpelledExpr, doc_depth, expr_depth, handler_depth, doc_nesting, expr_nesting, handler_nesting, most}
+use Rattle.ff_tree.specs.Spelled.{IsSpelledDoc, IsSpelledHandler, doc_depth, expr_depth, handler_depth, doc_nesting, expr_nesting, handler_nesting, most}
 use Rattle.ff_tree.proofs.Levels.{IsSpelledHandler-out, IsSpelledDoc-Text, IsSpelledDoc-Link, IsSpelledDoc-TextBox, IsSpelledDoc-Button, IsSpelledDoc-Script, IsSpelledDoc-Src, IsSpelledDoc-Div}
 use Rattle.ff_tree.specs.declared.tree.Doc.{Doc}
 use Rattle.ff_tree.specs.declared.tree.Doc.TheVariants as doc
 use Rattle.ff_tree.specs.declared.tree.Doc.TheBlock.{the_family, member-Doc, member-Expr, member-Handler}
 use Rattle.ff_tree.specs.declared.tree.Doc.TheOpen.{Doc-F}
 use Rattle.ff_tree.specs.declared.tree.Doc.TheViews.{roll-Doc, out-Doc}
-use Rattle.ff_tree.specs.declared.tree.Doc.TheFolds.{ind-Doc, claims, map-Doc, map-Handler, fold_out-Doc, fold_out-Handler}
+use Rattle.ff_tree.specs.declared.tree.Doc.TheFolds.{ind-Doc, claims, map-Doc, fold_out-Doc, fold_out-Handler}
 use Rattle.ff_tree.specs.declared.tree.Expr.{Expr}
 use Rattle.ff_tree.specs.declared.tree.Handler.{Handler, out-Handler}
 use Rattle.ff_tree.specs.declared.limits.TheConstants.{MOST_HANDLERS}
@@ -100,9 +100,9 @@ depth-Handler h = fold_out-Handler ℕ ℕ ℕ doc_nesting expr_nesting handler_
 laid_in_most : (env : ActId) (ds : List Doc) (k : ℕ) → most (map doc_depth ds) ≤ k → AllByRecursion (λ d. IsLaid (laid env d) (doc_depth d)) ds → AllByRecursion (λ l. IsLaid l k) (map (laid env) ds)
 laid_in_most env [] k le each = tt
 laid_in_most env (d ∷ ds) k le each = (
-    laid_wider (laid env d) (doc_depth d) k (grind (arith, le)) each.0,
-    laid_in_most env ds k (grind (arith, le)) each.1
-  )
+  laid_wider (laid env d) (doc_depth d) k (grind (arith, le)) each.0,
+  laid_in_most env ds k (grind (arith, le)) each.1,
+)
 
 -- a document is laid within the depth of its lists
 pub doc_laid : (env : ActId) (d : Doc) → IsLaid (laid env d) (doc_depth d)

@@ -1,5 +1,5 @@
 -- A tree that is made of a spelled document, or of a page, keeps nodes valid.
-use Rattle.std.proofs.Common.{◌≡◌, ℕ, zero, suc, ◌+◌, ◌<◌, ◌≤◌, true, Option, Some, None, List, [], ◌∷◌, ◌++◌, map, length, slice_index_or, All, arith, refl, sym, subst}
+use Rattle.std.proofs.Common.{◌≡◌, ℕ, suc, ◌+◌, ◌<◌, ◌≤◌, true, Some, None, List, [], ◌∷◌, map, length, All, arith, refl}
 use Rattle.std.specs.List.{AllByRecursion}
 use Rattle.std.proofs.lemmas.Bool.{leb-true}
 use Rattle.std.proofs.lemmas.List.{length-append}
@@ -65,7 +65,7 @@ module _ (m : Made) (env : ActId) (there : env.0 < m.acts) (nodes : List Node) (
       handlers = All-nil IsHandler;
       form = record { few_handlers = omega arith; no_handlers = λ _. refl; no_children = λ no. cc; no_parent = λ _. refl };
     },
-    record { shape = made; handlers = All-nil (CodeRefers m) }
+    record { shape = made; handlers = All-nil (CodeRefers m) },
   ) (sound m _ (all_good m (map (laid env) ds) (each_good ds spelled shallow) (suc (length nodes)) (Some (record { 0 = length nodes }))))
 
   -- a page more of spelled documents keeps nodes valid, where there is room

@@ -1,5 +1,5 @@
 -- Nodes with a laid tree more are trees.
-use Rattle.std.proofs.Common.{◌≡◌, ℕ, zero, suc, ◌+◌, ◌<◌, ◌≤◌, ◌⊎◌, inl, inr, nat_lt, Bool, true, false, Option, Some, None, List, [], ◌∷◌, ◌++◌, length, All, arith, refl, sym, subst, ap, ◌∙◌}
+use Rattle.std.proofs.Common.{◌≡◌, ℕ, zero, suc, ◌+◌, ◌<◌, ◌≤◌, ◌⊎◌, inl, inr, nat_lt, Bool, true, false, Option, Some, None, List, [], ◌∷◌, length, All, arith, refl, sym, subst, ap, ◌∙◌}
 use Rattle.std.proofs.lemmas.Bool.Decides.{nat_tests}
 use Rattle.std.proofs.lemmas.List.{length-append, get_or-append-add, get_or_past}
 use Rattle.std.proofs.lemmas.List.Elements.{All-nil}
@@ -10,7 +10,7 @@ use Rattle.ff_machine.specs.Nodes.{Node, node_at, no_node, children, parent, at_
 use Rattle.ff_machine.specs.Documents.{Laid, with_tree}
 use Rattle.ff_machine.specs.Alone.{AreTrees}
 use Rattle.ff_machine.proofs.Given.{node}
-use Rattle.ff_machine.proofs.Parts.{Placed, IsIn, IsPart, IsTop, IsChild, IsLaid, times}
+use Rattle.ff_machine.proofs.Parts.{IsIn, IsPart, IsTop, IsChild, IsLaid, times}
 
 module _ (nodes : List Node) (trees : AreTrees nodes) (d : Laid) (h : ℕ) (is : IsLaid d h) (shallow : h ≤ MOST_TREE_DEPTH) where
   abbrev new : List Node

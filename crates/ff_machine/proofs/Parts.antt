@@ -1,5 +1,5 @@
 -- Nodes that a laid document becomes, among all nodes: they are trees below its topmost nodes.
-use Rattle.std.proofs.Common.{◌≡◌, ℕ, nat_lt, zero, suc, ◌+◌, ◌<◌, ◌≤◌, ◌⊎◌, inl, inr, ◌==◌, Bool, true, false, cond, Option, Some, None, List, [], ◌∷◌, ◌++◌, length, map, count_by, slice_index_or, All, arith, refl, sym, subst, ap, ◌∙◌}
+use Rattle.std.proofs.Common.{◌≡◌, ℕ, nat_lt, zero, suc, ◌+◌, ◌<◌, ◌≤◌, ◌⊎◌, inl, inr, ◌==◌, Bool, true, false, cond, Option, Some, List, [], ◌∷◌, ◌++◌, length, count_by, slice_index_or, All, arith, refl, sym, subst, ap, ◌∙◌}
 use Rattle.std.specs.List.{AllByRecursion}
 use Rattle.std.proofs.lemmas.Bool.Decides.{nat_tests}
 use Rattle.std.proofs.lemmas.List.{length-append}
@@ -131,7 +131,11 @@ leaf_laid s handlers = record {
 
 wider : (all : List Node) (under : Option NodeId) (h k first size : ℕ) (tops : List NodeId) → h ≤ k → IsPart all under h first size tops → IsPart all under k first size tops
 wider all under h k first size tops le p = record {
-  below = p.below; agree = p.agree; up = p.up; tops_in = p.tops_in; tops_up = p.tops_up;
+  below = p.below;
+  agree = p.agree;
+  up = p.up;
+  tops_in = p.tops_in;
+  tops_up = p.tops_up;
   deep = λ b bound n here f. let d = p.deep b bound n here f in omega (arith, d, le);
 }
 
