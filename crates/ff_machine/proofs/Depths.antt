@@ -7,7 +7,7 @@ use Rattle.ff_value.specs.declared.ids.NodeId.{NodeId}
 use Rattle.ff_machine.specs.declared.limits.TheConstants.{MOST_TREE_DEPTH}
 use Rattle.ff_machine.specs.Nodes.{Node, Walk, walk_within, children, parent, at_parent, depth, depth_within, root, root_within, height}
 use Rattle.ff_machine.specs.Alone.{AreTrees}
-use Rattle.ff_machine.proofs.Derived.{more, more_is}
+use Rattle.ff_machine.proofs.Numbers.{more, more_is}
 use Rattle.ff_machine.proofs.Parts.{times}
 
 -- Lists.

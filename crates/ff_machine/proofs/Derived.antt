@@ -1,20 +1,7 @@
 -- Runs put together from what each input and each turn gives.
-use Rattle.std.proofs.Common.{◌≡◌, ℕ, zero, suc, ◌+◌, ◌-◌, ◌≤◌, true, false, cond, List, [], ◌∷◌, ◌++◌, arith, refl, ap, ◌∙◌, subst}
+use Rattle.std.proofs.Common.{◌≡◌, ℕ, zero, suc, true, false, cond, List, [], ◌∷◌, ◌++◌, refl, ap, ◌∙◌}
 use Rattle.ff_reactive.specs.Runs.{Machine, Handled, plain_from}
 use Rattle.ff_reactive.specs.Turns.{Stepped, Reactor, settle, machine_of}
-
--- so many more than n
-abbrev pub more : ℕ → ℕ → ℕ
-more zero n = n
-more (suc k) n = suc (more k n)
-
-pub more_is : (k n : ℕ) → more k n ≡ k + n
-more_is zero n = omega arith
-more_is (suc k) n = let e = more_is k n in omega (arith, e)
-
--- what holds of so many more than any number holds of any number that is at least so many
-pub at_least : (P : ℕ → Type 0) (k : ℕ) → ((n : ℕ) → P (more k n)) → (m : ℕ) → k ≤ m → P m
-at_least P k holds m h = let e : more k (m - k) ≡ m = more_is k (m - k) ∙ omega (arith, h) in subst P e (holds (m - k))
 
 module _ {I O S : Type 0} (r : Reactor I O S) where
   -- a quiet state makes no turn

@@ -6,10 +6,7 @@ use Rattle.std.specs.FinSet as finset
 use Rattle.ff_reactive.specs.Runs.{Machine, plain}
 use Rattle.ff_reactive.specs.Turns.{machine_of}
 use Rattle.ff_name.specs.declared.urls.Url.TheVariants as url
-use Rattle.ff_value.specs.declared.ids.WinId.{WinId}
-use Rattle.ff_value.specs.declared.ids.PageId.{PageId}
 use Rattle.ff_value.specs.declared.ids.NodeId.{NodeId}
-use Rattle.ff_value.specs.declared.ids.ActId.{ActId}
 use Rattle.ff_value.specs.declared.input.Input.{Input}
 use Rattle.ff_value.specs.declared.output.Out.{Out}
 use Rattle.ff_term.specs.Running.{Running}
@@ -25,25 +22,8 @@ use Rattle.ff_machine.specs.Stores.{Stores, Pages}
 use Rattle.ff_machine.specs.State.{State}
 use Rattle.ff_machine.specs.Machine.{reactor, browser}
 use Rattle.ff_machine.specs.Traces.{Trace, home}
-use Rattle.ff_machine.proofs.Derived.{more, at_least}
-
--- Numbers.
-
--- the window of a number
-abbrev pub win : ℕ → WinId
-win n = record { 0 = n }
-
--- the page of a number
-abbrev pub page : ℕ → PageId
-page n = record { 0 = n }
-
--- the node of a number
-abbrev pub node : ℕ → NodeId
-node n = record { 0 = n }
-
--- the activation of a number
-abbrev pub activation : ℕ → ActId
-activation n = record { 0 = n }
+pub use Rattle.ff_machine.proofs.Numbers.{win, page, node, activation}
+use Rattle.ff_machine.proofs.Numbers.{more, at_least}
 
 -- Nodes.
 

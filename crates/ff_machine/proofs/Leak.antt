@@ -32,7 +32,7 @@ use Rattle.ff_machine.specs.Turns.{turn}
 use Rattle.ff_machine.specs.Reduction.{Red, reduction}
 use Rattle.ff_machine.specs.Machine.{reactor, browser}
 use Rattle.ff_machine.specs.Traces.{home, opening, replying, opened, loaded, updated, send_to, null, evil_com, asks_text, sends_text, leaky, leaky_shown, typing, clicking, leak, without_typing}
-use Rattle.ff_machine.proofs.Derived as derived
+use Rattle.ff_machine.proofs.Numbers as amount
 use Rattle.ff_machine.proofs.Derived.{rest, turned, handled, ran}
 use Rattle.ff_machine.proofs.Given.{root_of, leaf, waiting, answered, with_home, busy, between, running, resting, activation, node, page, win, settling, runs_from}
 use Rattle.ff_machine.proofs.Maps.{no_pairs, room_first, touched_none, touched_last}
@@ -182,7 +182,7 @@ updates budget = rw (touched_last finset.empty 1 refl) refl
 
 module _ (n : ℕ) where
   abbrev nine : ℕ
-  nine = derived.more 9 n
+  nine = amount.more 9 n
 
   -- the window waits for its page
   abbrev waits : State
@@ -217,15 +217,15 @@ module _ (n : ℕ) where
       let os = send_to evil_com (codes "/x") text ∷ [] in
       let end = resting nine (after text mass nine) in
       handled r (suc nine) (resting nine (before text mass nine)) _ end clicking [] os 10 (clicks text mass nine)
-      (turned r nine _ _ end [] os 9 refl (calls text mass nine (derived.more 8 n))
-      (turned r (derived.more 8 n) _ _ end [] os 8 refl (finds_window text mass nine (derived.more 7 n))
-      (turned r (derived.more 7 n) _ _ end [] os 7 refl (finds_root text mass nine (derived.more 6 n))
-      (turned r (derived.more 6 n) _ _ end [] os 6 refl (finds_box text mass nine (derived.more 5 n))
-      (turned r (derived.more 5 n) _ _ end [] os 5 refl (reads_text text mass nine (derived.more 4 n))
-      (turned r (derived.more 4 n) _ _ end [] os 4 refl (makes text mass nine (derived.more 3 n))
-      (turned r (derived.more 3 n) _ _ end os [] 3 refl (sends text mass nine (derived.more 2 n))
-      (turned r (derived.more 2 n) _ _ end [] [] 2 refl (leaves text mass nine (derived.more 1 n))
-      (turned r (derived.more 1 n) _ _ end [] [] 1 refl (ends text mass nine n)
+      (turned r nine _ _ end [] os 9 refl (calls text mass nine (amount.more 8 n))
+      (turned r (amount.more 8 n) _ _ end [] os 8 refl (finds_window text mass nine (amount.more 7 n))
+      (turned r (amount.more 7 n) _ _ end [] os 7 refl (finds_root text mass nine (amount.more 6 n))
+      (turned r (amount.more 6 n) _ _ end [] os 6 refl (finds_box text mass nine (amount.more 5 n))
+      (turned r (amount.more 5 n) _ _ end [] os 5 refl (reads_text text mass nine (amount.more 4 n))
+      (turned r (amount.more 4 n) _ _ end [] os 4 refl (makes text mass nine (amount.more 3 n))
+      (turned r (amount.more 3 n) _ _ end os [] 3 refl (sends text mass nine (amount.more 2 n))
+      (turned r (amount.more 2 n) _ _ end [] [] 2 refl (leaves text mass nine (amount.more 1 n))
+      (turned r (amount.more 1 n) _ _ end [] [] 1 refl (ends text mass nine n)
       (turned r n _ end end [] [] 0 refl (settles text mass nine n) (rest r n end refl)))))))))))
 
   sends_typed : plain (settling nine) leak.inputs ≡ leak.outputs

@@ -1,3 +1,5 @@
+pub mod Lists
+pub mod Numbers
 pub mod Maps
 pub mod Laying
 pub mod Weights

@@ -9,7 +9,7 @@ use Rattle.ff_machine.specs.declared.limits.TheConstants.{MOST_TREE_DEPTH}
 use Rattle.ff_machine.specs.Nodes.{Node, node_at, no_node, children, parent, at_parent, depth, depth_within}
 use Rattle.ff_machine.specs.Documents.{Laid, with_tree}
 use Rattle.ff_machine.specs.Alone.{AreTrees}
-use Rattle.ff_machine.proofs.Given.{node}
+use Rattle.ff_machine.proofs.Numbers.{node}
 use Rattle.ff_machine.proofs.Parts.{IsIn, IsPart, IsTop, IsChild, IsLaid, times}
 
 module _ (nodes : List Node) (trees : AreTrees nodes) (d : Laid) (h : ℕ) (is : IsLaid d h) (shallow : h ≤ MOST_TREE_DEPTH) where

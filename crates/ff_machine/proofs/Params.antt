@@ -20,6 +20,7 @@ use Rattle.ff_machine.specs.declared.limits.TheConstants.{MOST_ACTS, MOST_VARS}
 use Rattle.ff_machine.specs.Windows.{Vars, Activation, no_act, act_at, vars_of, holder, holder_within, lookup, count_vars, with_act, may_call}
 use Rattle.ff_machine.specs.Alone.{IsAct}
 use Rattle.ff_machine.specs.References.{Made, ValRefers, ActRefers}
+use Rattle.ff_machine.proofs.Lists.{nth_holds}
 
 -- Keys.
 
@@ -54,11 +55,6 @@ get_none x = finmap.get-empty (slice_cmp nat_cmp) x
 get_first : (p : List ℕ) (ps : List (List ℕ)) (a : Val) (vs : List Val) (x : List ℕ) → finmap.get (vars_with (p ∷ ps) (a ∷ vs)) x ≡ cond (same x p) (Some a) (finmap.get (vars_with ps vs) x)
 get_first p ps a vs x = finmap.get-insert nat_list_cmp_total (vars_with ps vs) p a x
 
-nth_holds : (P : List ℕ → Type 0) (xs : List (List ℕ)) (i : ℕ) (x : List ℕ) → AllByRecursion P xs → slice_get xs i ≡ Some x → P x
-nth_holds P [] i x h e = cc
-nth_holds P (y ∷ ys) zero x h e = let is : y ≡ x = cc in subst P is h.0
-nth_holds P (y ∷ ys) (suc i) x h e = nth_holds P ys i x h.1 e
-
 -- each parameter has the argument at its place
 pub param_has : (params : List (List ℕ)) (args : List Val) → Differ params → (i : ℕ) (x : List ℕ) (v : Val) → slice_get params i ≡ Some x → slice_get args i ≡ Some v → finmap.get (vars_with params args) x ≡ Some v
 param_has [] args d i x v e f = cc
@@ -68,7 +64,7 @@ param_has (p ∷ ps) (a ∷ vs) d zero x v e f =
     let its : a ≡ v = cc in
     get_first p ps a vs x ∙ ap (λ b. cond b (Some a) (finmap.get (vars_with ps vs) x)) (subst (λ y. same x y ≡ true) (sym here) (same_self x)) ∙ ap Some its
 param_has (p ∷ ps) (a ∷ vs) d (suc i) x v e f =
-    let other : p ≢ x = nth_holds (λ y. p ≢ y) ps i x d.0 e in
+    let other : p ≢ x = nth_holds (λ y. p ≢ y) ps i d.0 x e in
     get_first p ps a vs x ∙ ap (λ b. cond b (Some a) (finmap.get (vars_with ps vs) x)) (apart x p (λ h. other (sym h))) ∙ param_has ps vs d.1 i x v e f
 
 -- what holds of each parameter and of each argument holds of each variable and of its value

@@ -11,7 +11,7 @@ use Rattle.ff_value.specs.declared.ids.NodeId.{NodeId}
 use Rattle.ff_value.specs.declared.value.Code.{Code}
 use Rattle.ff_machine.specs.declared.records.Shape.{Shape}
 use Rattle.ff_machine.specs.Nodes.{Node, node_at, no_node, children, parent, at_parent, depth_within}
-use Rattle.ff_machine.proofs.Given.{node}
+use Rattle.ff_machine.proofs.Numbers.{node}
 use Rattle.ff_machine.specs.Documents.{Laid, size_of, numbers, lay_all, lay_leaf, lay_over}
 
 -- how often a node is in a list

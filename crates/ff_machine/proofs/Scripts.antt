@@ -35,7 +35,7 @@ use Rattle.ff_machine.specs.Turns.{turn}
 use Rattle.ff_machine.specs.Reduction.{Red, reduction}
 use Rattle.ff_machine.specs.Machine.{reactor, browser}
 use Rattle.ff_machine.specs.Traces.{home, opening, replying, script_comes, opened, loaded, updated, send_to, num, set_x, a_com, too_large, faulty, fault_in_script, address, slotted, waiting_slot, numbers, close_five, queue_left}
-use Rattle.ff_machine.proofs.Derived as derived
+use Rattle.ff_machine.proofs.Numbers as amount
 use Rattle.ff_machine.proofs.Derived.{rest, turned, handled, ran}
 use Rattle.ff_machine.proofs.Given.{root_of, leaf, waiting, answered, with_home, busy, between, running, resting, activation, node, page, win, settling, runs_alike, runs_from}
 use Rattle.ff_machine.proofs.Maps.{no_pairs, room_first, same_domain, asked_one, answered_one, touched_none}
@@ -112,7 +112,7 @@ ok_page = at a_com faulty_nodes (node 2) faulty_text 0 0 (codes "ok") [] 439 fin
 
 module _ (n : ℕ) where
   abbrev eight : ℕ
-  eight = derived.more 8 n
+  eight = amount.more 8 n
 
   handles_faulty : (settling eight).handle (resting eight (waiting a_com)) (replying a_com faulty) ≡ record { outputs = fault_lines; after = resting eight ok_page; turns = 9 }
   handles_faulty =
@@ -121,8 +121,8 @@ module _ (n : ℕ) where
       let os = updated (seen.Text (codes "ok") ∷ []) ∷ [] in
       handled r (suc eight) (resting eight (waiting a_com)) (busy eight (with_faulty (codes "no") both)) end (replying a_com faulty) no_lines (out.Error 0 fault.Overflow ∷ os) 9
       (loads_page a_com eight 437 faulty weight_faulty refl room_faulty ∙ ap (lifted (busy eight (answered a_com 437))) shows_faulty)
-      (turned r eight _ _ end [] (out.Error 0 fault.Overflow ∷ os) 8 refl (begins_sum eight (derived.more 7 n))
-      (turned r (derived.more 7 n) _ _ end (out.Error 0 fault.Overflow ∷ []) os 7 refl (fails eight (derived.more 6 n))
+      (turned r eight _ _ end [] (out.Error 0 fault.Overflow ∷ os) 8 refl (begins_sum eight (amount.more 7 n))
+      (turned r (amount.more 7 n) _ _ end (out.Error 0 fault.Overflow ∷ []) os 7 refl (fails eight (amount.more 6 n))
       (sets_text a_com faulty_nodes (node 2) faulty_text 0 eight (codes "no") (codes "ok") [] 437 finset.empty refl (suc n) n end os 1
       (turned r n _ end end os [] 0 refl (shows_text a_com faulty_nodes (node 2) faulty_text 0 eight (codes "ok") 439 n finset.empty) (rest r n end refl)))))
 
@@ -204,7 +204,7 @@ two_page = slot_filled (codes "two") [] 610
 
 module _ (n : ℕ) where
   abbrev twelve : ℕ
-  twelve = derived.more 12 n
+  twelve = amount.more 12 n
 
   handles_slotted : (settling twelve).handle (resting twelve (waiting a_com)) (replying a_com slotted) ≡ record { outputs = zero_lines; after = resting twelve slot_waits; turns = 1 }
   handles_slotted =
@@ -220,7 +220,7 @@ module _ (n : ℕ) where
       let end = resting twelve two_page in
       let touched = finset.insert finset.empty 1 in
       handled r (suc twelve) (resting twelve slot_waits) (busy twelve (slot_filled (codes "zero") (Ready one ∷ Ready two ∷ []) 604)) end (script_comes a_com one) [] two_lines 13 (fills twelve)
-      (sets_text a_com slotted_nodes (node 4) slotted_text 1 twelve (codes "zero") (codes "one") (Ready two ∷ []) 604 finset.empty refl (derived.more 7 n) (derived.more 6 n) end two_lines 7
+      (sets_text a_com slotted_nodes (node 4) slotted_text 1 twelve (codes "zero") (codes "one") (Ready two ∷ []) 604 finset.empty refl (amount.more 7 n) (amount.more 6 n) end two_lines 7
       (sets_text a_com slotted_nodes (node 4) slotted_text 1 twelve (codes "one") (codes "two") [] 607 touched refl (suc n) n end two_lines 1
       (turned r n _ end end two_lines [] 0 refl (shows_text a_com slotted_nodes (node 4) slotted_text 1 twelve (codes "two") 610 n touched) (rest r n end refl))))
 

@@ -26,7 +26,7 @@ use Rattle.ff_machine.specs.Turns.{turn, go_on, with_worked}
 use Rattle.ff_machine.specs.Reduction.{Red, reduction, of_outcome, by_redex}
 use Rattle.ff_machine.specs.Machine.{reactor}
 use Rattle.ff_machine.specs.Traces.{set_x, updated}
-use Rattle.ff_machine.proofs.Derived as derived
+use Rattle.ff_machine.proofs.Numbers as amount
 use Rattle.ff_machine.proofs.Derived.{turned}
 use Rattle.ff_machine.proofs.Given.{blank_root, with_home, between, running, resting, activation, node, page, win}
 use Rattle.ff_machine.proofs.Maps.{touched_last}
@@ -120,14 +120,14 @@ module _ (domain : List ℕ) (nodes : List ℕ → List Node) (n : NodeId) (is_t
 
     -- the script takes six turns, each of which spends fuel
     pub sets_text : leb (mass + length text) most_mass ≡ true → (most k : ℕ) (u : State) (others : List Out) (turns : ℕ) → settle (reactor budget) most (between budget k after) ≡ record { outputs = others; after = u; turns = turns }
-        → settle (reactor budget) (derived.more 6 most) (between budget (derived.more 6 k) (at old (Ready (set_x text) ∷ queue) mass touched)) ≡ record { outputs = others; after = u; turns = derived.more 6 turns }
+        → settle (reactor budget) (amount.more 6 most) (between budget (amount.more 6 k) (at old (Ready (set_x text) ∷ queue) mass touched)) ≡ record { outputs = others; after = u; turns = amount.more 6 turns }
     sets_text light most k u others turns later =
         let r = reactor budget in
-        turned r (derived.more 5 most) _ _ u [] others (derived.more 5 turns) refl (begins (derived.more 5 k))
-        (turned r (derived.more 4 most) _ _ u [] others (derived.more 4 turns) refl (finds_window (derived.more 4 k))
-        (turned r (derived.more 3 most) _ _ u [] others (derived.more 3 turns) refl (finds_root (derived.more 3 k))
-        (turned r (derived.more 2 most) _ _ u [] others (derived.more 2 turns) refl (finds_x (derived.more 2 k))
-        (turned r (derived.more 1 most) _ _ u [] others (derived.more 1 turns) refl (sets light (derived.more 1 k))
+        turned r (amount.more 5 most) _ _ u [] others (amount.more 5 turns) refl (begins (amount.more 5 k))
+        (turned r (amount.more 4 most) _ _ u [] others (amount.more 4 turns) refl (finds_window (amount.more 4 k))
+        (turned r (amount.more 3 most) _ _ u [] others (amount.more 3 turns) refl (finds_root (amount.more 3 k))
+        (turned r (amount.more 2 most) _ _ u [] others (amount.more 2 turns) refl (finds_x (amount.more 2 k))
+        (turned r (amount.more 1 most) _ _ u [] others (amount.more 1 turns) refl (sets light (amount.more 1 k))
         (turned r most _ _ u [] others turns refl (ends k) later)))))
 
   -- with nothing else to do, the text is shown

@@ -40,51 +40,15 @@ use Rattle.ff_machine.specs.Operators.{Outcome, operate, gives, does, does_or_li
 use Rattle.ff_machine.specs.Alone.{IsShape}
 use Rattle.ff_machine.specs.References.{made as made_of}
 use Rattle.ff_machine.specs.Valid.{IsVal, IsStores, GivesVal}
+use Rattle.ff_machine.proofs.Lists.{any_holds, found_holds, kept_hold, item_holds}
 use Rattle.ff_machine.proofs.Operands.{operands_give, one_node_holds, node_str_holds, node_str_num_holds}
 use Rattle.ff_machine.proofs.Pure.{AppliesVal, apply_valid, made_valid}
 use Rattle.ff_machine.proofs.Utf8.{IsUtf8-kind_word, IsUtf8-printed}
 use Rattle.ff_machine.proofs.Walks.{walk_made, few_children}
 
--- Lists.
-
-any_holds : {X : Type 0} (test : X → Bool) (P : X → Type 0) (xs : List X) → AllByRecursion P xs → list_any test xs ≡ true → (x : X) × (test x ≡ true) × P x
-any_holds test P [] h e = cc
-any_holds test P (x ∷ xs) h e = by (test x) refl (any_holds test P xs h.1) where
-  by : (b : Bool) → test x ≡ b → (list_any test xs ≡ true → (y : _) × (test y ≡ true) × P y) → (y : _) × (test y ≡ true) × P y
-  by true is more = (x, is, h.0)
-  by false is more = more (ap (λ b. b || list_any test xs) (sym is) ∙ e)
-
-found_holds : {X : Type 0} (test : X → Bool) (P : X → Type 0) (xs : List X) → AllByRecursion P xs → ForSome (find test xs) P
-found_holds test P [] h x e = cc
-found_holds test P (y ∷ ys) h x e = by (test y) refl (found_holds test P ys h.1 x) where
-  by : (b : Bool) → test y ≡ b → (find test ys ≡ Some x → P x) → P x
-  by true is more = let same : y ≡ x = cc in subst P same h.0
-  by false is more = more (ap (λ b. cond b (Some y) (find test ys)) (sym is) ∙ e)
-
-kept_hold : {X : Type 0} (test : X → Bool) (P : X → Type 0) (xs : List X) → AllByRecursion P xs → AllByRecursion P (filter test xs)
-kept_hold test P [] h = tt
-kept_hold test P (x ∷ xs) h = by (test x) (kept_hold test P xs h.1) where
-  by : (b : Bool) → AllByRecursion P (filter test xs) → AllByRecursion P (cond b (x ∷ filter test xs) (filter test xs))
-  by true more = (h.0, more)
-  by false more = more
-
-nth_holds : {X : Type 0} (P : X → Type 0) (xs : List X) (i : ℕ) → AllByRecursion P xs → ForSome (slice_get xs i) P
-nth_holds P [] i h x e = cc
-nth_holds P (y ∷ ys) zero h x e = let is : y ≡ x = cc in subst P is h.0
-nth_holds P (y ∷ ys) (suc i) h x e = nth_holds P ys i h.1 x e
-
-item_holds : {X : Type 0} (P : X → Type 0) (xs : List X) (k : ℤ) → AllByRecursion P xs → ForSome (item_at xs k) P
-item_holds P xs k h = by (int_lt k (pos 0)) where
-  by : (b : Bool) → ForSome (cond b None (slice_get xs (nat_abs k))) P
-  by true x e = cc
-  by false x e = nth_holds P xs (nat_abs k) h x e
-
 -- Outcomes.
 
 module _ (s : Stores) where
-  old : (v : Val) (t : Stores) (outputs : List Out) → IsVal (made_of s) v → GivesVal s (Ok (record { value = v; after = t; outputs = outputs }))
-  old v t outputs h = inl h
-
   or_null_valid : {X : Type 0} (f : X → Val) (o : Option X) → ForSome o (λ x. IsVal (made_of s) (f x)) → GivesVal s (gives s (or_null f o))
   or_null_valid f None h = inl (tt, tt)
   or_null_valid f (Some x) h = inl (h x refl)
