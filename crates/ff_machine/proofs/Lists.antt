@@ -1,5 +1,5 @@
 -- What holds of each element of a list holds of those that are read off it.
-use Rattle.std.proofs.Common.{◌≡◌, ℕ, zero, suc, ℤ, pos, ◌||◌, Bool, true, false, cond, Option, Some, None, List, [], ◌∷◌, find, filter, slice_get, nat_abs, int_lt, refl, sym, subst, ap, ◌∙◌}
+use Rattle.std.proofs.Common.{◌≡◌, ℕ, zero, suc, ℤ, pos, ◌||◌, Bool, true, false, cond, Some, None, List, [], ◌∷◌, find, filter, slice_get, nat_abs, int_lt, refl, sym, subst, ap, ◌∙◌}
 use Rattle.std.specs.List.{AllByRecursion, list_any}
 use Rattle.std.specs.Option.{ForSome}
 use Rattle.ff_machine.specs.Operators.{item_at}
