@@ -11,17 +11,17 @@ use Rattle.ff_tree.specs.declared.tree.Handler.{Handler, out-roll-Handler}
 use Rattle.ff_tree.specs.declared.tree.Doc.TheOpen.{Doc-F, Expr-F, Handler-F}
 use Rattle.ff_tree.specs.declared.tree.Doc.TheViews.{out-Doc, out-Expr, out-Handler}
 use Rattle.ff_tree.specs.declared.tree.Doc.TheFolds.{map-Doc, map-Expr, map-Handler, fold_out-Doc, fold_out-Expr, fold_out-Handler}
-use Rattle.ff_tree.specs.Spelled.{doc_levels, expr_levels, handler_levels, doc_depth, expr_depth, handler_depth, most}
+use Rattle.ff_tree.specs.Spelled.{doc_nesting, expr_nesting, handler_nesting, doc_depth, expr_depth, handler_depth, most}
 use Rattle.ff_forms.specs.Grammar.{handler}
 
-doc_layer : (x : Doc) (layer : Doc-F Doc Expr Handler) → out-Doc x ≡ layer → doc_depth x ≡ doc_levels (map-Doc Doc Expr Handler ℕ ℕ ℕ doc_depth expr_depth handler_depth layer)
-doc_layer x layer e = fold_out-Doc ℕ ℕ ℕ doc_levels expr_levels handler_levels x ∙ ap (λ l. doc_levels (map-Doc Doc Expr Handler ℕ ℕ ℕ doc_depth expr_depth handler_depth l)) e
+doc_layer : (x : Doc) (layer : Doc-F Doc Expr Handler) → out-Doc x ≡ layer → doc_depth x ≡ doc_nesting (map-Doc Doc Expr Handler ℕ ℕ ℕ doc_depth expr_depth handler_depth layer)
+doc_layer x layer e = fold_out-Doc ℕ ℕ ℕ doc_nesting expr_nesting handler_nesting x ∙ ap (λ l. doc_nesting (map-Doc Doc Expr Handler ℕ ℕ ℕ doc_depth expr_depth handler_depth l)) e
 
-expr_layer : (x : Expr) (layer : Expr-F Doc Expr Handler) → out-Expr x ≡ layer → expr_depth x ≡ expr_levels (map-Expr Doc Expr Handler ℕ ℕ ℕ doc_depth expr_depth handler_depth layer)
-expr_layer x layer e = fold_out-Expr ℕ ℕ ℕ doc_levels expr_levels handler_levels x ∙ ap (λ l. expr_levels (map-Expr Doc Expr Handler ℕ ℕ ℕ doc_depth expr_depth handler_depth l)) e
+expr_layer : (x : Expr) (layer : Expr-F Doc Expr Handler) → out-Expr x ≡ layer → expr_depth x ≡ expr_nesting (map-Expr Doc Expr Handler ℕ ℕ ℕ doc_depth expr_depth handler_depth layer)
+expr_layer x layer e = fold_out-Expr ℕ ℕ ℕ doc_nesting expr_nesting handler_nesting x ∙ ap (λ l. expr_nesting (map-Expr Doc Expr Handler ℕ ℕ ℕ doc_depth expr_depth handler_depth l)) e
 
-handler_layer : (x : Handler) (layer : Handler-F Doc Expr Handler) → out-Handler x ≡ layer → handler_depth x ≡ handler_levels (map-Handler Doc Expr Handler ℕ ℕ ℕ doc_depth expr_depth handler_depth layer)
-handler_layer x layer e = fold_out-Handler ℕ ℕ ℕ doc_levels expr_levels handler_levels x ∙ ap (λ l. handler_levels (map-Handler Doc Expr Handler ℕ ℕ ℕ doc_depth expr_depth handler_depth l)) e
+handler_layer : (x : Handler) (layer : Handler-F Doc Expr Handler) → out-Handler x ≡ layer → handler_depth x ≡ handler_nesting (map-Handler Doc Expr Handler ℕ ℕ ℕ doc_depth expr_depth handler_depth layer)
+handler_layer x layer e = fold_out-Handler ℕ ℕ ℕ doc_nesting expr_nesting handler_nesting x ∙ ap (λ l. handler_nesting (map-Handler Doc Expr Handler ℕ ℕ ℕ doc_depth expr_depth handler_depth l)) e
 
 pub handler_depth-handler : (x : List ℕ) (e : Expr) → handler_depth (handler x e) ≡ 1 + max 1 (expr_depth e)
 handler_depth-handler x e = handler_layer (handler x e) (record { param = x; body = e }) (out-roll-Handler (record { param = x; body = e }))

@@ -37,7 +37,7 @@ use Rattle.ff_forms.specs.declared.heads.RespHead.TheVariants as resp_head
 use Rattle.ff_forms.specs.declared.heads.CookieHead.{CookieHead}
 use Rattle.ff_forms.specs.declared.heads.CookieHead.TheVariants as cookie_head
 use Rattle.ff_forms.specs.declared.heads.HandlerHead.{HandlerHead}
-use Rattle.ff_forms.specs.declared.limits.TheConstants.{MOST_HANDLERS}
+use Rattle.ff_tree.specs.declared.limits.TheConstants.{MOST_HANDLERS}
 
 -- what an item may be wanted as
 pub data Sort : Type 0 where

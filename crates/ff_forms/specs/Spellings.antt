@@ -22,7 +22,7 @@ use Rattle.ff_text.specs.declared.items.Span.{Span}
 use Rattle.ff_text.specs.declared.items.Sexp.{Sexp}
 use Rattle.ff_text.specs.declared.items.Sexp.TheVariants.{Word, Str, List as Parens}
 use Rattle.ff_forms.specs.Grammar.{handler}
-use Rattle.ff_forms.specs.declared.limits.TheConstants.{MOST_HANDLERS}
+use Rattle.ff_tree.specs.declared.limits.TheConstants.{MOST_HANDLERS}
 
 -- the items are these words
 pub data AreWords : List Sexp → List (List ℕ) → Type 0 where

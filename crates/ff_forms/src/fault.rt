@@ -9,22 +9,22 @@ use thiserror::Error;
 #[derive(Clone, Copy, Debug, PartialEq, Eq, Error)]
 pub enum SyntaxFault {
     /// A list is empty, or its first item is no word that may head a list here: the place of the list, or of that item.
-    #[error("a wrong head at {0}")]
+    #[error("syntax head at {0}")]
     Head(u32),
     /// The list has a wrong number of parts.
-    #[error("a wrong count at {0}")]
+    #[error("syntax count at {0}")]
     Count(u32),
     /// The word should be a name or a variable and isn't, or names a parameter that stands before.
-    #[error("a wrong name at {0}")]
+    #[error("syntax name at {0}")]
     Name(u32),
     /// The word should be a number and isn't.
-    #[error("a wrong number at {0}")]
+    #[error("syntax number at {0}")]
     Number(u32),
     /// The word should be an address and isn't.
-    #[error("a wrong address at {0}")]
+    #[error("syntax url at {0}")]
     Url(u32),
     /// The item is of the wrong sort, as a string where a list is wanted.
-    #[error("a wrong item at {0}")]
+    #[error("syntax place at {0}")]
     Place(u32),
     /// There was no memory.
     #[error("out of memory")]

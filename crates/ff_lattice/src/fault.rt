@@ -9,28 +9,28 @@ use thiserror::Error;
 #[derive(Debug, PartialEq, Eq, Drop, Error)]
 pub enum LatticeFault {
     /// There are no names.
-    #[error("there are no levels")]
+    #[error("no levels")]
     NoLevels,
     /// There are more than 16 names.
-    #[error("there are more than 16 levels")]
+    #[error("too many levels")]
     TooMany,
     /// The first place, from 0, whose name isn't a letter followed by at most 31 letters, digits, `_` or `-`.
-    #[error("the name at place {0} isn't that of a level")]
+    #[error("bad level name {0}")]
     BadName(u32),
     /// The first name that stands before, too.
-    #[error("a level is named twice")]
+    #[error("repeated level")]
     Repeated(Text),
     /// The first name in the pairs that is no level, the low one of a pair before the high one.
-    #[error("a pair names no level")]
+    #[error("unknown name")]
     Unknown(Text),
     /// The least two levels that are each at or below the other.
-    #[error("two levels are each below the other")]
+    #[error("cycle")]
     Cycle(Text, Text),
     /// The least two levels with no least upper bound.
-    #[error("two levels have no join")]
+    #[error("no join")]
     NoJoin(Text, Text),
     /// The least two levels with no greatest lower bound.
-    #[error("two levels have no meet")]
+    #[error("no meet")]
     NoMeet(Text, Text),
     /// There was no memory.
     #[error("out of memory")]

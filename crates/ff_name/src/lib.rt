@@ -4,6 +4,7 @@
 mod domains;
 mod law;
 mod levels;
+mod limits;
 mod names;
 mod short;
 #[cfg(test)]
@@ -15,6 +16,7 @@ mod worded;
 pub use domains::{Domain, MOST_DOMAIN_BYTES, MOST_LABEL_BYTES, is_domain};
 pub use law::{an_address_is_read_in_one_way, what_is_spelled_passes_its_test};
 pub use levels::Level;
+pub use limits::MOST_DEPTH;
 pub use names::{MOST_NAME_BYTES, Name, begins_name, is_name, stands_in_name};
 pub use texts::{NoMemory, Text};
 pub use urls::{MOST_REQUEST_BYTES, Url, UrlFault};

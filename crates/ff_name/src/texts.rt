@@ -20,9 +20,16 @@ enum Holding {
 
 /// A text that is never changed, seen as the list of its bytes, which are UTF-8. A long one is
 /// shared by its copies, and a short one takes no memory.
-#[derive(Debug, Drop)]
+#[derive(Debug)]
 pub struct Text {
     held: Holding,
+}
+
+// Written out, so that the proof of a caller sees one call and not two cases.
+impl Drop for Text {
+    fn drop(self) {
+        let Text { held: _held } = self;
+    }
 }
 
 impl Model for Text {

@@ -25,7 +25,7 @@ pub enum PolicyFault {
     #[error("bad shape")]
     BadShape(Text),
     /// The levels and the pairs are no lattice.
-    #[error("levels")]
+    #[error("{0}")]
     Levels(LatticeFault),
     /// The first place whose string names no level.
     #[error("unknown level")]

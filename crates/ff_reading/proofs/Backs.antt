@@ -14,7 +14,7 @@ use Rattle.ff_text.specs.declared.items.Span.{Span}
 use Rattle.ff_text.specs.declared.items.Sexp.{Sexp}
 use Rattle.ff_text.specs.declared.items.Sexp.TheVariants.{Word, Str, List as Parens}
 use Rattle.ff_text.proofs.Layers.{items_ind}
-use Rattle.ff_forms.specs.declared.limits.TheConstants.{MOST_HANDLERS}
+use Rattle.ff_tree.specs.declared.limits.TheConstants.{MOST_HANDLERS}
 use Rattle.ff_name.specs.Reading.{is_name, read_url}
 use Rattle.ff_name.proofs.Reading.{read_url_spelled, IsName-from}
 use Rattle.ff_forms.specs.Words.{is_literal, is_variable}

@@ -25,7 +25,7 @@ use Rattle.ff_value.specs.declared.reply.Resp.TheVariants as resp
 use Rattle.ff_text.specs.declared.items.Span.{Span}
 use Rattle.ff_text.specs.declared.items.Sexp.{Sexp}
 use Rattle.ff_text.specs.declared.items.Sexp.TheVariants.{Word, Str, List as Parens}
-use Rattle.ff_forms.specs.declared.limits.TheConstants.{MOST_HANDLERS}
+use Rattle.ff_tree.specs.declared.limits.TheConstants.{MOST_HANDLERS}
 use Rattle.ff_forms.specs.Words.{is_literal, looks_like_number, begins_with_digit}
 use Rattle.ff_forms.specs.Grammar as sort
 use Rattle.ff_forms.specs.Grammar.{Value, reading, and_then, each_as, form_as, list_as, handler, doc_form, expr_form, resp_form, cookie_form, handler_form, word_as_expression, number_as, any}

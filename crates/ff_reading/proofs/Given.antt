@@ -12,7 +12,7 @@ use Rattle.ff_tree.specs.Spelled.{IsVar, AreParams, Differ}
 use Rattle.ff_text.specs.declared.items.Span.{Span}
 use Rattle.ff_text.specs.declared.items.Sexp.{Sexp}
 use Rattle.ff_text.specs.declared.items.Sexp.TheVariants.{Word, Str, List as Parens}
-use Rattle.ff_forms.specs.declared.limits.TheConstants.{MOST_HANDLERS}
+use Rattle.ff_tree.specs.declared.limits.TheConstants.{MOST_HANDLERS}
 use Rattle.ff_forms.specs.Words.{is_literal, is_variable}
 use Rattle.ff_forms.specs.Grammar.{Sort, a_name, a_variable, an_address, a_string, a_parameter, a_head, parameters, one_parameter, Value, Placed, further, nothing, Form, form, reading, and_then, each_as, form_as, list_as, parameters_as, any, few_handlers}
 use Rattle.ff_name.specs.Words.{with_word}

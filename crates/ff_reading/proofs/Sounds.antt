@@ -18,7 +18,7 @@ use Rattle.ff_text.specs.declared.items.Span.{Span}
 use Rattle.ff_text.specs.declared.items.Sexp.{Sexp}
 use Rattle.ff_text.specs.declared.items.Sexp.TheVariants.{Word, Str, List as Parens}
 use Rattle.ff_text.proofs.Layers.{Each, items_ind}
-use Rattle.ff_forms.specs.declared.limits.TheConstants.{MOST_HANDLERS}
+use Rattle.ff_tree.specs.declared.limits.TheConstants.{MOST_HANDLERS}
 use Rattle.ff_name.specs.Reading.{is_name}
 use Rattle.ff_number.specs.Numbers.{read_num}
 use Rattle.ff_forms.specs.Words.{is_literal, looks_like_number}

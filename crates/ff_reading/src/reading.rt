@@ -14,7 +14,7 @@ use crate::leaves::{
 };
 use crate::shapes::{as_list, head_of};
 use crate::words::read_word;
-use ff_forms::{DocHead, ExprHead, HandlerHead, MOST_HANDLERS, RespHead, SyntaxFault};
+use ff_forms::{DocHead, ExprHead, HandlerHead, RespHead, SyntaxFault};
 use ff_text::Sexp;
 use ff_value::{
     Body, Doc, Docs, Expr, Exprs, Handler, Handlers, Lit, Op, Resp, Shared, SharedList,

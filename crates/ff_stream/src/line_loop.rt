@@ -1,7 +1,8 @@
 //! The loop over the lines of a trace.
-ghost use Rattle.std.specs.Prelude.{◌≡◌, ◌≢◌, ◌≤◌, ℕ, List, [], Option, Ok, Some, None, false};
+ghost use Rattle.std.specs.Prelude.{◌≡◌, ◌≢◌, ◌≤◌, ◌+◌, ℕ, List, [], Option, Ok, Some, None, false};
 ghost use Rattle.std.specs.Option.{ForSome};
 ghost use Rattle.ff_io.specs.Counts.{Rose};
+ghost use Rattle.ff_io.specs.declared.lines.TheConstants.{MOST_TRACE_BYTES};
 ghost use Rattle.ff_stream.specs.Owed.{Streams};
 ghost use Rattle.ff_stream.specs.Items.{ReadsItem, TakesItem, end_by};
 
@@ -41,46 +42,50 @@ pub fn stream<R: Reader, T: Taker<Item = R::Item>, P: Port, L: Ledger>(
 {
     let mut lines = Lines::new(alloc);
     let mut text = Vec::new(alloc);
-    let mut number = 1;
+    let mut number = 0;
     loop {
-        let item = match read_item(alloc, reader, &mut lines, number, port) {
+        let item = match read_item(alloc, reader, &mut lines, &mut number, port) {
             Ok(item) => item,
             Err(end) => return end,
         };
         match take_item(alloc, taker, state, item, &mut text, port, steps) {
-            Ok(()) => number += 1,
+            Ok(()) => (),
             Err(end) => return end,
         }
     }
 }
 
-// Reads the next line, which has this number, and what it gives; an error is how the trace ends here.
+// Reads the next line and what it gives, and counts it: `number` becomes its number. An error is how
+// the trace ends here.
 fn read_item<R: Reader, P: Port>(
     alloc: Global,
     reader: &R,
     lines: &mut Lines,
-    number: u64,
+    number: &mut u64,
     port: &mut P,
 ) -> Result<Option<R::Item>, End<R::Fault>>
-    requires { lines.old.failed ≡ false }
+    requires open { lines.old.failed ≡ false }
+    requires few { number.old ≤ MOST_TRACE_BYTES }
+    ensures counted { number.new ≡ number.old + 1 }
     ensures reads { ReadsItem (R.gives reader.now) (P.log port.old) (P.log port.new) (P.rest port.old)
-        (P.rest port.new) number lines.old lines.new result }
+        (P.rest port.new) number.new lines.old lines.new result }
     ensures later { P.read_faults port.old ≤ P.read_faults port.new }
     ensures cause { result ≡ Err End.ReadFault
         → Rose (P.read_faults port.old) (P.read_faults port.new) }
     ensures others { P.write_faults port.new ≡ P.write_faults port.old }
 {
+    *number += 1;
     match lines.next(port) {
         Ok(Next::Line(line)) => match reader.read(alloc, &line) {
             Ok(Ok(item)) => Ok(item),
             Ok(Err(fault)) => Err(End::Bad(BadLine {
-                number,
+                number: *number,
                 fault: Fault::Line(fault),
             })),
             Err(_) => Err(End::NoMemory),
         },
         Ok(Next::End) => Err(End::Done),
-        Err(fail) => Err(end_of(number, fail)),
+        Err(fail) => Err(end_of(*number, fail)),
     }
 }
 

@@ -23,7 +23,7 @@ abbrev pub runnings : List (Expr × Running) → Runnings
 runnings [] = none
 runnings (e ∷ es) = more e.1 (runnings es)
 
--- one level, whose parts are given beside what they are
+-- a form, whose parts are given beside what they are
 abbrev pub whole_level : Expr-F (Doc × Unit {0}) (Expr × Running) (Handler × Unit {0}) → Running
 whole_level (Expr-F.Lit l) = Done (literal l)
 whole_level (Expr-F.Var x) = Var x
@@ -48,7 +48,7 @@ abbrev pub wholes : List Expr → Runnings
 wholes [] = none
 wholes (e ∷ es) = more (whole e) (wholes es)
 
--- one level, whose parts are whole
+-- a form, whose parts are whole
 abbrev pub level : Expr-F Doc Expr Handler → Running
 level (Expr-F.Lit l) = Done (literal l)
 level (Expr-F.Var x) = Var x

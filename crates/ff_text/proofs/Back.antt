@@ -12,7 +12,7 @@ use Rattle.ff_text.specs.declared.items.Sexp.TheVariants as sexp
 use Rattle.ff_text.specs.Notation.{span, hex_digit, IsWord, Escape, mark, backslash, newline, tab, hex, Value, empty, plain, escaped, Spells, nothing, blank, a_word, a_string, a_list, SpellsItems}
 use Rattle.ff_text.specs.Printed.{spelled, spelled_byte, quoted, bare, fits_at, is_word, IsWellSpelled, ReadsBack}
 use Rattle.ff_text.proofs.Layers.{spelled-Word, spelled-Str, spelled-List, bare-Word, bare-Str, bare-List, fits_at-Word, fits_at-Str, fits_at-List, Each, items_ind}
-use Rattle.ff_text.specs.declared.reader.TheConstants.{MOST_DEPTH}
+use Rattle.ff_name.specs.declared.limits.TheConstants.{MOST_DEPTH}
 
 high_small : (b : ℕ) → is_ascii_control b ≡ true → b / 16 < 8
 high_small b h = let small : b < 128 = grind (arith, nat_tests) in omega arith

@@ -14,7 +14,7 @@ use Rattle.ff_text.specs.Machine.{advance, step, outside_class, open_list, end_s
 use Rattle.ff_text.proofs.Standing.{between, wording, Stands, advance-none, advance-more, advance-then, step_stands, finish_stands, word_run}
 use Rattle.ff_text.proofs.Strings.{quoting, value_run}
 use Rattle.ff_text.proofs.Steps.{end_str-good}
-use Rattle.ff_text.specs.declared.reader.TheConstants.{MOST_DEPTH}
+use Rattle.ff_name.specs.declared.limits.TheConstants.{MOST_DEPTH}
 
 -- from a place between items, the bytes take the reader to after the items
 pub record Reaches (opened : List Opened) (from at : ℕ) (bytes : List ℕ) (items : List Sexp) (ended : Bool) : Type 0 where

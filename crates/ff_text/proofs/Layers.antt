@@ -13,7 +13,7 @@ use Rattle.ff_text.specs.declared.items.Sexp.TheViews.{roll-Sexp}
 use Rattle.ff_text.specs.declared.items.Sexp.TheFolds.{ind-Sexp, fold-roll-Sexp, claims, map-Sexp}
 use Rattle.ff_text.specs.Notation.{span}
 use Rattle.ff_text.specs.Printed.{spelled, spelled_step, quoted, bare, bare_step, fits_at, fits_step, is_word}
-use Rattle.ff_text.specs.declared.reader.TheConstants.{MOST_DEPTH}
+use Rattle.ff_name.specs.declared.limits.TheConstants.{MOST_DEPTH}
 
 pub spelled-Word : (at : Span) (text : List ℕ) → spelled (sexp.Word at text) ≡ text
 unfolding roll-Sexp denote.Hole.Carrier.roll

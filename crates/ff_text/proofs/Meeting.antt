@@ -20,7 +20,7 @@ use Rattle.ff_text.proofs.Strings.{quoting, value_run, step_backslash, step_x, s
 use Rattle.ff_text.proofs.Steps.{end_str-bad}
 use Rattle.ff_text.proofs.Escapes.{EscapeMode, slash_read, x_read, digit_read, begun_mode, step_bad_escape}
 use Rattle.ff_text.proofs.Complete.{complete, step_open, step_deep, step_extra, step_quote, step_mark}
-use Rattle.ff_text.specs.declared.reader.TheConstants.{MOST_DEPTH}
+use Rattle.ff_name.specs.declared.limits.TheConstants.{MOST_DEPTH}
 
 -- the reader after bytes that end outside strings
 record Halts (opens : List ℕ) (to : ℕ) (bytes : List ℕ) : Type 0 where

@@ -15,7 +15,7 @@ use Rattle.ff_text.specs.declared.reader.Mode.TheVariants as mode
 use Rattle.ff_text.specs.Classes.{class_of, in_str_of, slashed_of, high_digit, low_digit}
 use Rattle.ff_text.specs.Machine.{HasDigit, step, step_in, outside_class, open_list, list_closed, in_word_class, word_ended, in_str_class, end_str, slashed_class, high_taken, low_taken}
 use Rattle.ff_text.proofs.ClassLemmas.{high_small}
-use Rattle.ff_text.specs.declared.reader.TheConstants.{MOST_DEPTH}
+use Rattle.ff_name.specs.declared.limits.TheConstants.{MOST_DEPTH}
 
 -- one place on, with a first digit below 8 where there is one
 abbrev pub Grows : ℕ → Result Reader TextFault → Type 0

@@ -29,7 +29,7 @@ use Rattle.ff_text.proofs.Standing.{between, wording, in_mode, EndsWord, step_wo
 use Rattle.ff_text.proofs.Strings.{quoting}
 use Rattle.ff_text.proofs.Escapes.{EscapeMode, slash_read, x_read, digit_read, begins_from_mode, short_escape, none_follows}
 use Rattle.ff_text.proofs.NoEscape.{wrong_slashed, wrong_high, wrong_low}
-use Rattle.ff_text.specs.declared.reader.TheConstants.{MOST_DEPTH}
+use Rattle.ff_name.specs.declared.limits.TheConstants.{MOST_DEPTH}
 
 -- the open lists with what stands before them, and the items of the innermost
 pub data Opens : List Opened → List Sexp → Bool → (to : ℕ) → List ℕ → Type 0 where

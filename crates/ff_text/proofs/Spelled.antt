@@ -10,7 +10,7 @@ use Rattle.ff_text.specs.declared.items.TextFault.{TextFault}
 use Rattle.ff_text.specs.Notation.{span, IsWord, Spells, nothing, blank, a_word, a_string, a_list, SpellsItems}
 use Rattle.ff_text.specs.Printed.{fits_at, is_word, IsWellSpelled, AreWellSpelled}
 use Rattle.ff_text.proofs.Layers.{fits_at-Word, fits_at-Str, fits_at-List}
-use Rattle.ff_text.specs.declared.reader.TheConstants.{MOST_DEPTH}
+use Rattle.ff_name.specs.declared.limits.TheConstants.{MOST_DEPTH}
 
 abbrev AllFit : ℕ → List Sexp → Type 0
 AllFit deep items = list_all (λ (part : ℕ → Bool). part deep) (map fits_at items) ≡ true

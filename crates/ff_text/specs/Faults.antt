@@ -7,7 +7,7 @@ use Rattle.ff_text.specs.declared.items.Sexp.{Sexp, out-Sexp}
 use Rattle.ff_text.specs.declared.items.Sexp.TheOpen.{Sexp-F}
 use Rattle.ff_text.specs.declared.items.TextFault.{TextFault}
 use Rattle.ff_text.specs.declared.items.TextFault.TheVariants as fault
-use Rattle.ff_text.specs.declared.reader.TheConstants.{MOST_DEPTH}
+use Rattle.ff_name.specs.declared.limits.TheConstants.{MOST_DEPTH}
 
 -- Bytes that end outside strings, before this place: whole items, and lists that are open. The open lists go by the
 -- places of their parentheses, the innermost first.

@@ -18,7 +18,7 @@ use Rattle.ff_text.specs.declared.reader.Mode.{Mode}
 use Rattle.ff_text.specs.declared.reader.Mode.TheVariants as mode
 use Rattle.ff_text.specs.Faults.{from_of}
 use Rattle.ff_text.specs.Classes.{class_of, in_str_of, slashed_of, high_digit, low_digit}
-use Rattle.ff_text.specs.declared.reader.TheConstants.{MOST_DEPTH}
+use Rattle.ff_name.specs.declared.limits.TheConstants.{MOST_DEPTH}
 
 -- what a call answered and left is what the step gives, unless memory ran out
 abbrev pub Makes : {A : Type 0} → Result A TextFault → Reader → Result Reader TextFault → Type 0

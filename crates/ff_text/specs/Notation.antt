@@ -7,7 +7,7 @@ use Rattle.ff_text.specs.Bytes.{is_word_byte}
 use Rattle.ff_text.specs.declared.items.Span.{Span}
 use Rattle.ff_text.specs.declared.items.Sexp.{Sexp}
 use Rattle.ff_text.specs.declared.items.Sexp.TheVariants.{Word, Str, List as Parens}
-use Rattle.ff_text.specs.declared.reader.TheConstants.{MOST_DEPTH}
+use Rattle.ff_name.specs.declared.limits.TheConstants.{MOST_DEPTH}
 
 abbrev pub span : ℕ → ℕ → Span
 span from to = record { from = from; to = to }

@@ -18,5 +18,4 @@ pub use escaped::{Escaped, MOST_ESCAPED_BYTES, is_plain};
 pub use ff_name::{NoMemory, Text};
 pub use items::{Items, Sexp, Span, TextFault};
 pub use printing::{print, quote};
-pub use reader::MOST_DEPTH;
 pub use reading::{MOST_BYTES, read, read_items};

@@ -12,11 +12,8 @@ use crate::bytes::{
 use crate::escaped::is_plain;
 use crate::items::{Items, Sexp, Span, TextFault};
 use crate::rows::{Row, Stack, WordBytes};
-use ff_name::Text;
+use ff_name::{MOST_DEPTH, Text};
 use std::alloc::Global;
-
-/// The most lists that may stand in one another.
-pub const MOST_DEPTH: usize = 64;
 
 /// A list that is open: where it begins, and the items that stand before it.
 #[derive(Drop)]

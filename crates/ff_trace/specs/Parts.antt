@@ -1,5 +1,5 @@
 -- The parts of an input's line: numbers, addresses, domains, strings and responses, each of which is one item.
-use Rattle.std.specs.Prelude.{ℕ, ◌&&◌, if◌then◌else◌, nat_lt, Option, Some, None, Result, Ok, Err, List}
+use Rattle.std.specs.Prelude.{ℕ, ◌^◌, ◌&&◌, if◌then◌else◌, nat_lt, Option, Some, None, Result, Ok, Err, List}
 use Rattle.std.specs.Str.{bytes_eq}
 use Rattle.std.specs.Str.Parse.{digits_value}
 use Rattle.ff_name.specs.declared.urls.Url.{Url}
@@ -17,7 +17,7 @@ use Rattle.ff_trace.specs.declared.fault.LineFault.TheVariants as fault
 -- the number below 2 ^ 32 whose canonical spelling these bytes are
 abbrev pub number_of : List ℕ → Option ℕ
 number_of text =
-    if nat_lt (digits_value 10 text) 4294967296 && bytes_eq (nat_text (digits_value 10 text)) text
+    if nat_lt (digits_value 10 text) (2 ^ 32) && bytes_eq (nat_text (digits_value 10 text)) text
     then Some (digits_value 10 text)
     else None
 

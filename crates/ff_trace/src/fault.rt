@@ -10,7 +10,7 @@ use thiserror::Error;
 #[derive(Clone, Copy, Debug, PartialEq, Eq, Error)]
 pub enum LineFault {
     /// The line isn't a text of items.
-    #[error("text: {0}")]
+    #[error("{0}")]
     Text(TextFault),
     /// The tag names no level.
     #[error("unknown level")]
@@ -28,7 +28,7 @@ pub enum LineFault {
     #[error("bad address")]
     Url,
     /// A part that should be a string or a response isn't one.
-    #[error("syntax: {0}")]
+    #[error("{0}")]
     Syntax(SyntaxFault),
     /// There was no memory.
     #[error("out of memory")]

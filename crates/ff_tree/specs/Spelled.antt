@@ -5,6 +5,8 @@ use Rattle.std.specs.List.{AllByRecursion}
 use Rattle.std.specs.Str.{IsUtf8}
 use Rattle.ff_name.specs.Spelling.{IsName}
 use Rattle.ff_name.specs.Address.{IsWellSpelled}
+use Rattle.ff_name.specs.declared.limits.TheConstants.{MOST_DEPTH}
+use Rattle.ff_tree.specs.declared.limits.TheConstants.{MOST_HANDLERS}
 use Rattle.ff_tree.specs.Ops.{arity_of}
 use Rattle.ff_tree.specs.declared.tree.Lit.{Lit}
 use Rattle.ff_tree.specs.declared.tree.Lit.TheVariants as lit
@@ -37,7 +39,7 @@ IsLit (lit.Bool b) = Unit {0}
 IsLit (lit.Num n) = FitsSigned w64 n
 IsLit (lit.Str text) = IsUtf8 text
 
--- one level of an expression is spelled, where `doc`, `expr` and `handler` say of its parts that they are
+-- an expression is spelled, where `doc`, `expr` and `handler` say of its parts that they are
 abbrev pub expr_spelled : (D E H : Type 0) → (D → Type 0) → (E → Type 0) → (H → Type 0) → Expr-F D E H → Type 0
 expr_spelled D E H doc expr handler (Expr-F.Lit l) = IsLit l
 expr_spelled D E H doc expr handler (Expr-F.Var x) = IsVar x
@@ -59,8 +61,8 @@ handler_spelled D E H doc expr handler h = IsVar h.param × expr h.body
 abbrev pub doc_spelled : (D E H : Type 0) → (D → Type 0) → (E → Type 0) → (H → Type 0) → Doc-F D E H → Type 0
 doc_spelled D E H doc expr handler (Doc-F.Text x text) = IsName x × IsUtf8 text
 doc_spelled D E H doc expr handler (Doc-F.Link x url label) = IsName x × IsWellSpelled url × IsUtf8 label
-doc_spelled D E H doc expr handler (Doc-F.TextBox x text hs) = IsName x × IsUtf8 text × (length hs ≤ 16) × AllByRecursion handler hs
-doc_spelled D E H doc expr handler (Doc-F.Button x label hs) = IsName x × IsUtf8 label × (length hs ≤ 16) × AllByRecursion handler hs
+doc_spelled D E H doc expr handler (Doc-F.TextBox x text hs) = IsName x × IsUtf8 text × (length hs ≤ MOST_HANDLERS) × AllByRecursion handler hs
+doc_spelled D E H doc expr handler (Doc-F.Button x label hs) = IsName x × IsUtf8 label × (length hs ≤ MOST_HANDLERS) × AllByRecursion handler hs
 doc_spelled D E H doc expr handler (Doc-F.Script x e) = IsName x × expr e
 doc_spelled D E H doc expr handler (Doc-F.Src x url) = IsName x × IsWellSpelled url
 doc_spelled D E H doc expr handler (Doc-F.Div x ds) = IsName x × AllByRecursion doc ds
@@ -85,49 +87,49 @@ abbrev pub most : List ℕ → ℕ
 most [] = 0
 most (n ∷ ns) = max n (most ns)
 
--- how deep the lists of one level nest, where those of its parts nest as deep as stands in their places
-abbrev pub expr_levels : Expr-F ℕ ℕ ℕ → ℕ
-expr_levels (Expr-F.Lit l) = 0
-expr_levels (Expr-F.Var x) = 0
-expr_levels (Expr-F.Let x e) = 1 + e
-expr_levels (Expr-F.Set x e) = 1 + e
-expr_levels (Expr-F.If e f g) = 1 + max e (max f g)
-expr_levels (Expr-F.While e f) = 1 + max e f
-expr_levels (Expr-F.Do es) = 1 + most es
-expr_levels (Expr-F.And e f) = 1 + max e f
-expr_levels (Expr-F.Or e f) = 1 + max e f
-expr_levels (Expr-F.Make params e) = 1 + max 1 e
-expr_levels (Expr-F.Apply e es) = 1 + max e (most es)
-expr_levels (Expr-F.Tree doc) = 1 + doc
-expr_levels (Expr-F.Prim op es) = 1 + most es
+-- how deep the lists of a form nest, where those of its parts nest as deep as stands in their places
+abbrev pub expr_nesting : Expr-F ℕ ℕ ℕ → ℕ
+expr_nesting (Expr-F.Lit l) = 0
+expr_nesting (Expr-F.Var x) = 0
+expr_nesting (Expr-F.Let x e) = 1 + e
+expr_nesting (Expr-F.Set x e) = 1 + e
+expr_nesting (Expr-F.If e f g) = 1 + max e (max f g)
+expr_nesting (Expr-F.While e f) = 1 + max e f
+expr_nesting (Expr-F.Do es) = 1 + most es
+expr_nesting (Expr-F.And e f) = 1 + max e f
+expr_nesting (Expr-F.Or e f) = 1 + max e f
+expr_nesting (Expr-F.Make params e) = 1 + max 1 e
+expr_nesting (Expr-F.Apply e es) = 1 + max e (most es)
+expr_nesting (Expr-F.Tree doc) = 1 + doc
+expr_nesting (Expr-F.Prim op es) = 1 + most es
 
-abbrev pub handler_levels : Handler-F ℕ ℕ ℕ → ℕ
-handler_levels handler = 1 + max 1 handler.body
+abbrev pub handler_nesting : Handler-F ℕ ℕ ℕ → ℕ
+handler_nesting handler = 1 + max 1 handler.body
 
-abbrev pub doc_levels : Doc-F ℕ ℕ ℕ → ℕ
-doc_levels (Doc-F.Text x text) = 1
-doc_levels (Doc-F.Link x url label) = 1
-doc_levels (Doc-F.TextBox x text handlers) = 1 + most handlers
-doc_levels (Doc-F.Button x label handlers) = 1 + most handlers
-doc_levels (Doc-F.Script x e) = 1 + e
-doc_levels (Doc-F.Src x url) = 1
-doc_levels (Doc-F.Div x docs) = 1 + most docs
+abbrev pub doc_nesting : Doc-F ℕ ℕ ℕ → ℕ
+doc_nesting (Doc-F.Text x text) = 1
+doc_nesting (Doc-F.Link x url label) = 1
+doc_nesting (Doc-F.TextBox x text handlers) = 1 + most handlers
+doc_nesting (Doc-F.Button x label handlers) = 1 + most handlers
+doc_nesting (Doc-F.Script x e) = 1 + e
+doc_nesting (Doc-F.Src x url) = 1
+doc_nesting (Doc-F.Div x docs) = 1 + most docs
 
 abbrev pub doc_depth : Doc → ℕ
-doc_depth = fold-Doc ℕ ℕ ℕ doc_levels expr_levels handler_levels
+doc_depth = fold-Doc ℕ ℕ ℕ doc_nesting expr_nesting handler_nesting
 
 abbrev pub expr_depth : Expr → ℕ
-expr_depth = fold-Expr ℕ ℕ ℕ doc_levels expr_levels handler_levels
+expr_depth = fold-Expr ℕ ℕ ℕ doc_nesting expr_nesting handler_nesting
 
 abbrev pub handler_depth : Handler → ℕ
-handler_depth = fold-Handler ℕ ℕ ℕ doc_levels expr_levels handler_levels
+handler_depth = fold-Handler ℕ ℕ ℕ doc_nesting expr_nesting handler_nesting
 
--- the notation spells the document in at most 64 levels
+-- the notation spells the document, and its lists nest no deeper than they may
 pub record IsWellSpelledDoc (doc : Doc) : Type 0 where
   pub spelled : IsSpelledDoc doc
-  pub shallow : doc_depth doc ≤ 64
+  pub shallow : doc_depth doc ≤ MOST_DEPTH
 
--- the notation spells the expression in at most 64 levels
+-- the notation spells the expression, and its lists nest no deeper than they may
 pub record IsWellSpelledExpr (expr : Expr) : Type 0 where
   pub spelled : IsSpelledExpr expr
-  pub shallow : expr_depth expr ≤ 64
+  pub shallow : expr_depth expr ≤ MOST_DEPTH

@@ -1,5 +1,6 @@
--- What documents and expressions weigh: 16 for each item of their notation, lists included, and the bytes of each string.
+-- What documents and expressions weigh: ITEM for each item of their notation, lists included, and the bytes of each string.
 use Rattle.std.specs.Prelude.{ℕ, ◌+◌, ◌*◌, ◌-◌, ◌^◌, min, List, length, sum}
+use Rattle.ff_tree.specs.declared.weigh.TheConstants.{ITEM}
 use Rattle.ff_tree.specs.declared.tree.Lit.{Lit}
 use Rattle.ff_tree.specs.declared.tree.Lit.TheVariants as lit
 use Rattle.ff_tree.specs.declared.tree.Doc.{Doc}
@@ -10,11 +11,11 @@ use Rattle.ff_tree.specs.declared.tree.Doc.TheFolds.{fold-Doc, fold-Expr, fold-H
 
 -- what so many words and lists weigh, without the parts of the lists
 abbrev pub items : ℕ → ℕ
-items n = 16 * n
+items n = ITEM * n
 
 -- what a string weighs
 abbrev pub string : List ℕ → ℕ
-string text = 16 + length text
+string text = ITEM + length text
 
 -- the greatest number of 64 bits in the place of any larger one
 abbrev pub capped : ℕ → ℕ
@@ -26,7 +27,7 @@ lit_weight (lit.Bool b) = items 1
 lit_weight (lit.Num n) = items 1
 lit_weight (lit.Str text) = string text
 
--- what one level of an expression weighs, where its parts weigh what stands in their places
+-- what an expression weighs, where its parts weigh what stands in their places
 abbrev pub expr_step : Expr-F ℕ ℕ ℕ → ℕ
 expr_step (Expr-F.Lit l) = lit_weight l
 expr_step (Expr-F.Var x) = items 1

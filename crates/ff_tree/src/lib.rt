@@ -1,6 +1,7 @@
 //! Expressions, documents and operators: the trees that scripts and pages are written in.
 #![tactic(auto)]
 
+mod limits;
 mod op;
 mod same;
 #[cfg(test)]
@@ -8,6 +9,7 @@ mod tests;
 mod tree;
 mod weigh;
 
+pub use limits::MOST_HANDLERS;
 pub use op::Op;
 pub use same::{same_docs, same_names};
 pub use tree::{Body, Doc, Docs, Expr, Exprs, Handler, Handlers, Lit, Names};

@@ -20,12 +20,24 @@ pub type Names = SharedList<Name>;
 pub type Docs = SharedList<Doc>;
 
 /// A literal.
-#[derive(Debug, PartialEq, Eq, Drop)]
+#[derive(Debug, PartialEq, Eq)]
 pub enum Lit {
     Null,
     Bool(bool),
     Num(i64),
     Str(Text),
+}
+
+// Written out, so that the proof of a caller sees one call and not a case for each variant.
+impl Drop for Lit {
+    fn drop(self) {
+        match self {
+            Lit::Null => (),
+            Lit::Bool(_) => (),
+            Lit::Num(_) => (),
+            Lit::Str(_text) => (),
+        }
+    }
 }
 
 impl Lit {

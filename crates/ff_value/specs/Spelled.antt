@@ -3,6 +3,7 @@ use Rattle.std.specs.Prelude.{◌≡◌, ◌≤◌, ◌<◌, ◌+◌, ◌^◌, �
 use Rattle.std.specs.Int.{w64}
 use Rattle.std.specs.List.{AllByRecursion}
 use Rattle.std.specs.Str.{IsUtf8}
+use Rattle.ff_name.specs.declared.limits.TheConstants.{MOST_DEPTH}
 use Rattle.ff_name.specs.Spelling.{IsDomain}
 use Rattle.ff_name.specs.Address.{IsRequest, IsWellSpelled}
 use Rattle.ff_tree.specs.Spelled.{AreParams, IsSpelledDoc, IsSpelledExpr, IsWellSpelledExpr, doc_depth, expr_depth, most}
@@ -64,10 +65,10 @@ resp_depth (resp.Page cookies docs) = 1 + max (cookies_depth cookies) (most (map
 resp_depth (resp.Script cookies e) = 1 + max (cookies_depth cookies) (expr_depth e)
 resp_depth (resp.Data cookies text) = 1 + cookies_depth cookies
 
--- the notation spells the response in at most 64 levels
+-- the notation spells the response, and its lists nest no deeper than they may
 pub record IsWellSpelledResp (resp : Resp) : Type 0 where
   pub spelled : IsSpelledResp resp
-  pub shallow : resp_depth resp ≤ 64
+  pub shallow : resp_depth resp ≤ MOST_DEPTH
 
 -- a number of an input: 32 bits
 abbrev pub IsNat : ℕ → Type 0
@@ -86,7 +87,7 @@ IsWellSpelledAct (act.Replies domain request resp) = IsDomain domain × IsNat re
 abbrev pub IsWellSpelledInput : Input → Type 0
 IsWellSpelledInput input = IsWellSpelledAct input.act
 
--- one level of what the user sees is spelled, where `seen` says of its parts that they are
+-- what the user sees is spelled, where `seen` says of its parts that they are
 abbrev pub seen_spelled : (S : Type 0) → (S → Type 0) → Seen-F S → Type 0
 seen_spelled S seen (Seen-F.Text text) = IsUtf8 text
 seen_spelled S seen (Seen-F.Link url label) = IsWellSpelled url × IsUtf8 label

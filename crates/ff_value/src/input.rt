@@ -8,7 +8,7 @@ use std::cmp::{Eq, PartialEq};
 use std::marker::Model;
 
 /// What the user does or a server answers. A window's number is its position among the open windows, from 0.
-#[derive(Debug, Drop)]
+#[derive(Debug)]
 pub enum Act {
     /// Opens a window at an address.
     Opens(Url),
@@ -24,6 +24,21 @@ pub enum Act {
     Clicks(u32, u32),
     /// Answers a domain's pending request with that number, from 0.
     Replies(Domain, u32, Resp),
+}
+
+// Written out, so that the proof of a caller sees one call and not a case for each variant.
+impl Drop for Act {
+    fn drop(self) {
+        match self {
+            Act::Opens(_url) => (),
+            Act::Goes(_, _url) => (),
+            Act::Links(_, _) => (),
+            Act::Closes(_) => (),
+            Act::Types(_, _, _text) => (),
+            Act::Clicks(_, _) => (),
+            Act::Replies(_domain, _, _resp) => (),
+        }
+    }
 }
 
 impl Act {

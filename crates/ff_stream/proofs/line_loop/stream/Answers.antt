@@ -11,11 +11,11 @@ loop-item-init g c = record {
 }
 
 pub returns-in-Err-clause-streams : goal.returns-in-Err-clause-streams
-returns-in-Err-clause-streams g c = streams_read c.loop-item.invariant.so_far c.in-Err.ensures.reads c.in-Err.end refl
+returns-in-Err-clause-streams g c = streams_read c.loop-item.invariant.so_far (rw c.in-Err.ensures.counted at c.in-Err.ensures.reads) c.in-Err.end refl
 
 pub loop-item-preserved : goal.loop-item-preserved
 loop-item-preserved g c = record {
-  so_far = streaming_taken c.loop-item.invariant.so_far c.in-Ok.ensures.reads (g.met.R.Reader.once c.args.reader.now) c.in-Ok.item refl c.in-Ok-take_item.ensures.takes;
+  so_far = rw c.in-Ok.ensures.counted (streaming_taken c.loop-item.invariant.so_far (rw c.in-Ok.ensures.counted at c.in-Ok.ensures.reads) (g.met.R.Reader.once c.args.reader.now) c.in-Ok.item refl c.in-Ok-take_item.ensures.takes);
   later = search rules;
   later_turns = search rules;
   later_writes = search rules;
@@ -23,4 +23,4 @@ loop-item-preserved g c = record {
 
 pub returns-in-Err-take_item-clause-streams : goal.returns-in-Err-take_item-clause-streams
 returns-in-Err-take_item-clause-streams g c =
-    streams_taken c.loop-item.invariant.so_far c.in-Ok.ensures.reads (g.met.R.Reader.once c.args.reader.now) c.in-Ok.item refl c.in-Err-take_item.end c.in-Err-take_item.ensures.takes
+    streams_taken c.loop-item.invariant.so_far (rw c.in-Ok.ensures.counted at c.in-Ok.ensures.reads) (g.met.R.Reader.once c.args.reader.now) c.in-Ok.item refl c.in-Err-take_item.end c.in-Err-take_item.ensures.takes
