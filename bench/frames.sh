@@ -8,7 +8,7 @@ cd "$(dirname "$0")"
 work=$(mktemp -d)
 trap 'rm -rf "$work"' EXIT
 rustc -O -o "$work/plain" frames.rs 2>"$work/errors" || { cat "$work/errors"; exit 1; }
-(cd ../crates/ff_frames_bench && rt run -- run) >"$work/ours"
+(cd ../crates/ff_frames_table && rt run -- bench) >"$work/ours"
 "$work/plain" >"$work/theirs"
 paste -d ' ' "$work/ours" "$work/theirs" |
     awk '{ printf "%-5s %9d reductions, %12.0f a second, plain Rust %12.0f, ratio %.2f\n", $1, $2, 1e9 / $3, 1e9 / $6, $3 / $6 }'

@@ -70,16 +70,6 @@ pub frame-is : (s : Stack) (rest : List Frame) (f : Frame) (v : Val) → s.focus
     → IsValid s → redex (evaluation s).expr ≡ wrap f s.act (Done v)
 frame-is s rest f v h was valid = rw h (frame-redex s.frames.items rest f was s.act v (full-of s v h valid))
 
--- the last item, and those before it
-pub last-get : {A : Type 0} (xs : List A) (x : A) → slice_get xs (length xs - 1) ≡ Some x → (rest : List A) × (xs ≡ rest ++ x ∷ [])
-last-get [] x h = cc
-last-get (y ∷ []) x h = ([], let p : y ≡ x = cc in rw p refl)
-last-get {A} (y ∷ z ∷ zs) x h =
-    let m : length (y ∷ z ∷ zs) - 1 ≡ suc (length zs) = omega arith in
-    let n : length (z ∷ zs) - 1 ≡ length zs = omega arith in
-    let p : slice_get (z ∷ zs) (length (z ∷ zs) - 1) ≡ Some x = rw n (rw m at h) in
-    let r = last-get (z ∷ zs) x p in (y ∷ r.0, ap (λ (l : List A). y ∷ l) r.1)
-
 -- ---- the depth
 
 -- the part at hand has no call in it
@@ -200,18 +190,9 @@ pub local-frame : (s : Stack) (rest : List Frame) (f : Frame) (v : Val) → s.fo
     → IsLocal (redex (evaluation s).expr) → (a : ActId) → IsLocal (wrap f a (Done v))
 local-frame s rest f v h was valid l a = local-any f s.act a (Done v) (rw (frame-is s rest f v h was valid) at l)
 
--- where nothing stands around a value, the expression is the value
-pub no-frame : {A : Type 0} (s : Stack) (v : Val) → s.focus ≡ focus.Value v → s.frames.items ≡ [] → is_value (evaluation s).expr ≡ false → A
-no-frame s v h none unfinished = let p : true ≡ false = rw (h, none) at unfinished in cc
-
 -- a form at hand is no value
 pub value-form : (s : Stack) (e : Expr) → s.focus ≡ focus.Part e → IsValid s → is_value (evaluation s).expr ≡ false
 value-form s e h v = rw h (plug_value s.frames.items s.act (whole e) (form-open e (row-of s e h v)))
-
--- nor is what a frame stands around
-pub value-frame : (s : Stack) (rest : List Frame) (f : Frame) → s.frames.items ≡ rest ++ f ∷ [] → is_value (evaluation s).expr ≡ false
-value-frame s rest f was =
-    rw (was, plug-snoc rest f s.act (shown s.focus)) (plug_value rest (outside f s.act) (wrap f s.act (shown s.focus)) (wrap_value f s.act (shown s.focus)))
 
 -- putting what g gives for the redex is rewriting by g
 pub by-redex : (g : Running → Running) (e : Evaluation) → rewritten_in (λ _. g (redex e.expr)) e ≡ rewritten_in g e

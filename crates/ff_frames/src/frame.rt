@@ -21,10 +21,19 @@ pub enum Frame {
 }
 
 /// The part at hand.
-#[derive(Drop)]
 pub enum Focus {
     Value(Val),
     Part(Source),
+}
+
+// Written out, so that the proof of a caller sees one call and not a case for each variant.
+impl Drop for Focus {
+    fn drop(self) {
+        match self {
+            Focus::Value(_value) => (),
+            Focus::Part(_form) => (),
+        }
+    }
 }
 
 /// The value of a literal.

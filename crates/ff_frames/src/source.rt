@@ -8,10 +8,19 @@ use std::alloc::Global;
 use std::marker::Model;
 
 /// Where an expression stands: by itself, or at a place in a list.
-#[derive(Drop)]
 pub enum Place {
     Body(Body),
     Item(Exprs, usize),
+}
+
+// Written out, so that the proof of a caller sees one call and not a case for each variant.
+impl Drop for Place {
+    fn drop(self) {
+        match self {
+            Place::Body(_body) => (),
+            Place::Item(_list, _) => (),
+        }
+    }
 }
 
 /// An expression of a script, held by a reference to where it stands. Contracts see the expression.
