@@ -6,7 +6,7 @@ use std::alloc::{AllocError, AllocFailed};
 use thiserror::Error;
 
 /// Why names and pairs are no lattice, in the order in which the faults come.
-#[derive(Debug, PartialEq, Eq, Drop, Error)]
+#[derive(Debug, PartialEq, Eq, Error)]
 pub enum LatticeFault {
     /// There are no names.
     #[error("no levels")]
@@ -35,6 +35,23 @@ pub enum LatticeFault {
     /// There was no memory.
     #[error("out of memory")]
     NoMemory,
+}
+
+// Written out, so that the proof of a caller sees one call and not a case for each variant.
+impl Drop for LatticeFault {
+    fn drop(self) {
+        match self {
+            LatticeFault::NoLevels => (),
+            LatticeFault::TooMany => (),
+            LatticeFault::BadName(_) => (),
+            LatticeFault::Repeated(_name) => (),
+            LatticeFault::Unknown(_name) => (),
+            LatticeFault::Cycle(_low, _high) => (),
+            LatticeFault::NoJoin(_low, _high) => (),
+            LatticeFault::NoMeet(_low, _high) => (),
+            LatticeFault::NoMemory => (),
+        }
+    }
 }
 
 impl From<AllocError> for LatticeFault {

@@ -73,6 +73,10 @@ abbrev pub equal : ℕ → List Val → Result Applied Fault
 equal mass (a ∷ b ∷ []) = cond (is_code a || is_code b) (Err fault.Kind) (free mass (val.Bool (same a b)))
 equal mass other = Err fault.Kind
 
+-- how many bytes the text has; 64 bits hold that of each text that there can be
+abbrev pub len : ℕ → List ℕ → Result Applied Fault
+len mass text = num_or_overflow mass (pos (length text))
+
 -- the byte at that place of the text, where the text has the place
 abbrev pub byte_at : List ℕ → ℤ → Option ℕ
 byte_at text n = cond (int_le (pos 0) n) (slice_get text (nat_abs n)) None
@@ -117,7 +121,7 @@ apply op.AtMost args mass = ordered mass int_le text_le args
 apply op.Equal args mass = equal mass args
 apply op.Not args mass = with_operands (one_bool args) (λ b. free mass (val.Bool (not b)))
 apply op.Cat args mass = with_operands (two_strs args) (λ o. made mass (o.0 ++ o.1))
-apply op.Len args mass = with_operands (one_str args) (λ a. free mass (val.Num (pos (length a))))
+apply op.Len args mass = with_operands (one_str args) (λ a. len mass a)
 apply op.Byte args mass = with_operands (str_num args) (λ o. byte mass (byte_at o.0 o.1))
 apply op.Cut args mass = with_operands (str_nums args) (λ o. cut mass (part_of o.0 o.1 o.2))
 apply op.Str args mass = with_operands (one_num args) (λ n. made mass (num_text n))

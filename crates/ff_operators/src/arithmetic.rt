@@ -74,7 +74,7 @@ fn remainder(a: i64, b: i64, mass: u64) -> Result<Applied, Fail>
 }
 
 /// The number, which is `None` where 64 bits don't hold it.
-fn number(n: Option<i64>, mass: u64) -> Result<Applied, Fail>
+pub(crate) fn number(n: Option<i64>, mass: u64) -> Result<Applied, Fail>
     ensures { (z : ℤ) → SomeIff n (FitsSigned w64 z) z → Gives (pure.num_or_overflow mass z) result }
 {
     match n {

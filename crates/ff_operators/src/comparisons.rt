@@ -34,7 +34,7 @@ pub(crate) fn equal(args: &Vals, mass: u64) -> Result<Applied, Fail>
     ensures { Gives (pure.apply op.Equal args.now mass) result }
 {
     match args.as_slice() {
-        [Val::Code(_), _] | [_, Val::Code(_)] => Err(Fail::Fault(Fault::Kind)),
+        [Val::Code(..), _] | [_, Val::Code(..)] => Err(Fail::Fault(Fault::Kind)),
         [a, b] => Ok(Applied::free(Val::Bool(*a == *b), mass)),
         _ => Err(Fail::Fault(Fault::Kind)),
     }

@@ -6,6 +6,7 @@ ghost use Rattle.ff_operators.specs.Pure as pure;
 ghost use Rattle.ff_tree.specs.declared.op.Op.TheVariants as op;
 
 use crate::answer::{Applied, Fail};
+use crate::arithmetic::number;
 use crate::limits::{MOST_MADE_BYTES, MOST_MASS};
 use crate::operands::{one_num, one_str, str_num, str_nums, two_strs};
 use ff_number::{Digits, read_num};
@@ -41,7 +42,7 @@ pub(crate) fn len(args: &Vals, mass: u64) -> Result<Applied, Fail>
     ensures { Gives (pure.apply op.Len args.now mass) result }
 {
     match one_str(args) {
-        Some(a) => Ok(Applied::free(Val::Num(a.as_bytes().len() as i64), mass)),
+        Some(a) => number(i64::try_from(a.as_bytes().len()).ok(), mass),
         None => Err(Fail::Fault(Fault::Kind)),
     }
 }

@@ -7,7 +7,7 @@ use std::alloc::{AllocError, AllocFailed};
 use thiserror::Error;
 
 /// Why bytes are no policy, in the order in which the faults come.
-#[derive(Debug, PartialEq, Eq, Drop, Error)]
+#[derive(Debug, PartialEq, Eq, Error)]
 pub enum PolicyFault {
     /// There are over 65,536 bytes.
     #[error("too large")]
@@ -39,6 +39,24 @@ pub enum PolicyFault {
     /// There was no memory.
     #[error("out of memory")]
     NoMemory,
+}
+
+// Written out, so that the proof of a caller sees one call and not a case for each variant.
+impl Drop for PolicyFault {
+    fn drop(self) {
+        match self {
+            PolicyFault::TooLarge => (),
+            PolicyFault::NotJson => (),
+            PolicyFault::BadVersion => (),
+            PolicyFault::UnknownField(_field) => (),
+            PolicyFault::BadShape(_field) => (),
+            PolicyFault::Levels(_fault) => (),
+            PolicyFault::UnknownLevel(_place) => (),
+            PolicyFault::BadDomain(_key) => (),
+            PolicyFault::BadFuel => (),
+            PolicyFault::NoMemory => (),
+        }
+    }
 }
 
 impl From<AllocError> for PolicyFault {

@@ -236,8 +236,8 @@ fn lattice_of(alloc: Global, plan: &Plan) -> Result<Lattice, PolicyFault>
 fn of_levels(fault: LatticeFault) -> PolicyFault
     ensures { result ≢ PolicyFault.NoMemory → (fault ≢ LatticeFault.NoMemory) × (result ≡ PolicyFault.Levels fault) }
 {
-    match fault {
+    match &fault {
         LatticeFault::NoMemory => PolicyFault::NoMemory,
-        fault => PolicyFault::Levels(fault),
+        _ => PolicyFault::Levels(fault),
     }
 }

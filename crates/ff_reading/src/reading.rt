@@ -17,7 +17,8 @@ use crate::words::read_word;
 use ff_forms::{DocHead, ExprHead, HandlerHead, RespHead, SyntaxFault};
 use ff_text::Sexp;
 use ff_value::{
-    Body, Doc, Docs, Expr, Exprs, Handler, Handlers, Lit, Op, Resp, Shared, SharedList,
+    Body, Doc, Docs, Expr, Exprs, Handler, Handlers, Lit, MOST_HANDLERS, Op, Resp, Shared,
+    SharedList,
 };
 use std::alloc::Global;
 

@@ -67,7 +67,9 @@ fn read_policy(alloc: Global, bytes: &[u8]) -> Result<Policy, Status>
 {
     match Policy::read(alloc, bytes) {
         Ok(policy) => Ok(policy),
-        Err(PolicyFault::NoMemory) => Err(Status::NoMemory),
-        Err(fault) => Err(Status::Policy(fault)),
+        Err(fault) => match &fault {
+            PolicyFault::NoMemory => Err(Status::NoMemory),
+            _ => Err(Status::Policy(fault)),
+        },
     }
 }

@@ -21,7 +21,7 @@ pub enum TraceFault {
 }
 
 /// How a run ended.
-#[derive(Debug, PartialEq, Eq, Drop)]
+#[derive(Debug, PartialEq, Eq)]
 pub enum Status {
     /// The work was done, and its whole text was written.
     Done,
@@ -39,6 +39,22 @@ pub enum Status {
     ShelfFault,
     /// Memory was refused.
     NoMemory,
+}
+
+// Written out, so that the proof of a caller sees one call and not a case for each variant.
+impl Drop for Status {
+    fn drop(self) {
+        match self {
+            Status::Done => (),
+            Status::Usage => (),
+            Status::Policy(_fault) => (),
+            Status::Trace(_, _) => (),
+            Status::ReadFault => (),
+            Status::WriteFault => (),
+            Status::ShelfFault => (),
+            Status::NoMemory => (),
+        }
+    }
 }
 
 impl Status {

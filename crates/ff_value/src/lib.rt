@@ -18,7 +18,9 @@ mod weigh;
 pub use fault::Fault;
 pub use ff_name::{Domain, Level, Name, NoMemory, Text, Url, UrlFault, Worded, by_word};
 pub use ff_shared::{Shared, SharedList};
-pub use ff_tree::{Body, Doc, Docs, Expr, Exprs, Handler, Handlers, Lit, Names, Op, weight_doc};
+pub use ff_tree::{
+    Body, Doc, Docs, Expr, Exprs, Handler, Handlers, Lit, MOST_HANDLERS, Names, Op, weight_doc,
+};
 pub use ids::{ActId, Ids, NodeId, PageId, WinId};
 pub use input::{Act, Input, Offers};
 pub use kind::Kind;
