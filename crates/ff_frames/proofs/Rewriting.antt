@@ -1,5 +1,5 @@
 -- A stack with its redex rewritten.
-use Rattle.std.proofs.Common.{◌≡◌, ◌≤◌, ◌<◌, ◌+◌, ◌-◌, ◌++◌, ◌∷◌, suc, List, [], length, true, false, refl, sym, ap, ◌∙◌, arith, Some, slice_get}
+use Rattle.std.proofs.Common.{◌≡◌, ◌≤◌, ◌<◌, ◌+◌, ◌-◌, ◌++◌, ◌∷◌, List, [], false, refl, sym, ap, ◌∙◌, arith}
 use Rattle.ff_tree.specs.declared.tree.Expr.{Expr, out-Expr}
 use Rattle.ff_tree.specs.declared.tree.Doc.{Doc}
 use Rattle.ff_tree.specs.declared.tree.Handler.{Handler}
@@ -20,7 +20,7 @@ use Rattle.ff_frames.specs.declared.stack.Stack.{Stack}
 use Rattle.ff_frames.specs.Frames.{around, wrap, outside, base_of, plug, shown, is_call, calls}
 use Rattle.ff_frames.specs.Seeking.{IsFull, IsRow, IsTopFull, IsSettled}
 use Rattle.ff_frames.specs.Stacks.{with_part, evaluation, out_of, IsCounted, IsValid, IsReady, IsWithoutRedex}
-use Rattle.ff_frames.proofs.Plugs.{plug_value, wrap_value, base-snoc, plug-snoc, calls-snoc, plug_insides, plug_innermost, plug_around}
+use Rattle.ff_frames.proofs.Plugs.{plug_value, base-snoc, plug-snoc, calls-snoc, plug_insides, plug_innermost, plug_around}
 use Rattle.ff_term.specs.Calls.{calls_around}
 use Rattle.ff_term.proofs.Calls.{whole-around}
 use Rattle.ff_term.proofs.Sources.{source}

@@ -84,12 +84,7 @@ fn is_true(value: &Val) -> bool {
     }
 }
 
-fn read(
-    alloc: Global,
-    control: &mut Control,
-    store: &Store,
-    name: &Name,
-) -> Result<(), NoMemory>
+fn read(alloc: Global, control: &mut Control, store: &Store, name: &Name) -> Result<(), NoMemory>
     requires { is_value control.old.expr ≡ false }
 {
     let value = store.get(control.act(), name)?;
@@ -109,12 +104,7 @@ fn write(
     control.give(alloc, value.copy()?)
 }
 
-fn make(
-    alloc: Global,
-    control: &mut Control,
-    params: &Names,
-    body: &Body,
-) -> Result<(), NoMemory>
+fn make(alloc: Global, control: &mut Control, params: &Names, body: &Body) -> Result<(), NoMemory>
     requires { is_value control.old.expr ≡ false }
 {
     let code = code(params, body, control.act())?;
