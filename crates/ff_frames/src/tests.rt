@@ -119,6 +119,14 @@ fn branching(alloc: Global) -> Result<Control, NoMemory> {
     started(alloc, Expr::If(test, yes, no))
 }
 
+/// Of `(do 1 2)`.
+fn two(alloc: Global) -> Result<Control, NoMemory> {
+    let mut parts = Vec::new(alloc);
+    parts.push(Expr::Lit(Lit::Num(1)))?;
+    parts.push(Expr::Lit(Lit::Num(2)))?;
+    started(alloc, Expr::Do(SharedList::from_vec(alloc, parts)?))
+}
+
 /// Of `(do (while false 1) 7)`.
 fn looping(alloc: Global) -> Result<Control, NoMemory> {
     let test = flag(alloc, false)?;
@@ -154,6 +162,14 @@ fn an_if_takes_the_branch_of_its_test(rt: HostRuntime) -> Result<(), NoMemory> {
     let mut control = branching(rt.alloc())?;
     let followed = follows(rt.alloc(), &mut control, b"y")?;
     assert!(rt; followed && is_num(control.done(), 1));
+    Ok(())
+}
+
+#[test]
+fn a_do_becomes_its_last_value(rt: HostRuntime) -> Result<(), NoMemory> {
+    let mut control = two(rt.alloc())?;
+    let followed = follows(rt.alloc(), &mut control, b"ll")?;
+    assert!(rt; followed && is_num(control.done(), 2));
     Ok(())
 }
 
