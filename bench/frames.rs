@@ -1,4 +1,4 @@
-// The term machine of bench/frames.sh in plain Rust: the reductions of two programs, and the nanoseconds of one.
+// The term machine in plain Rust: the nanoseconds of a reduction, of two programs.
 use std::mem;
 use std::rc::Rc;
 use std::time::Instant;
@@ -318,10 +318,10 @@ fn report(name: &str, times: u32, body: &Body, function: &Body) {
     let start = Instant::now();
     let made: u32 = (0..times).map(|_| run(body, function)).sum();
     let nanoseconds = start.elapsed().as_secs_f64() * 1e9 / f64::from(made);
-    println!("{name} {made} {nanoseconds:.1}");
+    println!("{name} {nanoseconds:.1}");
 }
 
-fn main() {
+pub fn measure() {
     let function = deep();
     report("loop", 1, &counting(), &function);
     report("calls", DESCENTS, &call(num(1)), &function);

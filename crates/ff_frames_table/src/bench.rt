@@ -16,7 +16,7 @@ const DEEP: &str = "(do (let f (fn (n) (if (< n 900) (+ 1 (call f (+ n 1))) 0)))
 /// Neither takes more reductions.
 const MOST_REDUCTIONS: u32 = 2_000_000;
 
-/// Prints for each its name, its reductions, and the nanoseconds of one.
+/// Prints for each its name and the nanoseconds of a reduction.
 pub fn run<R: Clock + Print>(rt: &R, alloc: Global) -> Result<()> {
     report(rt, alloc, "loop", COUNTING, 1)?;
     report(rt, alloc, "calls", DEEP, 100)
@@ -37,7 +37,7 @@ fn report<R: Clock + Print>(
         made = made.wrapping_add(u64::from(reductions(alloc, &body)?));
     }
     let nanoseconds = start.elapsed(rt)?.as_secs_f64() * 1e9 / made as f64;
-    println!(rt; "{name} {made} {nanoseconds:.1}")?;
+    println!(rt; "{name} {nanoseconds:.1}")?;
     Ok(())
 }
 

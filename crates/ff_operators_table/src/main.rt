@@ -3,26 +3,15 @@
 //! A line is `MASS OPERATOR OPERAND..`, separated by single blanks. An operand is a number, `null`, `true`, `false`, `'` and
 //! then a text without blanks, `*N` for a text of N times the letter `a`, `w` and then the number of a window, `n` and then
 //! the number of a node, or `fn` for a function. The answer is a value, spelled so, and the mass after it, or a fault.
-//!
-//! With the argument `bench` it reads nothing and prints the nanoseconds of some operators instead.
 #![tactic(auto)]
 
-mod bench;
 mod lines;
 mod spelling;
 
 use anyhow::{Context, Result};
 use ff_operators::{Applied, Fail, apply};
-use std::env;
 
 fn main(rt: HostRuntime) -> Result<()> {
-    let timed = match env::args(&rt)?.nth(1) {
-        Some(word) => word.as_str() == "bench",
-        None => false,
-    };
-    if timed {
-        return bench::run(&rt, rt.alloc());
-    }
     for line in rt.lines(rt.alloc()) {
         let line = line?;
         let call = lines::read(rt.alloc(), line.as_str())?.context("no line of the table")?;

@@ -1,4 +1,4 @@
-use Rattle.ff_cow_bench.proofs.main.Given as goal
+use Rattle.ff_bench.proofs.main.Given as goal
 
 abbrev pub ghosts-measure : goal.ghosts-measure
 ghosts-measure a = record { name = a.blank.name; parts = a.blank.parts }

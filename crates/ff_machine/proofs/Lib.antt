@@ -1,0 +1,12 @@
+pub mod Maps
+pub mod Laying
+pub mod Weights
+pub mod Derived
+pub mod Given
+pub mod Rows
+pub mod Scripts
+pub mod Leak
+pub mod Empty
+pub mod Stays
+pub mod Fuel
+pub mod Children

@@ -1,0 +1,12 @@
+-- One copy of the browser as a reactor.
+use Rattle.std.specs.Prelude.{ℕ}
+use Rattle.ff_reactive.specs.Turns.{Reactor}
+use Rattle.ff_value.specs.declared.input.Input.{Input}
+use Rattle.ff_value.specs.declared.output.Out.{Out}
+use Rattle.ff_machine.specs.State.{State, empty}
+use Rattle.ff_machine.specs.Inputs.{begin}
+use Rattle.ff_machine.specs.Turns.{turn}
+
+-- the browser, with the fuel that each input brings
+abbrev pub reactor : ℕ → Reactor Input Out State
+reactor budget = record { start = empty budget; begin = begin; turn = turn; quiet = λ s. s.quiet }
