@@ -1,4 +1,5 @@
-// What crates/ff_bench and the bench of crates/ff_frames_table time, in plain Rust: for each word the same names, with the nanoseconds that one takes.
+// What crates/ff_bench and the bench of crates/ff_frames_table time, in plain Rust: for each word the
+// same names, with the nanoseconds that one takes.
 mod frames;
 
 use std::hint::black_box;
