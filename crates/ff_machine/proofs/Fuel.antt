@@ -29,8 +29,8 @@ use Rattle.ff_machine.specs.Inputs.{user_window, user_node, goes, links, closes,
 use Rattle.ff_machine.specs.Turns.{script_work, work_of, next_work, spend, turn_of, turn}
 use Rattle.ff_machine.specs.Machine.{reactor}
 
--- what the second state has of the first: the fuel that is left, what an input brings, whether it is
--- quiet
+-- what the second state has of the first: the fuel that is left, what an input brings, and whether
+-- it is quiet
 record Like (s t : State) : Type 0 where
   pub fuel : t.fuel ≡ s.fuel
   pub budget : t.budget ≡ s.budget

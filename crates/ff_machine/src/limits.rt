@@ -1,6 +1,6 @@
 //! The limits of one copy of the browser. Those of the mass and of the texts that operators make
-//! stand in `ff_operators`, that of calls inside one another in `ff_term`, that of a node's handlers
-//! in `ff_tree`.
+//! stand in `ff_operators`, that of calls inside one another in `ff_term`, and that of a node's
+//! handlers in `ff_tree`.
 
 /// Open windows.
 pub const MOST_WINDOWS: usize = 64;
