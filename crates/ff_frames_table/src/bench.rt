@@ -32,11 +32,11 @@ fn report<R: Clock + Print>(
 ) -> Result<()> {
     let body = read_body(alloc, program)?;
     let start = Instant::now(rt)?;
-    let mut made: u64 = 0;
+    let mut made: u32 = 0;
     for _time in 0..times {
-        made = made.wrapping_add(u64::from(reductions(alloc, &body)?));
+        made = made.wrapping_add(reductions(alloc, &body)?);
     }
-    let nanoseconds = start.elapsed(rt)?.as_secs_f64() * 1e9 / made as f64;
+    let nanoseconds = start.elapsed(rt)?.as_secs_f64() * 1e9 / f64::from(made);
     println!(rt; "{name} {nanoseconds:.1}")?;
     Ok(())
 }
