@@ -1,4 +1,7 @@
-// What crates/ff_bench times, in plain Rust: for each word the same names, with the nanoseconds that one takes.
+// What crates/ff_bench and the bench of crates/ff_frames_table time, in plain Rust: for each word the
+// same names, with the nanoseconds that one takes.
+mod frames;
+
 use std::hint::black_box;
 use std::rc::Rc;
 use std::time::Instant;
@@ -72,6 +75,7 @@ fn main() {
         Some("list") => list(),
         Some("text") => text(),
         Some("operators") => operators(),
-        _ => eprintln!("usage: plain list | text | operators"),
+        Some("frames") => frames::measure(),
+        _ => eprintln!("usage: plain list | text | operators | frames"),
     }
 }

@@ -31,11 +31,23 @@ fn open<L: Ledger>(
 /// Whether the outputs are of a window that opens, and of the request that is asked for next, if any.
 fn are_of_a_window(outs: &[Out], asked: Option<(&str, &str)>) -> bool {
     match outs {
-        [Out::Opened] => asked.is_none(),
-        [Out::Opened, Out::Send(domain, uri, cookies, body)] => {
-            asked.is_some_and(|(name, text)| {
-                domain.text().as_bytes() == name.as_bytes() && uri.as_bytes() == text.as_bytes()
-            }) && cookies.is_empty()
+        [opened] => is_opened(opened) && asked.is_none(),
+        [opened, sent] => is_opened(opened) && asked.is_some_and(|asked| is_sent(sent, asked)),
+        _ => false,
+    }
+}
+
+fn is_opened(out: &Out) -> bool {
+    matches!(out, Out::Opened)
+}
+
+/// Whether an output is a request with this domain and this request text, and with nothing else.
+fn is_sent(out: &Out, asked: (&str, &str)) -> bool {
+    match out {
+        Out::Send(domain, uri, cookies, body) => {
+            domain.text().as_str() == asked.0
+                && uri.as_str() == asked.1
+                && cookies.is_empty()
                 && body.as_bytes().is_empty()
         }
         _ => false,

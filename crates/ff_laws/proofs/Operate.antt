@@ -34,7 +34,7 @@ use Rattle.ff_machine.specs.Operators.{Outcome, operate, unless, does, does_or_l
 use Rattle.ff_machine.specs.Alone.{IsShape, IsPage, IsWindow}
 use Rattle.ff_machine.specs.References.{made, PageRefers}
 use Rattle.ff_machine.specs.Valid.{IsCode, IsVal, IsStores}
-use Rattle.ff_machine.proofs.Children.{children_few}
+use Rattle.ff_machine.proofs.Walks.{few_children}
 use Rattle.ff_laws.specs.Keeps.{Keeps}
 use Rattle.ff_laws.specs.Reduced.{KeepsUnlessFault}
 use Rattle.ff_laws.proofs.Asking.{sent_valid}
@@ -132,7 +132,7 @@ module _ (s : Stores) (page : PageId) (valid : IsStores s) (lives : page.0 < len
 
   count_fits : (n : NodeId) → FitsSigned w64 (pos (length (children s.nodes n)))
   count_fits n =
-      let few = children_few s.nodes valid.nodes.trees n in
+      let few = few_children s.nodes valid.nodes.trees n in
       let all = valid.nodes.few in
       fits_signed_from_abs w64 (pos (length (children s.nodes n))) (omega (arith, few, all))
 

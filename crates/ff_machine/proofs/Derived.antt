@@ -1,12 +1,13 @@
 -- Runs put together from what each input and each turn gives.
-use Rattle.std.proofs.Common.{◌≡◌, ℕ, suc, true, false, cond, List, [], ◌∷◌, ◌++◌, ap, ◌∙◌}
+use Rattle.std.proofs.Common.{◌≡◌, ℕ, zero, suc, true, false, cond, List, [], ◌∷◌, ◌++◌, refl, ap, ◌∙◌}
 use Rattle.ff_reactive.specs.Runs.{Machine, Handled, plain_from}
 use Rattle.ff_reactive.specs.Turns.{Stepped, Reactor, settle, machine_of}
 
 module _ {I O S : Type 0} (r : Reactor I O S) where
   -- a quiet state makes no turn
-  pub rest : (most : ℕ) (s : S) → r.quiet s ≡ true → settle r (suc most) s ≡ record { outputs = []; after = s; turns = 0 }
-  rest most s quiet = ap (λ b. cond b (record { outputs = []; after = s; turns = 0 }) (record { outputs = (r.turn s).outputs ++ (settle r most (r.turn s).after).outputs; after = (settle r most (r.turn s).after).after; turns = suc (settle r most (r.turn s).after).turns })) quiet
+  pub rest : (most : ℕ) (s : S) → r.quiet s ≡ true → settle r most s ≡ record { outputs = []; after = s; turns = 0 }
+  rest zero s quiet = refl
+  rest (suc most) s quiet = ap (λ b. cond b (record { outputs = []; after = s; turns = 0 }) (record { outputs = (r.turn s).outputs ++ (settle r most (r.turn s).after).outputs; after = (settle r most (r.turn s).after).after; turns = suc (settle r most (r.turn s).after).turns })) quiet
 
   -- one turn of a state that isn't, and then the others
   pub turned : (most : ℕ) (s t u : S) (first others : List O) (k : ℕ) → r.quiet s ≡ false → r.turn s ≡ record { outputs = first; after = t }

@@ -1,26 +1,15 @@
--- Small states, inputs and outputs, from which rows are run.
-use Rattle.std.proofs.Common.{ℕ, true, false, Option, None, List, [], ◌∷◌}
+-- The states in which the traces stand, and their runs.
+use Rattle.std.proofs.Common.{◌≡◌, ℕ, suc, ◌+◌, ◌≤◌, true, false, Option, Some, None, List, [], ◌∷◌, arith, ap, ◌∙◌}
 use Rattle.std.specs.Prelude.{codes}
 use Rattle.std.specs.FinMap as finmap
 use Rattle.std.specs.FinSet as finset
-use Rattle.ff_name.specs.declared.urls.Url.{Url}
+use Rattle.ff_reactive.specs.Runs.{Machine, plain}
+use Rattle.ff_reactive.specs.Turns.{machine_of}
 use Rattle.ff_name.specs.declared.urls.Url.TheVariants as url
-use Rattle.ff_tree.specs.declared.op.Op.TheVariants as op
-use Rattle.ff_tree.specs.declared.tree.Doc.{Doc}
-use Rattle.ff_tree.specs.declared.tree.Expr.{Expr}
-use Rattle.ff_tree.specs.declared.tree.Expr.TheVariants as expr
-use Rattle.ff_tree.specs.declared.tree.Lit.TheVariants as lit
-use Rattle.ff_value.specs.declared.ids.WinId.{WinId}
-use Rattle.ff_value.specs.declared.ids.PageId.{PageId}
 use Rattle.ff_value.specs.declared.ids.NodeId.{NodeId}
-use Rattle.ff_value.specs.declared.ids.ActId.{ActId}
-use Rattle.ff_value.specs.declared.input.Act.{Act}
-use Rattle.ff_value.specs.declared.input.Act.TheVariants as act
 use Rattle.ff_value.specs.declared.input.Input.{Input}
 use Rattle.ff_value.specs.declared.output.Out.{Out}
-use Rattle.ff_value.specs.declared.output.Out.TheVariants as out
-use Rattle.ff_value.specs.declared.output.Seen.{Seen}
-use Rattle.ff_value.specs.declared.reply.Resp.TheVariants as resp
+use Rattle.ff_term.specs.Running.{Running}
 use Rattle.ff_machine.specs.declared.records.Entry.{Entry}
 use Rattle.ff_machine.specs.declared.records.Pending.{Pending}
 use Rattle.ff_machine.specs.declared.records.Dst.TheVariants as dst
@@ -30,68 +19,13 @@ use Rattle.ff_machine.specs.Net.{Requests, with_ask}
 use Rattle.ff_machine.specs.Nodes.{Node}
 use Rattle.ff_machine.specs.Windows as windows
 use Rattle.ff_machine.specs.Stores.{Stores, Pages}
-use Rattle.ff_machine.specs.State.{State, Task}
-use Rattle.ff_term.specs.Running.{Running}
+use Rattle.ff_machine.specs.State.{State}
+use Rattle.ff_machine.specs.Machine.{reactor, browser}
+use Rattle.ff_machine.specs.Traces.{Trace, home}
+pub use Rattle.ff_machine.proofs.Numbers.{win, page, node, activation}
+use Rattle.ff_machine.proofs.Numbers.{more, at_least}
 
--- a domain
-abbrev pub a_com : List ℕ
-a_com = codes "a.com"
-
--- `http://a.com/`
-abbrev pub home : Url
-home = url.At a_com (codes "/")
-
--- Numbers.
-
--- the window of a number
-abbrev pub win : ℕ → WinId
-win n = record { 0 = n }
-
--- the page of a number
-abbrev pub page : ℕ → PageId
-page n = record { 0 = n }
-
--- the node of a number
-abbrev pub node : ℕ → NodeId
-node n = record { 0 = n }
-
--- the activation of a number
-abbrev pub activation : ℕ → ActId
-activation n = record { 0 = n }
-
--- Inputs.
-
--- an act without a tag
-abbrev pub untagged : Act → Input
-untagged a = record { tag = None; act = a }
-
--- `open http://a.com/`
-abbrev pub opening : Input
-opening = untagged (act.Opens home)
-
--- `reply a.com 0 (doc () DOCUMENT..)`
-abbrev pub replying : List Doc → Input
-replying docs = untagged (act.Replies a_com 0 (resp.Page [] docs))
-
--- Outputs.
-
--- `send a.com TEXT () BODY`
-abbrev pub send_to : List ℕ → List ℕ → Out
-send_to uri body = out.Send a_com uri [] body
-
--- what opening the window puts
-abbrev pub opened : List Out
-opened = out.Opened ∷ send_to (codes "/") [] ∷ []
-
--- `loaded 0 http://a.com/ PAGE`
-abbrev pub loaded : List Seen → Out
-loaded shown = out.Loaded 0 home shown
-
--- Stores of one window.
-
--- the request of the window for its page
-abbrev pub for_window : Pending
-for_window = record { uri = codes "/"; dst = dst.Window (win 0) }
+-- Nodes.
 
 -- a node without handlers
 abbrev pub plain_node : Shape → List NodeId → Option NodeId → Node
@@ -105,72 +39,84 @@ blank_root = plain_node (shape.Page (page 0)) [] None
 abbrev pub root_of : List NodeId → Node
 root_of children = plain_node (shape.Page (page 1)) children None
 
+-- a node right below it
+abbrev pub leaf : Shape → Node
+leaf s = plain_node s [] (Some (node 1))
+
+-- Stores of one window.
+
+-- the request of the window for its page
+abbrev pub for_window : Pending
+for_window = record { uri = codes "/"; dst = dst.Window (win 0) }
+
 -- the window's first page
 abbrev pub blank_page : windows.Page
 blank_page = record { url = url.Blank; win = win 0; root = node 0; act = activation 0; next = 0; queue = [] }
-
--- the page that was loaded, with the number of its next slot and its queue
-abbrev pub home_page : ℕ → List Entry → windows.Page
-home_page next queue = record { url = home; win = win 0; root = node 1; act = activation 1; next = next; queue = queue }
 
 -- the window showing a page
 abbrev pub showing : ℕ → windows.Window
 showing p = record { name = None; opener = None; page = page p }
 
--- the window is open and waits for its page
-abbrev pub waiting : Stores
-waiting = record {
-  nodes = blank_root ∷ [];
-  windows = record { windows = showing 0 ∷ []; opened = win 0 ∷ []; pages = blank_page ∷ []; acts = windows.no_act ∷ [] };
-  jar = finmap.empty;
-  requests = with_ask finmap.empty a_com for_window;
-  mass = 0;
-  touched = finset.empty;
-}
+module _ (domain : List ℕ) where
+  -- the window is open and waits for its page
+  abbrev pub waiting : Stores
+  waiting = record {
+    nodes = blank_root ∷ [];
+    windows = record { windows = showing 0 ∷ []; opened = win 0 ∷ []; pages = blank_page ∷ []; acts = windows.no_act ∷ [] };
+    jar = finmap.empty;
+    requests = with_ask finmap.empty domain for_window;
+    mass = 0;
+    touched = finset.empty;
+  }
 
--- the reply for the window came, of some weight
-abbrev pub answered : ℕ → Stores
-answered mass = record waiting { requests = finmap.empty; mass = mass }
+  -- the reply for the window came, of some weight
+  abbrev pub answered : ℕ → Stores
+  answered mass = record waiting { requests = finmap.empty; mass = mass }
 
--- the window is open and shows its page
-abbrev pub with_home : List Node → windows.Page → List windows.Activation → Requests → ℕ → Pages → Stores
-with_home nodes home more requests mass touched = record {
-  nodes = blank_root ∷ nodes;
-  windows = record { windows = showing 1 ∷ []; opened = win 0 ∷ []; pages = blank_page ∷ home ∷ []; acts = windows.no_act ∷ windows.no_act ∷ more };
-  jar = finmap.empty;
-  requests = requests;
-  mass = mass;
-  touched = touched;
-}
+  -- the page that was loaded, with the number of its next slot and its queue
+  abbrev pub home_page : ℕ → List Entry → windows.Page
+  home_page next queue = record { url = home domain; win = win 0; root = node 1; act = activation 1; next = next; queue = queue }
 
--- States.
+  -- the window shows its page
+  abbrev pub with_home : List Node → ℕ → List Entry → List windows.Activation → Requests → ℕ → Pages → Stores
+  with_home nodes next queue more requests mass touched = record {
+    nodes = blank_root ∷ nodes;
+    windows = record { windows = showing 1 ∷ []; opened = win 0 ∷ []; pages = blank_page ∷ home_page next queue ∷ []; acts = windows.no_act ∷ windows.no_act ∷ more };
+    jar = finmap.empty;
+    requests = requests;
+    mass = mass;
+    touched = touched;
+  }
 
--- an input was taken
-abbrev pub busy : ℕ → List Task → Stores → State
-busy budget tasks s = record { stores = s; budget = budget; fuel = budget; tasks = tasks; quiet = false }
+-- States: what each input brings, and the fuel that is left.
 
--- the loaded page has a task, and so much fuel is left
-abbrev pub running : ℕ → ℕ → Stores → Running → State
-running budget fuel s e = record { stores = s; budget = budget; fuel = fuel; tasks = record { page = page 1; running = record { base = activation 1; expr = e } } ∷ []; quiet = false }
-
--- so much fuel is left, and no task
+-- no task
 abbrev pub between : ℕ → ℕ → Stores → State
 between budget fuel s = record { stores = s; budget = budget; fuel = fuel; tasks = []; quiet = false }
+
+-- an input was taken
+abbrev pub busy : ℕ → Stores → State
+busy budget s = between budget budget s
+
+-- the loaded page has a task
+abbrev pub running : ℕ → ℕ → Stores → Running → State
+running budget fuel s e = record { stores = s; budget = budget; fuel = fuel; tasks = record { page = page 1; running = record { base = activation 1; expr = e } } ∷ []; quiet = false }
 
 -- an input was handled
 abbrev pub resting : ℕ → Stores → State
 resting budget s = record { stores = s; budget = budget; fuel = 0; tasks = []; quiet = true }
 
--- Expressions.
+-- Runs.
 
--- a text
-abbrev pub str : List ℕ → Expr
-str text = expr.Lit (lit.Str text)
+-- the browser, with a number of turns that computes
+abbrev pub settling : ℕ → Machine Input Out State
+settling fuel = machine_of (reactor fuel) (suc fuel)
 
--- `(self)`
-abbrev pub self : Expr
-self = expr.Prim op.SelfWindow []
+-- its runs are the browser's
+pub runs_alike : (fuel : ℕ) (trace : Trace) → plain (settling fuel) trace.inputs ≡ trace.outputs → plain (browser fuel) trace.inputs ≡ trace.outputs
+runs_alike fuel trace run = let e : fuel + 1 ≡ suc fuel = omega arith in ap (λ most. plain (machine_of (reactor fuel) most) trace.inputs) e ∙ run
 
--- `(close (self))`
-abbrev pub close_self : Expr
-close_self = expr.Prim op.Close (self ∷ [])
+-- a trace that is run with so much fuel and any number more is run with any fuel that is at least so
+-- much
+pub runs_from : (k : ℕ) (trace : Trace) → ((n : ℕ) → plain (settling (more k n)) trace.inputs ≡ trace.outputs) → (fuel : ℕ) → k ≤ fuel → plain (browser fuel) trace.inputs ≡ trace.outputs
+runs_from k trace run fuel enough = runs_alike fuel trace (at_least (λ f. plain (settling f) trace.inputs ≡ trace.outputs) k run fuel enough)

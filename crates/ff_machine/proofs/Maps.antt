@@ -2,7 +2,7 @@
 use Rattle.std.proofs.Common.{◌≡◌, ℕ, Bool, true, false, cond, Option, Some, None, List, [], ◌∷◌, ◌++◌, length, sum_by, map, filter, refl, sym, ap, ◌∙◌, unwrap_or, arith, remove, bytes_eq, ◌||◌}
 use Rattle.std.specs.declared.cmp.Ordering.{Ordering}
 use Rattle.std.specs.Ordering.{nat_cmp, eq_by_cmp}
-use Rattle.std.specs.Cmp.{nat_cmp_total}
+use Rattle.std.specs.Cmp.{nat_cmp_total, eq_by_cmp_equiv}
 use Rattle.std.specs.Cmp.Lexicographic.{slice_cmp, nat_list_cmp_total}
 use Rattle.std.specs.FinMap as finmap
 use Rattle.std.specs.FinSet as finset
@@ -60,12 +60,16 @@ answered_one domain p same =
           ∙ ap (cond (eq_by_cmp (slice_cmp nat_cmp) q domain) None) (finmap.get-insert nat_list_cmp_total finmap.empty domain now q)
           ∙ by (eq_by_cmp (slice_cmp nat_cmp) q domain) q
 
+-- a domain is itself
+pub same_domain : (domain : List ℕ) → eq_by_cmp (slice_cmp nat_cmp) domain domain ≡ true
+same_domain domain = (eq_by_cmp_equiv nat_list_cmp_total).refl domain
+
 -- no page was touched
 pub touched_none : (page : ℕ) → finset.contains (finset.empty {R = nat_cmp}) page ≡ false
 touched_none page = finset.contains-empty nat_cmp page
 
--- one page was touched
-pub touched_one : (page : ℕ) → eq_by_cmp nat_cmp page page ≡ true → finset.contains (finset.insert (finset.empty {R = nat_cmp}) page) page ≡ true
-touched_one page same =
-    finset.contains-insert nat_cmp_total finset.empty page page
-    ∙ ap (λ b. b || finset.contains (finset.empty {R = nat_cmp}) page) same
+-- the page that was touched last
+pub touched_last : (pages : finset.FinSet nat_cmp) (page : ℕ) → eq_by_cmp nat_cmp page page ≡ true → finset.contains (finset.insert pages page) page ≡ true
+touched_last pages page same =
+    finset.contains-insert nat_cmp_total pages page page
+    ∙ ap (λ b. b || finset.contains pages page) same

@@ -11,6 +11,7 @@ pub mod State
 pub mod Inputs
 pub mod Turns
 pub mod Machine
+pub mod Traces
 pub mod Alone
 pub mod References
 pub mod Valid

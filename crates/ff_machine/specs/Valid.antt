@@ -1,5 +1,5 @@
 -- Which stores, tasks and states are valid.
-use Rattle.std.specs.Prelude.{◌≡◌, ℕ, ◌<◌, ◌≤◌, List, [], All, IsTrue, length, count_by, sum_by}
+use Rattle.std.specs.Prelude.{◌≡◌, ℕ, ◌<◌, ◌≤◌, ◌⊎◌, Ok, Err, List, [], All, IsTrue, length, count_by, sum_by}
 use Rattle.std.specs.FinSet as finset
 use Rattle.ff_operators.specs.Limits.{most_mass}
 use Rattle.ff_tree.specs.Ops.{arity_of}
@@ -9,6 +9,7 @@ use Rattle.ff_value.specs.declared.ids.NodeId.{NodeId}
 use Rattle.ff_value.specs.declared.ids.PageId.{PageId}
 use Rattle.ff_value.specs.declared.value.Code.{Code}
 use Rattle.ff_value.specs.declared.value.Val.{Val}
+use Rattle.ff_value.specs.declared.value.Val.TheVariants as val
 use Rattle.ff_term.specs.declared.redex.Redex.{Redex}
 use Rattle.ff_term.specs.Running.{Running}
 use Rattle.ff_term.specs.declared.TheConstants.{MOST_CALLS}
@@ -18,8 +19,9 @@ use Rattle.ff_term.specs.Redexes.{GivesSound}
 use Rattle.ff_machine.specs.declared.records.Shape.TheVariants as shape
 use Rattle.ff_machine.specs.Shapes.{is_started}
 use Rattle.ff_machine.specs.Nodes.{Node, node_at}
-use Rattle.ff_machine.specs.Windows.{Page, nth_page, page_at}
+use Rattle.ff_machine.specs.Windows.{Page, nth_page, page_at, next_win}
 use Rattle.ff_machine.specs.Stores.{Stores}
+use Rattle.ff_machine.specs.Operators.{Outcome}
 use Rattle.ff_machine.specs.State.{State, Task}
 use Rattle.ff_machine.specs.Alone.{AreNodes, AreWindows, IsJar, AreRequests}
 use Rattle.ff_machine.specs.References.{Made, made, CodeRefers, ValRefers, StoresRefer}
@@ -33,6 +35,12 @@ IsCode m code = IsWellSpelledCode code × CodeRefers m code
 -- a well spelled value that refers to what was made
 abbrev pub IsVal : Made → Val → Type 0
 IsVal m v = IsWellSpelledVal v × ValRefers m v
+
+-- the value of an outcome, if it has one, refers to what was made before, or is the window that was
+-- opened
+abbrev pub GivesVal : Stores → Outcome → Type 0
+GivesVal s (Ok did) = IsVal (made s) did.value ⊎ (did.value ≡ val.Win (next_win s.windows))
+GivesVal s (Err f) = Unit {0}
 
 -- what holds of each thing in a valid runtime expression
 abbrev pub valid : Made → Conditions

@@ -32,16 +32,20 @@
 //!
 //! # Tried
 //!
-//! `proofs/Rows`, `proofs/Scripts` and `proofs/Leak` run the definitions on small inputs: a page
-//! load, whose reply is then given twice; a fault in a script; a slot that waits for its script; a
-//! queue that is left for want of fuel; and a click whose script sends what was typed.
+//! `Traces` has small inputs, and what one copy of the browser puts for each of them: a page load,
+//! whose reply is then given twice; a click whose script sends what was typed, and the same click
+//! where nothing was typed; a fault in a script; a slot that waits for its script; a queue that is
+//! left for want of fuel. The laws of `traces` say that the definitions give these outputs, whatever
+//! fuel an input brings, if it is enough.
 //!
 //! # Laws
 //!
 //! Law functions say that a new browser is valid, that a reduction which fails changes nothing,
 //! that an input is handled in at most one turn more than it brings fuel, and that weights may be
-//! capped at the greatest number of 64 bits. That what the definitions make of valid stores is
-//! valid is no law of this crate.
+//! capped at the greatest number of 64 bits. Of validity they say that an operator gives a valid
+//! value, that a call declares its parameters, each with its own argument, and that trees which are
+//! made or joined leave valid nodes. That what the definitions make of valid stores is valid is no
+//! law of this crate.
 #![tactic(auto)]
 
 mod kinds;
@@ -51,6 +55,8 @@ mod records;
 mod reduced;
 #[cfg(test)]
 mod tests;
+mod traces;
+mod validity;
 
 pub use kinds::Kind;
 pub use law::{
@@ -64,3 +70,11 @@ pub use limits::{
 };
 pub use records::{Dst, Entry, Pending, Shape};
 pub use reduced::Reduced;
+pub use traces::{
+    a_fault_ends_its_script_alone, a_page_is_loaded_once, a_queue_waits_for_fuel,
+    a_slot_holds_back_the_next_script, the_plain_machine_leaks,
+};
+pub use validity::{
+    a_call_declares_its_parameters, a_joined_tree_leaves_valid_nodes,
+    a_made_tree_leaves_valid_nodes, an_operator_gives_a_valid_value,
+};

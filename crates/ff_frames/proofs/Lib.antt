@@ -1,0 +1,7 @@
+pub mod Plugs
+pub mod Steps
+pub mod Walk
+pub mod Reading
+pub mod Taking
+pub mod Rewriting
+pub mod Locals

@@ -1,0 +1,54 @@
+-- The redex that a value completes with the frame around it.
+use Rattle.std.proofs.Common.{◌≡◌, ◌++◌, ◌∷◌, ℕ, zero, suc, List, [], length, drop, refl, sym, ap, ◌∙◌, None, slice_get}
+use Rattle.ff_tree.specs.declared.op.Op.{Op}
+use Rattle.ff_tree.specs.declared.tree.Expr.{Expr, out-Expr}
+use Rattle.ff_tree.specs.declared.tree.Expr.TheVariants as expr
+use Rattle.ff_tree.specs.declared.tree.Doc.TheOpen.{Expr-F}
+use Rattle.ff_value.specs.declared.value.Val.{Val}
+use Rattle.ff_term.specs.Running.{Running, Done, If, Apply, Prim, none, more, values}
+use Rattle.ff_term.specs.Whole.{whole, wholes}
+use Rattle.ff_frames.specs.Frames.{operands, after, applied, around}
+
+-- past the last there is none
+pub drop-none : {A : Type 0} (xs : List A) (n : ℕ) → slice_get xs n ≡ None → drop n xs ≡ []
+drop-none [] zero h = refl
+drop-none [] (suc n) h = refl
+drop-none (x ∷ xs) zero h = cc
+drop-none (x ∷ xs) (suc n) h = drop-none xs n h
+
+-- values and a last one
+pub after-last : (vs : List Val) (v : Val) → after vs (Done v) none ≡ values (vs ++ v ∷ [])
+after-last [] v = refl
+after-last (w ∷ vs) v = ap (more (Done w)) (after-last vs v)
+
+-- nothing is left after the operand at hand
+pub full-Prim : (op : Op) (es : List Expr) (vs : List Val) (x : Running) → slice_get (operands (Expr-F.Prim op es)) (suc (length vs)) ≡ None
+    → around (Expr-F.Prim op es) vs x ≡ Prim op (after vs x none)
+full-Prim op es vs x h = ap (λ r. Prim op (after vs x (wholes r))) (drop-none es (suc (length vs)) h)
+
+-- the same of a call
+pub full-Apply : (e : Expr) (es : List Expr) (vs : List Val) (x : Running) → slice_get (operands (Expr-F.Apply e es)) (suc (length vs)) ≡ None
+    → around (Expr-F.Apply e es) vs x ≡ applied (after vs x none)
+full-Apply e es vs x h = ap (λ r. applied (after vs x (wholes r))) (drop-none (e ∷ es) (suc (length vs)) h)
+
+-- a function and its arguments, of the values of all operands
+pub call-read : (vs args : List Val) (v f g : Val) (all vals : List Val) → vs ≡ f ∷ args → g ≡ f → all ≡ args ++ v ∷ [] → vals ≡ all
+    → applied (after vs (Done v) none) ≡ Apply (Done g) (values vals)
+call-read vs args v f g all vals p q r s = rw (p, q, s, r) (ap (Apply (Done f)) (after-last args v))
+
+-- a test
+pub if-read : (e c f g : Expr) (vs : List Val) (v w : Val) → e ≡ expr.If c f g → w ≡ v
+    → around (out-Expr e) vs (Done v) ≡ If (Done w) (whole f) (whole g)
+if-read e c f g vs v w i p = rw (i, p, expr.outs-If c f g) refl
+
+-- an operator and its operands
+pub prim-read : (e : Expr) (op : Op) (es : List Expr) (vs : List Val) (v : Val) (all vals : List Val) → e ≡ expr.Prim op es
+    → slice_get (operands (out-Expr e)) (suc (length vs)) ≡ None → all ≡ vs ++ v ∷ [] → vals ≡ all → around (out-Expr e) vs (Done v) ≡ Prim op (values vals)
+prim-read e op es vs v all vals i h r s =
+    let l = ap out-Expr i ∙ expr.outs-Prim op es in
+    rw (l, s, r) (full-Prim op es vs (Done v) (rw l at h) ∙ ap (Prim op) (after-last vs v))
+
+-- a call whose last argument is at hand
+pub apply-read : (e f : Expr) (es : List Expr) (vs : List Val) (v : Val) → e ≡ expr.Apply f es
+    → slice_get (operands (out-Expr e)) (suc (length vs)) ≡ None → applied (after vs (Done v) none) ≡ around (out-Expr e) vs (Done v)
+apply-read e f es vs v i h = let l = ap out-Expr i ∙ expr.outs-Apply f es in rw l (sym (full-Apply f es vs (Done v) (rw l at h)))

@@ -1,0 +1,120 @@
+-- One step towards the redex.
+use Rattle.std.proofs.Common.{◌≡◌, ◌+◌, ◌<◌, ◌++◌, ◌∷◌, ℕ, zero, suc, List, [], length, drop, map, refl, sym, ap, ◌∙◌, arith, Some, slice_get}
+use Rattle.ff_tree.specs.declared.tree.Lit.{Lit}
+use Rattle.ff_tree.specs.declared.tree.Doc.{Doc}
+use Rattle.ff_tree.specs.declared.tree.Expr.{Expr, out-Expr}
+use Rattle.ff_tree.specs.declared.tree.Expr.TheVariants as expr
+use Rattle.ff_tree.specs.declared.tree.Handler.{Handler}
+use Rattle.ff_tree.specs.declared.tree.Doc.TheOpen.{Expr-F}
+use Rattle.ff_tree.specs.declared.tree.Doc.TheFolds.{fold_out-Expr}
+use Rattle.ff_value.specs.declared.value.Val.{Val}
+use Rattle.ff_term.specs.Running.{Running, Runnings, Done, Do, Prim, more}
+use Rattle.ff_term.specs.Whole.{whole, wholes, literal, level}
+use Rattle.ff_term.proofs.Forms.{whole-level, whole-Lit, whole-Do}
+use Rattle.ff_frames.specs.declared.frame.Frame.TheVariants as frame
+use Rattle.ff_frames.specs.declared.frame.Focus.{Focus}
+use Rattle.ff_frames.specs.Frames.{operands, after, around, shown}
+use Rattle.ff_frames.specs.Loads.{total, size, doc_size, handler_size, load, one_more, inner}
+use Rattle.ff_frames.specs.Seeking.{IsSettled, Opens, Feeds}
+
+-- an expression is met, and what is in it
+pub size-out : (e : Expr) → size e ≡ suc (inner (out-Expr e))
+unfolding size doc_size handler_size inner
+size-out e = fold_out-Expr ℕ ℕ ℕ (λ _. 0) one_more (λ _. 0) e
+
+-- nothing is left in a literal
+pub inner-Lit : (e : Expr) (l : Lit) → e ≡ expr.Lit l → 0 ≡ inner (out-Expr e)
+unfolding inner
+inner-Lit e l h = rw (h, expr.outs-Lit l) refl
+
+-- a literal at hand is its value
+pub shown-Lit : (e : Expr) (l : Lit) (v : Val) → e ≡ expr.Lit l → v ≡ literal l → Done v ≡ whole e
+shown-Lit e l v h k = rw (h, k) (sym (whole-Lit l))
+
+-- the item at a place begins the rest from there
+pub drop-get : {A : Type 0} (xs : List A) (n : ℕ) (x : A) → slice_get xs n ≡ Some x → drop n xs ≡ x ∷ drop (suc n) xs
+drop-get [] n x h = cc
+drop-get (y ∷ ys) zero x h = cc
+drop-get (y ∷ ys) (suc n) x h = drop-get ys n x h
+
+after-snoc : (vs : List Val) (v : Val) (x : Running) (rest : Runnings) → after (vs ++ v ∷ []) x rest ≡ after vs (Done v) (more x rest)
+after-snoc [] v x rest = refl
+after-snoc (w ∷ vs) v x rest = ap (more (Done w)) (after-snoc vs v x rest)
+
+length-snoc : {A : Type 0} (xs : List A) (x : A) → length (xs ++ x ∷ []) ≡ suc (length xs)
+length-snoc [] x = refl
+length-snoc (y ∷ ys) x = ap suc (length-snoc ys x)
+
+-- a value after the others, and the next operand at hand
+pub fed : (l : Expr-F Doc Expr Handler) (vs : List Val) (v : Val) (e : Expr) → slice_get (operands l) (suc (length vs)) ≡ Some e
+    → around l (vs ++ v ∷ []) (whole e) ≡ around l vs (Done v)
+fed (Expr-F.Let n f) vs v e h = cc
+fed (Expr-F.Set n f) vs v e h = cc
+fed (Expr-F.If f g g') vs v e h = cc
+fed (Expr-F.Apply f es) vs v e h =
+    rw (length-snoc vs v, drop-get es (length vs) e h, after-snoc vs v (whole e) (wholes (drop (suc (length vs)) es))) refl
+fed (Expr-F.Prim op es) vs v e h =
+    rw (length-snoc vs v, drop-get es (suc (length vs)) e h, after-snoc vs v (whole e) (wholes (drop (suc (suc (length vs))) es))) refl
+fed _ vs v e h = cc
+
+-- the first operand at hand
+pub opened : (l : Expr-F Doc Expr Handler) (e : Expr) → slice_get (operands l) zero ≡ Some e → around l [] (whole e) ≡ level l
+opened (Expr-F.Let n f) e h = let p : f ≡ e = cc in rw p refl
+opened (Expr-F.Set n f) e h = let p : f ≡ e = cc in rw p refl
+opened (Expr-F.If f g g') e h = let p : f ≡ e = cc in rw p refl
+opened (Expr-F.Apply f es) e h = let p : f ≡ e = cc in rw p refl
+opened (Expr-F.Prim op es) e h = rw (drop-get es zero e h) refl
+opened _ e h = cc
+
+-- what is left in the operands after some
+pub left-drop : (es : List Expr) (n : ℕ) (e : Expr) → slice_get es n ≡ Some e
+    → total (map size (drop (suc n) es)) + inner (out-Expr e) < total (map size (drop n es))
+left-drop es n e h = let p = size-out e in rw (drop-get es n e h) (omega arith)
+
+-- less is left once the first operand is at hand
+pub left-opened : (l : Expr-F Doc Expr Handler) (e : Expr) → slice_get (operands l) zero ≡ Some e
+    → total (map size (drop 1 (operands l))) + inner (out-Expr e) < inner l
+unfolding inner
+left-opened (Expr-F.Let n f) e h = let p : f ≡ e = cc in let q = size-out e in rw p (omega arith)
+left-opened (Expr-F.Set n f) e h = let p : f ≡ e = cc in let q = size-out e in rw p (omega arith)
+left-opened (Expr-F.If f g g') e h = let p : f ≡ e = cc in let q = size-out e in rw p (omega arith)
+left-opened (Expr-F.Apply f es) e h = let p : f ≡ e = cc in let q = size-out e in rw p (omega arith)
+left-opened (Expr-F.Prim op es) e h = left-drop es zero e h
+left-opened _ e h = cc
+
+-- the first operand at hand, in a frame
+pub opens : (e f : Expr) (l : Expr-F Doc Expr Handler) (vs : List Val) (part : Expr) (x : Focus)
+    → out-Expr e ≡ l → f ≡ e → vs ≡ [] → slice_get (operands l) zero ≡ Some part
+    → shown x ≡ whole part → load x ≡ inner (out-Expr part) → IsSettled x → Opens e (frame.Part f vs) x
+opens e f l vs part x le fe empty first same less settled = record {
+  expr = λ a. rw (fe, le, empty, same) (opened l part first ∙ sym (rw le at (whole-level e)));
+  outside = λ a. refl;
+  call = refl;
+  settled = settled;
+  less = rw (fe, le, empty, less) (left-opened l part first);
+}
+
+-- the same of the parts of a `do`
+pub opens-Do : (es fs : List Expr) (part : Expr) (x : Focus)
+    → fs ≡ es → slice_get es zero ≡ Some part
+    → shown x ≡ whole part → load x ≡ inner (out-Expr part) → IsSettled x → Opens (expr.Do es) (frame.Do fs 1) x
+unfolding inner
+opens-Do es fs part x fe first same less settled = record {
+  expr = λ a. let p = drop-get es zero part first in rw (fe, same, whole-Do es) (sym (ap (λ xs. Do (wholes xs)) p));
+  outside = λ a. refl;
+  call = refl;
+  settled = settled;
+  less = let q = left-drop es zero part first in rw (less, expr.outs-Do es) (omega arith);
+}
+
+-- a value for the operand at hand, and the next at hand
+pub feeds : (e : Expr) (vs ws : List Val) (v w : Val) (part : Expr) (x : Focus)
+    → slice_get (operands (out-Expr e)) (suc (length vs)) ≡ Some part → ws ≡ vs ++ w ∷ [] → w ≡ v
+    → shown x ≡ whole part → load x ≡ inner (out-Expr part) → IsSettled x → Feeds (frame.Part e vs) v (frame.Part e ws) x
+feeds e vs ws v w part x next items value same less settled = record {
+  expr = λ a. rw (items, value, same) (fed (out-Expr e) vs v part next);
+  outside = λ a. refl;
+  call = refl;
+  settled = settled;
+  less = rw (items, length-snoc vs w, less) (left-drop (operands (out-Expr e)) (suc (length vs)) part next);
+}

@@ -1,0 +1,106 @@
+-- Where the walk to the redex ends, and what it keeps.
+use Rattle.std.specs.Prelude.{◌≡◌, ◌+◌, ◌<◌, List, [], ◌∷◌, length, slice_get, Option, None, Some}
+use Rattle.std.proofs.Common.{suc}
+use Rattle.ff_tree.specs.declared.tree.Doc.{Doc}
+use Rattle.ff_tree.specs.declared.tree.Expr.{Expr, out-Expr}
+use Rattle.ff_tree.specs.declared.tree.Expr.TheVariants as expr
+use Rattle.ff_tree.specs.declared.tree.Handler.{Handler}
+use Rattle.ff_tree.specs.declared.tree.Doc.TheOpen.{Expr-F}
+use Rattle.ff_value.specs.declared.ids.ActId.{ActId}
+use Rattle.ff_term.specs.Running.{Running, Done}
+use Rattle.ff_frames.specs.Frames.{operands, plug, base_of, calls, shown, wrap, outside, is_call}
+use Rattle.ff_frames.specs.Loads.{frame_load, load, inner}
+use Rattle.ff_term.specs.Whole.{whole}
+use Rattle.ff_value.specs.declared.value.Val.{Val}
+use Rattle.ff_frames.specs.declared.frame.Frame.{Frame}
+use Rattle.ff_frames.specs.declared.frame.Frame.TheVariants as frame
+use Rattle.ff_frames.specs.declared.frame.Focus.{Focus}
+use Rattle.ff_frames.specs.declared.frame.Focus.TheVariants as focus
+
+-- no part
+abbrev pub IsEmpty : List Expr → Type 0
+IsEmpty [] = Unit {0}
+IsEmpty (e ∷ es) = ⊥
+
+-- a form that is a redex as it stands
+abbrev pub IsRow : Expr-F Doc Expr Handler → Type 0
+IsRow (Expr-F.Lit l) = ⊥
+IsRow (Expr-F.Var x) = Unit {0}
+IsRow (Expr-F.Let x e) = ⊥
+IsRow (Expr-F.Set x e) = ⊥
+IsRow (Expr-F.If e f g) = ⊥
+IsRow (Expr-F.While e f) = Unit {0}
+IsRow (Expr-F.Do es) = IsEmpty es
+IsRow (Expr-F.And e f) = Unit {0}
+IsRow (Expr-F.Or e f) = Unit {0}
+IsRow (Expr-F.Make xs e) = Unit {0}
+IsRow (Expr-F.Apply e es) = ⊥
+IsRow (Expr-F.Tree d) = Unit {0}
+IsRow (Expr-F.Prim op es) = IsEmpty es
+
+-- a form that is no literal
+abbrev pub IsOpen : Expr-F Doc Expr Handler → Type 0
+IsOpen (Expr-F.Lit l) = ⊥
+IsOpen _ = Unit {0}
+
+-- no operand is left after the one at hand
+abbrev pub IsFull : Frame → Type 0
+IsFull (frame.Part e vs) = slice_get (operands (out-Expr e)) (suc (length vs)) ≡ None
+IsFull _ = Unit {0}
+
+-- a literal is held as its value
+abbrev pub IsSettled : Focus → Type 0
+IsSettled (focus.Value v) = Unit {0}
+IsSettled (focus.Part e) = IsOpen (out-Expr e)
+
+-- the innermost frame
+abbrev pub top_or : Frame → List Frame → Frame
+top_or f [] = f
+top_or f (g ∷ gs) = top_or g gs
+
+-- no operand is left in the innermost frame
+abbrev pub IsTopFull : List Frame → Type 0
+IsTopFull [] = Unit {0}
+IsTopFull (f ∷ fs) = IsFull (top_or f fs)
+
+-- the part at hand is the redex, or completes it with the innermost frame, or is the value of all
+abbrev pub IsAtRedex : List Frame → Focus → Type 0
+IsAtRedex fs (focus.Part e) = IsRow (out-Expr e)
+IsAtRedex fs (focus.Value v) = IsTopFull fs
+
+-- two stacks that stand for one expression
+pub record Alike (fs : List Frame) (x : Running) (gs : List Frame) (y : Running) : Type 0 where
+  pub base : (a : ActId) → base_of gs a ≡ base_of fs a
+  pub expr : (a : ActId) → plug gs a y ≡ plug fs a x
+  pub calls : calls gs ≡ calls fs
+
+-- the first part of an expression that is evaluated, with the frame that it leaves around it
+pub record Opens (e : Expr) (f : Frame) (x : Focus) : Type 0 where
+  pub expr : (a : ActId) → wrap f a (shown x) ≡ whole e
+  pub outside : (a : ActId) → outside f a ≡ a
+  pub call : is_call f ≡ 0
+  pub settled : IsSettled x
+  pub less : frame_load f + load x < inner (out-Expr e)
+
+-- the next operand, with the frame in which the value v stands for the one before
+pub record Feeds (f : Frame) (v : Val) (g : Frame) (x : Focus) : Type 0 where
+  pub expr : (a : ActId) → wrap g a (shown x) ≡ wrap f a (Done v)
+  pub outside : (a : ActId) → outside g a ≡ outside f a
+  pub call : is_call g ≡ is_call f
+  pub settled : IsSettled x
+  pub less : frame_load g + load x < frame_load f
+
+-- the answer for an expression: what is evaluated first, or none where it is a redex
+abbrev pub IsOpening : Expr → Option (Frame × Focus) → Type 0
+IsOpening e None = IsRow (out-Expr e)
+IsOpening e (Some p) = Opens e p.0 p.1
+
+-- the same for the parts of a `do`
+abbrev pub IsOpeningDo : List Expr → Option (Frame × Focus) → Type 0
+IsOpeningDo es None = IsEmpty es
+IsOpeningDo es (Some p) = Opens (expr.Do es) p.0 p.1
+
+-- the answer for a value: the next operand, or none where the frame has all
+abbrev pub IsFeeding : Frame → Val → Frame → Option Focus → Type 0
+IsFeeding f v g None = (g ≡ f) × IsFull f
+IsFeeding f v g (Some x) = Feeds f v g x

@@ -1,0 +1,157 @@
+ghost use Rattle.std.specs.Prelude.{◌≡◌, ◌≤◌, ◌<◌, false, IfOk, OnOk, MatchOption};
+ghost use Rattle.ff_value.specs.declared.value.Val.TheVariants as val;
+ghost use Rattle.ff_term.specs.Running.{Done, Inside, call_of, innermost, insides, is_value, redex, rewritten_in};
+ghost use Rattle.ff_term.specs.Rows.{IsLocal, IsTest, branch, local_row};
+ghost use Rattle.ff_term.specs.Whole.{whole};
+ghost use Rattle.ff_term.specs.Redexes.{IsRedexOf};
+ghost use Rattle.ff_term.specs.Calls.{calls_around};
+
+use crate::stack::Stack;
+use ff_term::{MOST_CALLS, Redex};
+use ff_tree::Body;
+use ff_value::{ActId, Code, NoMemory, Val};
+use std::alloc::Global;
+use std::marker::Model;
+use std::mem;
+
+/// A script's control: contracts see a runtime expression, and the activation in which it runs
+/// where no call stands around.
+///
+/// After want of memory a control can go on being used; which expression it is then isn't stated.
+#[derive(Drop)]
+pub struct Control {
+    stack: Stack,
+}
+
+impl Model for Control {
+    ghost use Rattle.ff_term.specs.Running.{Evaluation};
+    ghost use Rattle.ff_term.specs.Coding.{coded_evaluation};
+    ghost use Rattle.ff_frames.specs.Stacks.{evaluation, IsValid};
+
+    ghost Value = { Evaluation };
+
+    ghost coded = { coded_evaluation };
+
+    ghost view = { λ c. evaluation c.stack };
+
+    ghost invariant = { λ c. IsValid c.stack };
+}
+
+impl Control {
+    /// The control of `null`.
+    pub fn new(alloc: Global) -> Control
+        ensures { result.expr ≡ Done val.Null }
+    {
+        Control {
+            stack: Stack::empty(alloc),
+        }
+    }
+
+    /// An equal control.
+    pub fn fork(&self, alloc: Global) -> Result<Control, NoMemory>
+        ensures { IfOk result (λ c. c ≡ self.now) }
+    {
+        let stack = self.stack.copied(alloc)?;
+        Ok(Control { stack })
+    }
+
+    /// Begins to run an expression in an activation.
+    pub fn start(&mut self, alloc: Global, body: &Body, act: ActId) -> Result<(), NoMemory>
+        ensures { OnOk result (self.new ≡ record { base = act; expr = whole body.now }) }
+    {
+        self.stack = Stack::empty(alloc);
+        self.stack = Stack::started(alloc, body, act)?;
+        Ok(())
+    }
+
+    /// Begins to call a function with one argument.
+    pub fn start_call(
+        &mut self,
+        alloc: Global,
+        code: &Code,
+        arg: &Val,
+        act: ActId,
+    ) -> Result<(), NoMemory>
+        ensures { OnOk result (self.new ≡ record { base = act; expr = call_of code.now arg.now }) }
+    {
+        self.stack = Stack::empty(alloc);
+        self.stack = Stack::called(alloc, code, arg, act)?;
+        Ok(())
+    }
+
+    /// The value, where the expression is one.
+    pub fn done(&self) -> Option<&Val>
+        ensures { MatchOption result (is_value self.now.expr ≡ false) (λ v. self.now.expr ≡ Done v.now) }
+    {
+        self.stack.value()
+    }
+
+    /// How many calls the expression has, at most [`MOST_CALLS`]. Each stands around the redex, or
+    /// is it.
+    pub fn depth(&self) -> u32
+        ensures count { result ≡ insides self.now.expr }
+        ensures around { result ≡ calls_around self.now.expr }
+        ensures small { result ≤ MOST_CALLS }
+    {
+        self.stack.depth
+    }
+
+    /// The innermost activation.
+    pub fn act(&self) -> ActId
+        ensures { result ≡ innermost self.now.base self.now.expr }
+    {
+        self.stack.act
+    }
+
+    /// The redex.
+    pub fn next(&mut self, alloc: Global) -> Result<Redex, NoMemory>
+        requires { is_value self.old.expr ≡ false }
+        ensures same { self.new ≡ self.old }
+        ensures names { IfOk result (λ r. IsRedexOf r (redex self.old.expr)) }
+    {
+        self.stack.next(alloc)
+    }
+
+    /// Reduces a redex that no store decides.
+    pub fn local(&mut self, alloc: Global) -> Result<(), NoMemory>
+        requires unfinished { is_value self.old.expr ≡ false }
+        requires local { IsLocal (redex self.old.expr) }
+        ensures { OnOk result (self.new ≡ rewritten_in local_row self.old) }
+    {
+        let stack = mem::replace(&mut self.stack, Stack::empty(alloc));
+        self.stack = stack.reduced(alloc)?;
+        Ok(())
+    }
+
+    /// Takes a branch of an `if` whose test is evaluated.
+    pub fn choose(&mut self, alloc: Global, yes: bool) -> Result<(), NoMemory>
+        requires unfinished { is_value self.old.expr ≡ false }
+        requires test { IsTest (redex self.old.expr) }
+        ensures { OnOk result (self.new ≡ rewritten_in (branch yes) self.old) }
+    {
+        let stack = mem::replace(&mut self.stack, Stack::empty(alloc));
+        self.stack = stack.chosen(alloc, yes)?;
+        Ok(())
+    }
+
+    /// Puts a value for the redex.
+    pub fn give(&mut self, alloc: Global, value: Val) -> Result<(), NoMemory>
+        requires { is_value self.old.expr ≡ false }
+        ensures { OnOk result (self.new ≡ rewritten_in (λ _. Done value) self.old) }
+    {
+        let stack = mem::replace(&mut self.stack, Stack::empty(alloc));
+        self.stack = stack.given(alloc, value)?;
+        Ok(())
+    }
+
+    /// Puts a call for the redex, which runs in an activation of its own.
+    pub fn enter(&mut self, alloc: Global, act: ActId, body: &Body) -> Result<(), NoMemory>
+        requires unfinished { is_value self.old.expr ≡ false }
+        requires shallow { insides self.old.expr < MOST_CALLS }
+        ensures { OnOk result (self.new ≡ rewritten_in (λ _. Inside act (whole body.now)) self.old) }
+    {
+        let stack = mem::replace(&mut self.stack, Stack::empty(alloc));
+        self.stack = stack.entered(alloc, act, body)?;
+        Ok(())
+    }
+}

@@ -1,0 +1,304 @@
+ghost use Rattle.std.specs.Prelude.{◌≡◌, ◌≤◌, ◌<◌, ◌++◌, ◌∷◌, [], List, MatchOption, false, IfOk};
+ghost use Rattle.ff_term.specs.Rows.{IsLocal, IsTest, branch, local_row};
+ghost use Rattle.ff_frames.specs.declared.frame.Frame.{Frame};
+ghost use Rattle.ff_term.specs.Redexes.{IsRedexOf};
+ghost use Rattle.ff_frames.specs.Rewrites.{in_do, IsCallFrame};
+ghost use Rattle.ff_term.specs.Running.{Apply, none, more, Done, Inside, Running, insides, is_value, redex, rewritten, rewritten_in};
+ghost use Rattle.ff_frames.specs.Frames.{is_call, shown, wrap};
+ghost use Rattle.ff_term.specs.Whole.{whole};
+ghost use Rattle.ff_value.specs.declared.value.Val.TheVariants as val;
+ghost use Rattle.ff_value.specs.declared.ids.ActId.{ActId};
+ghost use Rattle.ff_frames.specs.Seeking.{IsSettled};
+ghost use Rattle.ff_frames.specs.Stacks.{evaluation, with_part, out_of, IsCounted, IsReady, IsValid, IsWithoutRedex};
+
+use crate::frame::{Focus, Frame, put};
+use crate::redex::{read_form, read_frame};
+use crate::row::{branch_of, local_form, local_frame};
+use crate::seek::{focus_on, seek};
+use crate::source::Source;
+use crate::values::Values;
+use ff_shared::SharedList;
+use ff_term::{MOST_CALLS, Redex};
+use ff_tree::{Body, Expr, Exprs};
+use ff_value::{ActId, Code, NoMemory, Val};
+use std::alloc::Global;
+
+/// A runtime expression as what stands around the part at hand, that part, the innermost
+/// activation, and how many calls stand around.
+#[derive(Drop)]
+pub struct Stack {
+    pub frames: Vec<Frame>,
+    pub focus: Focus,
+    pub act: ActId,
+    pub depth: u32,
+}
+
+/// The frame around the one argument of a function. Its form gives only its kind: the function's
+/// value stands for its one part.
+fn call_frame(alloc: Global, code: &Code) -> Result<Frame, NoMemory>
+    ensures { IfOk result (λ f. IsCallFrame code.now f) }
+{
+    let no_args = SharedList::from_vec(alloc, Vec::new(alloc))?;
+    let form = Source::made(alloc, Expr::Apply(code.body.copy()?, no_args))?;
+    let mut values = Values::new(alloc);
+    values.push(Val::Code(code.copy()?))?;
+    Ok(Frame::Part(form, values))
+}
+
+impl Stack {
+    /// The stack of `null`.
+    pub fn empty(alloc: Global) -> Stack
+        ensures valid { IsValid result }
+        ensures null { (evaluation result).expr ≡ Done val.Null }
+    {
+        Stack {
+            frames: Vec::new(alloc),
+            focus: Focus::Value(Val::Null),
+            act: ActId(0),
+            depth: 0,
+        }
+    }
+
+    /// The stack of an expression that runs in an activation.
+    pub fn started(alloc: Global, body: &Body, act: ActId) -> Result<Stack, NoMemory>
+        ensures is { IfOk result (λ s. evaluation s ≡ record { base = act; expr = whole body.now }) }
+        ensures valid { IfOk result IsValid }
+    {
+        let focus = focus_on(Source::of(body)?)?;
+        let stack = Stack {
+            frames: Vec::new(alloc),
+            focus,
+            act,
+            depth: 0,
+        };
+        stack.sought(alloc)
+    }
+
+    /// The stack of a call of a function with one argument.
+    pub fn called(alloc: Global, code: &Code, arg: &Val, act: ActId) -> Result<Stack, NoMemory>
+        ensures is { IfOk result (λ s. evaluation s ≡ record { base = act; expr = Apply (Done (val.Code code.now)) (more (Done arg.now) none) }) }
+        ensures valid { IfOk result IsValid }
+    {
+        let frame = call_frame(alloc, code)?;
+        let mut frames = Vec::new(alloc);
+        frames.push(frame)?;
+        let stack = Stack {
+            frames,
+            focus: Focus::Value(arg.copy()?),
+            act,
+            depth: 0,
+        };
+        stack.sought(alloc)
+    }
+
+    /// An equal stack.
+    pub fn copied(&self, alloc: Global) -> Result<Stack, NoMemory>
+        requires { IsValid self.now }
+        ensures same { IfOk result (λ s. evaluation s ≡ evaluation self.now) }
+        ensures valid { IfOk result IsValid }
+    {
+        let mut frames = Vec::new(alloc);
+        for frame in &self.frames {
+            frames.push(frame.copy()?)?;
+        }
+        Ok(Stack {
+            frames,
+            focus: self.focus.copy()?,
+            act: self.act,
+            depth: self.depth,
+        })
+    }
+
+    /// Walks to the redex.
+    pub fn sought(mut self, alloc: Global) -> Result<Stack, NoMemory>
+        requires { IsReady self }
+        ensures same { IfOk result (λ s. evaluation s ≡ evaluation self) }
+        ensures valid { IfOk result IsValid }
+    {
+        seek(alloc, &mut self.frames, &mut self.focus)?;
+        Ok(self)
+    }
+
+    /// Goes out of a frame that is taken off.
+    fn out_of(mut self, frame: Frame) -> Stack
+        requires { is_call frame ≤ self.depth }
+        ensures { result ≡ out_of frame self }
+    {
+        if let Frame::Inside(outer) = frame {
+            self.act = outer;
+            self.depth -= 1;
+        }
+        self
+    }
+
+    /// Takes the redex out.
+    fn without_redex(mut self) -> Stack
+        requires valid { IsValid self }
+        requires open { is_value (evaluation self).expr ≡ false }
+        ensures { IsWithoutRedex self result }
+    {
+        match &self.focus {
+            Focus::Part(_) => self,
+            Focus::Value(_) => match self.frames.pop() {
+                None => self,
+                Some(frame) => self.out_of(frame),
+            },
+        }
+    }
+
+    /// Puts another part for the redex.
+    fn replaced(self, alloc: Global, part: Focus) -> Result<Stack, NoMemory>
+        requires valid { IsValid self }
+        requires open { is_value (evaluation self).expr ≡ false }
+        requires settled { IsSettled part }
+        ensures rewrites { IfOk result (λ s. evaluation s ≡ rewritten_in (λ _. shown part) (evaluation self)) }
+        ensures valid { IfOk result IsValid }
+    {
+        let mut stack = self.without_redex();
+        put(&mut stack.focus, part);
+        stack.sought(alloc)
+    }
+
+    /// Puts another part for the redex, with a frame around it that is no call.
+    fn replaced_in(self, alloc: Global, frame: Frame, part: Focus) -> Result<Stack, NoMemory>
+        requires valid { IsValid self }
+        requires open { is_value (evaluation self).expr ≡ false }
+        requires settled { IsSettled part }
+        requires no_call { is_call frame ≡ 0 }
+        ensures rewrites { IfOk result (λ s. (a : ActId) → evaluation s ≡ rewritten_in (λ _. wrap frame a (shown part)) (evaluation self)) }
+        ensures valid { IfOk result IsValid }
+    {
+        let mut stack = self.without_redex();
+        stack.frames.push(frame)?;
+        put(&mut stack.focus, part);
+        stack.sought(alloc)
+    }
+
+    /// Puts a call that runs in an activation of its own for the redex.
+    pub fn entered(self, alloc: Global, act: ActId, body: &Body) -> Result<Stack, NoMemory>
+        requires valid { IsValid self }
+        requires open { is_value (evaluation self).expr ≡ false }
+        requires shallow { insides (evaluation self).expr < MOST_CALLS }
+        ensures rewrites { IfOk result (λ s. evaluation s ≡ rewritten_in (λ _. Inside act (whole body.now)) (evaluation self)) }
+        ensures valid { IfOk result IsValid }
+    {
+        let part = focus_on(Source::of(body)?)?;
+        let mut stack = self.without_redex();
+        stack.frames.push(Frame::Inside(stack.act))?;
+        stack.act = act;
+        stack.depth += 1;
+        put(&mut stack.focus, part);
+        stack.sought(alloc)
+    }
+
+    /// Puts a value for the redex.
+    pub fn given(self, alloc: Global, value: Val) -> Result<Stack, NoMemory>
+        requires valid { IsValid self }
+        requires open { is_value (evaluation self).expr ≡ false }
+        ensures rewrites { IfOk result (λ s. evaluation s ≡ rewritten_in (λ _. Done value) (evaluation self)) }
+        ensures valid { IfOk result IsValid }
+    {
+        self.replaced(alloc, Focus::Value(value))
+    }
+
+    /// The innermost frame, or `None` where nothing stands around the part at hand.
+    fn top(&self) -> Option<&Frame>
+        ensures { MatchOption result (self.now.frames.items ≡ []) (λ f. (rest : List Frame) × (self.now.frames.items ≡ rest ++ f.now ∷ [])) }
+    {
+        self.frames.last()
+    }
+
+    /// The value, where the expression is one.
+    pub fn value(&self) -> Option<&Val>
+        requires { IsValid self.now }
+        ensures { MatchOption result (is_value (evaluation self.now).expr ≡ false) (λ v. (evaluation self.now).expr ≡ Done v.now) }
+    {
+        match self.top() {
+            Some(_) => None,
+            None => match &self.focus {
+                Focus::Value(value) => Some(value),
+                Focus::Part(_) => None,
+            },
+        }
+    }
+
+    /// The redex.
+    pub fn next(&self, alloc: Global) -> Result<Redex, NoMemory>
+        requires valid { IsValid self.now }
+        requires open { is_value (evaluation self.now).expr ≡ false }
+        ensures { IfOk result (λ r. IsRedexOf r (redex (evaluation self.now).expr)) }
+    {
+        match &self.focus {
+            Focus::Part(form) => read_form(alloc, form.get()),
+            Focus::Value(value) => match self.top() {
+                None => unreachable!(),
+                Some(frame) => read_frame(alloc, frame, value),
+            },
+        }
+    }
+
+    /// Reduces a redex that no store decides.
+    pub fn reduced(self, alloc: Global) -> Result<Stack, NoMemory>
+        requires valid { IsValid self }
+        requires open { is_value (evaluation self).expr ≡ false }
+        requires local { IsLocal (redex (evaluation self).expr) }
+        ensures rewrites { IfOk result (λ s. evaluation s ≡ rewritten_in (λ _. local_row (redex (evaluation self).expr)) (evaluation self)) }
+        ensures valid { IfOk result IsValid }
+    {
+        let (rest, part) = self.local_part(alloc)?;
+        match rest {
+            None => self.replaced(alloc, part),
+            Some((parts, at)) => self.replaced_in(alloc, Frame::Do(parts, at), part),
+        }
+    }
+
+    /// What is put for a redex that no store decides: the part at hand, and the parts of a `do`
+    /// that come after it.
+    fn local_part(&self, alloc: Global) -> Result<(Option<(Exprs, usize)>, Focus), NoMemory>
+        requires valid { IsValid self.now }
+        requires open { is_value (evaluation self.now).expr ≡ false }
+        requires local { IsLocal (redex (evaluation self.now).expr) }
+        ensures same { IfOk result (λ p. in_do p.0 (shown p.1) ≡ local_row (redex (evaluation self.now).expr)) }
+        ensures settled { IfOk result (λ p. IsSettled p.1) }
+    {
+        match &self.focus {
+            Focus::Part(form) => {
+                let part = local_form(alloc, form.get())?;
+                Ok((None, part))
+            }
+            Focus::Value(value) => match self.top() {
+                None => unreachable!(),
+                Some(frame) => local_frame(frame, value),
+            },
+        }
+    }
+
+    /// Takes a branch of an `if` whose test is evaluated.
+    pub fn chosen(self, alloc: Global, yes: bool) -> Result<Stack, NoMemory>
+        requires valid { IsValid self }
+        requires open { is_value (evaluation self).expr ≡ false }
+        requires test { IsTest (redex (evaluation self).expr) }
+        ensures rewrites { IfOk result (λ s. evaluation s ≡ rewritten_in (λ _. branch yes (redex (evaluation self).expr)) (evaluation self)) }
+        ensures valid { IfOk result IsValid }
+    {
+        let part = self.branch(yes)?;
+        self.replaced(alloc, part)
+    }
+
+    /// The branch.
+    fn branch(&self, yes: bool) -> Result<Focus, NoMemory>
+        requires valid { IsValid self.now }
+        requires open { is_value (evaluation self.now).expr ≡ false }
+        requires test { IsTest (redex (evaluation self.now).expr) }
+        ensures same { IfOk result (λ x. shown x ≡ branch yes (redex (evaluation self.now).expr)) }
+        ensures settled { IfOk result IsSettled }
+    {
+        match &self.focus {
+            Focus::Part(_) => unreachable!(),
+            Focus::Value(_) => match self.top() {
+                None => unreachable!(),
+                Some(frame) => branch_of(frame, yes),
+            },
+        }
+    }
+}

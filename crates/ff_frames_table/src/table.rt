@@ -1,0 +1,66 @@
+//! The reductions of an expression, printed one by one.
+
+use crate::script::Script;
+use crate::spelling;
+use anyhow::{Result, bail};
+use ff_reading::read_expr;
+use ff_text::{MOST_BYTES, read};
+use ff_value::{Body, Shared};
+use std::alloc::Global;
+
+/// After how many reductions the fork is made.
+const FORKED_AFTER: u32 = 10;
+
+/// The most reductions that are printed.
+const MOST_PRINTED: u32 = 200;
+
+/// The expression of a line.
+pub fn read_body(alloc: Global, line: &str) -> Result<Body> {
+    let bytes = line.as_bytes();
+    if bytes.len() > MOST_BYTES {
+        bail!("a line is too long");
+    }
+    let item = read(alloc, bytes)?;
+    let expr = read_expr(alloc, &item)?;
+    Ok(Shared::new(alloc, expr)?)
+}
+
+/// Prints the expression of a line, its reductions and its value, and those of the fork.
+pub fn show<R: Print>(rt: &R, alloc: Global, line: &str) -> Result<()> {
+    println!(rt; "{line}")?;
+    let body = read_body(alloc, line)?;
+    let mut script = Script::start(alloc, &body)?;
+    reduce(rt, alloc, &mut script, FORKED_AFTER)?;
+    let mut fork = script.fork(alloc)?;
+    finish(rt, alloc, &mut script)?;
+    println!(rt; "the fork:")?;
+    finish(rt, alloc, &mut fork)
+}
+
+/// Prints at most so many reductions.
+fn reduce<R: Print>(rt: &R, alloc: Global, script: &mut Script, most: u32) -> Result<()> {
+    for _turn in 0..most {
+        let depth = script.depth();
+        match script.turn(alloc)? {
+            Some(redex) => {
+                let redex = spelling::redex(alloc, &redex)?;
+                println!(rt; "  {depth} {redex}")?;
+            }
+            None => return Ok(()),
+        }
+    }
+    Ok(())
+}
+
+/// Prints the reductions that are left, and the value.
+fn finish<R: Print>(rt: &R, alloc: Global, script: &mut Script) -> Result<()> {
+    reduce(rt, alloc, script, MOST_PRINTED)?;
+    match script.done() {
+        Some(value) => {
+            let value = spelling::value(alloc, value)?;
+            println!(rt; "= {value}")?;
+        }
+        None => println!(rt; "and more")?,
+    }
+    Ok(())
+}
