@@ -14,7 +14,7 @@ use Rattle.ff_machine.specs.Nodes.{Node, no_node, node_at, children, parent, set
 use Rattle.ff_machine.specs.Windows.{is_live}
 use Rattle.ff_machine.specs.Stores as stores
 use Rattle.ff_machine.specs.Stores.{Stores}
-use Rattle.ff_machine.specs.Alone.{IsNode}
+use Rattle.ff_machine.specs.Alone.{AreNodes}
 use Rattle.ff_machine.specs.References.{Made, Grows, made, NodeRefers}
 use Rattle.ff_machine.specs.Valid.{IsStores}
 use Rattle.ff_laws.specs.Keeps.{Keeps}
@@ -24,52 +24,9 @@ use Rattle.ff_laws.proofs.Sums.{if_so}
 use Rattle.ff_laws.proofs.Simple.{touched_changed, touched_at_refers, root_page_lives}
 use Rattle.ff_laws.proofs.NodeChanges.{rooted_same}
 use Rattle.ff_laws.proofs.Starting.{kept, kept_twice, one_keeps, start_valid}
-use Rattle.ff_laws.proofs.Joining.{MayJoin, joined_trees}
+use Rattle.ff_machine.proofs.Joining.{may_join, joined_nodes}
 
--- what is known where nothing keeps a child from its parent
-pub record Fits (all : List Node) (p c : NodeId) : Type 0 where
-  pub kind : may_have_children (node_at all p).shape ≡ true
-  pub no_root : page_of (node_at all c).shape ≡ None
-  pub may : MayJoin all p c
-
-not_so : (b : Bool) (f : Fault) (o : Option Fault) → cond b (Some f) o ≡ None → (b ≡ false) × (o ≡ None)
-not_so true f o e = cc
-not_so false f o e = (refl, e)
-
-is_so : (b : Bool) → not b ≡ false → b ≡ true
-is_so true e = refl
-is_so false e = cc
-
-is_nothing : {X : Type 0} (o : Option X) → is_some o ≡ false → o ≡ None
-is_nothing None e = refl
-is_nothing (Some x) e = cc
-
-fits_of : (all : List Node) (p c : NodeId) (at : ℤ) → p.0 < length all → c.0 < length all → insert_fault all p c at ≡ None → Fits all p c
-unfolding insert_fault
-fits_of all p c at p_lives c_lives e =
-    let first = not_so (not (may_have_children (node_at all p).shape)) fault.Kind _ e in
-    let second = not_so (is_some (page_of (node_at all c).shape)) fault.Kind _ first.1 in
-    let third = not_so (is_some (parent all c)) fault.Range _ second.1 in
-    let fourth = not_so ((root all p).0 == c.0) fault.Range _ third.1 in
-    let fifth = not_so (is_none (place_of at (length (children all p)))) fault.Range _ fourth.1 in
-    let sixth = not_so (nat_lt MOST_TREE_DEPTH (suc (depth all p + height all c))) fault.Limit _ fifth.1 in
-    record {
-      kind = is_so (may_have_children (node_at all p).shape) first.0;
-      no_root = is_nothing (page_of (node_at all c).shape) second.0;
-      may = record {
-        parent_lives = p_lives;
-        child_lives = c_lives;
-        free = is_nothing (parent all c) third.0;
-        apart = λ h. eqb-false (root all p).0 c.0 fourth.0 (ap (λ (n : NodeId). n.0) h);
-        low = ltb-false MOST_TREE_DEPTH (suc (depth all p + height all c)) sixth.0;
-      };
-    }
-
-no_some : {P : Type 0} (o : Option PageId) → o ≡ None → IsSome o → P
-no_some None e h = absurd (false≢true h)
-no_some (Some p) e h = cc
-
-module _ (s : Stores) (p c : NodeId) (at : ℕ) (valid : IsStores s) (fits : Fits s.nodes p c) where
+module _ (s : Stores) (p c : NodeId) (at : ℕ) (valid : IsStores s) (p_lives : p.0 < length s.nodes) (c_lives : c.0 < length s.nodes) where
   abbrev child : Node
   child = record (node_at s.nodes c) { parent = Some p }
 
@@ -82,48 +39,23 @@ module _ (s : Stores) (p c : NodeId) (at : ℕ) (valid : IsStores s) (fits : Fit
   abbrev new : List Node
   new = set_node mid p over
 
-  child_alone : IsNode child
-  child_alone =
-      let was : IsNode (node_at s.nodes c) = valid.nodes.each c.0 no_node fits.may.child_lives in
-      record {
-        shape = was.shape;
-        handlers = was.handlers;
-        form = record { few_handlers = was.form.few_handlers; no_handlers = was.form.no_handlers; no_children = was.form.no_children; no_parent = no_some (page_of (node_at s.nodes c).shape) fits.no_root };
-      }
-
-  over_alone : IsNode over
-  over_alone =
-      let was : IsNode (node_at s.nodes p) = valid.nodes.each p.0 no_node fits.may.parent_lives in
-      record {
-        shape = was.shape;
-        handlers = was.handlers;
-        form = record { few_handlers = was.form.few_handlers; no_handlers = was.form.no_handlers; no_children = λ e. absurd (true≢false (sym fits.kind ∙ e)); no_parent = was.form.no_parent };
-      }
-
-  refers_still : (m : Made) (node : Node) (kids : List NodeId) (up : Option NodeId) → NodeRefers m node → NodeRefers m (record node { children = kids; parent = up })
-  refers_still m node kids up h = record { shape = h.shape; handlers = h.handlers }
-
   -- the child stands under the parent
-  pub joined_valid : Keeps s (record s { nodes = new })
-  joined_valid =
+  pub joined_valid : AreNodes new → Keeps s (record s { nodes = new })
+  joined_valid are =
       let t : Stores = record s { nodes = new } in
       let first : length mid ≡ length s.nodes = length-set s.nodes c.0 child in
       let size : length new ≡ length mid = length-set mid p.0 over in
       let grows : Grows (made s) (made t) = record { wins = omega arith; pages = omega arith; nodes = omega (arith, first, size); acts = omega arith } in
       let refer = growing.stores_refer_grow (made s) (made t) grows s valid.refer in
-      let c_refers : NodeRefers (made t) (node_at s.nodes c) = refer.nodes c.0 no_node fits.may.child_lives in
-      let p_refers : NodeRefers (made t) (node_at s.nodes p) = refer.nodes p.0 no_node fits.may.parent_lives in
-      let one = sum_by-set (λ (x : Node). if_so (is_started x.shape)) s.nodes c.0 child no_node fits.may.child_lives in
-      let two = sum_by-set (λ (x : Node). if_so (is_started x.shape)) mid p.0 over no_node (omega (arith, first, fits.may.parent_lives)) in
+      let c_refers : NodeRefers (made t) (node_at s.nodes c) = refer.nodes c.0 no_node c_lives in
+      let p_refers : NodeRefers (made t) (node_at s.nodes p) = refer.nodes p.0 no_node p_lives in
+      let one = sum_by-set (λ (x : Node). if_so (is_started x.shape)) s.nodes c.0 child no_node c_lives in
+      let two = sum_by-set (λ (x : Node). if_so (is_started x.shape)) mid p.0 over no_node (omega (arith, first, p_lives)) in
       let same : if_so (is_started (get_or mid p.0 no_node).shape) ≡ if_so (is_started (get_or s.nodes p.0 no_node).shape) =
       at_set (λ j (x : Node). if_so (is_started x.shape) ≡ if_so (is_started (get_or s.nodes j no_node).shape)) s.nodes c.0 p.0 child no_node refl refl in
       record {
         stores = record {
-          nodes = record {
-            each = All-set IsNode mid p.0 over over_alone (All-set IsNode s.nodes c.0 child child_alone valid.nodes.each);
-            trees = joined_trees s.nodes p c at valid.nodes.trees fits.may;
-            few = omega (arith, first, size, valid.nodes.few);
-          };
+          nodes = are;
           windows = valid.windows;
           jar = valid.jar;
           requests = valid.requests;
@@ -154,10 +86,10 @@ started_in s t p c (Some page) valid keeps e =
 pub inserted_valid : (s : Stores) (p c : NodeId) (at : ℤ) (place : ℕ) → IsStores s → p.0 < length s.nodes → c.0 < length s.nodes → insert_fault s.nodes p c at ≡ None → Keeps s (stores.insert s p c place).after
 unfolding joined
 inserted_valid s p c at place valid p_lives c_lives no_fault =
-    let fits = fits_of s.nodes p c at p_lives c_lives no_fault in
+    let are = joined_nodes s.nodes valid.nodes.trees p c place p_lives c_lives (may_join s.nodes p c at no_fault) valid.nodes in
     let u : Stores = record s { nodes = joined s.nodes p c place } in
     let t : Stores = record u { touched = stores.touched_at s p } in
-    let first = joined_valid s p c place valid fits in
+    let first = joined_valid s p c place valid p_lives c_lives are in
     let touched = touched_changed u (stores.touched_at s p) first.stores (touched_at_refers s p valid) in
     let both = kept_twice s u t first touched in
     kept_twice s t (stores.insert s p c place).after both (started_in s t p c (page_root_of s.nodes p) valid both refl)

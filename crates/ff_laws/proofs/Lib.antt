@@ -24,16 +24,9 @@ pub mod Queues
 pub mod Slots
 pub mod Walks
 pub mod Starting
-pub mod Forests
-pub mod DocForms
-pub mod Laid
-pub mod LaidDocs
-pub mod Planted
 pub mod Making
 pub mod Paging
 pub mod Loading
-pub mod Rooted
-pub mod Joining
 pub mod Inserting
 pub mod Reducing
 pub mod PureValues

@@ -34,10 +34,8 @@ use Rattle.ff_laws.proofs.Growing as growing
 use Rattle.ff_laws.proofs.Acts.{within}
 use Rattle.ff_laws.proofs.Sums.{if_so}
 use Rattle.ff_laws.proofs.Simple.{weighed_valid}
-use Rattle.ff_laws.proofs.Forests.{nth, AreForest}
-use Rattle.ff_laws.proofs.Laid.{IsFresh, IsLaid}
-use Rattle.ff_laws.proofs.LaidDocs.{doc_laid}
-use Rattle.ff_laws.proofs.Planted.{at_end, planted_trees}
+use Rattle.ff_machine.proofs.LaidDocs.{IsGood, doc_laid, doc_good}
+use Rattle.ff_machine.proofs.MadeTrees.{tree_made, tree_refers}
 
 -- more nodes hold no fewer scripts that were started
 pub more_started : (all xs : List Node) → count_started all ≤ count_started (all ++ xs)
@@ -54,7 +52,7 @@ no_page_shape s p e h = some_none (sym e ∙ ap page_of h) where
   some_none q = cc
 
 -- a node that is the root of a page is an old one, where no new one is a root
-pub only_old : (all xs : List Node) (m : Made) (n : NodeId) (p : PageId) → All (IsFresh m) xs → (node_at (all ++ xs) n).shape ≡ shape.Page p → (node_at all n).shape ≡ shape.Page p
+pub only_old : (all xs : List Node) (m : Made) (n : NodeId) (p : PageId) → All (IsGood m) xs → (node_at (all ++ xs) n).shape ≡ shape.Page p → (node_at all n).shape ≡ shape.Page p
 only_old all xs m n p fresh e =
     ⊎_elim (λ l. sym (ap (λ (node : Node). node.shape) (old_root all xs n l)) ∙ e) (λ l. absurd (new l)) (cases_lt n.0 (length all)) where
       new : length all ≤ n.0 → ⊥
@@ -63,13 +61,13 @@ only_old all xs m n p fresh e =
           (λ h.
           let place : n.0 ≡ length all + (n.0 - length all) = omega (arith, l) in
           let is : node_at (all ++ xs) n ≡ get_or xs (n.0 - length all) no_node = ap (λ k. get_or (all ++ xs) k no_node) place ∙ get_or-append-add all xs (n.0 - length all) no_node in
-          no_page_shape (get_or xs (n.0 - length all) no_node).shape p (fresh (n.0 - length all) no_node (omega (arith, h, l))).page (sym (ap (λ (node : Node). node.shape) is) ∙ e))
+          no_page_shape (get_or xs (n.0 - length all) no_node).shape p (fresh (n.0 - length all) no_node (omega (arith, h, l))).inner (sym (ap (λ (node : Node). node.shape) is) ∙ e))
           (λ h. no_page_shape (shape.Div []) p refl (sym (ap (λ (node : Node). node.shape) (get_or_past (all ++ xs) n.0 no_node (omega (arith, h, length-append all xs)))) ∙ e))
           (cases_lt n.0 (length all + length xs))
 
-module _ (s : Stores) (valid : IsStores s) (env : ActId) (l : Laid) (high : ℕ) (laid_is : IsLaid env l high) (low : high ≤ MOST_TREE_DEPTH) (lives : env.0 < length s.windows.acts) (room : has_room s.nodes l.size ≡ true) where
+module _ (s : Stores) (valid : IsStores s) (env : ActId) (d : Doc) (is : IsWellSpelledDoc d) (lives : env.0 < length s.windows.acts) (room : has_room s.nodes (laid env d).size ≡ true) where
   abbrev xs : List Node
-  xs = l.nodes (length s.nodes) None
+  xs = (laid env d).nodes (length s.nodes) None
 
   abbrev t : Stores
   t = record s { nodes = s.nodes ++ xs }
@@ -78,35 +76,22 @@ module _ (s : Stores) (valid : IsStores s) (env : ActId) (l : Laid) (high : ℕ)
   pub tree_planted : Keeps s t
   tree_planted =
       let size : length (s.nodes ++ xs) ≡ length s.nodes + length xs = length-append s.nodes xs in
-      let sized : length xs ≡ l.size = laid_is.sized (length s.nodes) None in
-      let fits : length s.nodes + l.size ≤ MOST_NODES = leb-true (length s.nodes + l.size) MOST_NODES room in
       let grows : Grows (made s) (made t) = record { wins = omega arith; pages = omega arith; nodes = omega (arith, size); acts = omega arith } in
       let refer = growing.stores_refer_grow (made s) (made t) grows s valid.refer in
-      let fresh : All (IsFresh (made t)) xs = laid_is.fresh (made t) lives (length s.nodes) None in
-      let forest = subst (λ (n : ℕ). AreForest (s.nodes ++ xs) (length s.nodes) (length s.nodes + n) None (nth (length s.nodes) ∷ []) high) (sym sized) (laid_is.forest (s.nodes ++ xs) (length s.nodes) None (at_end s.nodes xs)) in
+      let good : All (IsGood (made t)) xs = doc_good (made t) env lives d is.spelled is.shallow (length s.nodes) None in
       let more = more_started s.nodes xs in
       record {
         stores = record {
-          nodes = record {
-            each = All-append IsNode s.nodes xs valid.nodes.each (All-weaker (IsFresh (made t)) IsNode (λ node h. h.alone) xs fresh);
-            trees = planted_trees s.nodes xs valid.nodes.trees high low forest;
-            few = omega (arith, size, sized, fits);
-          };
+          nodes = tree_made (made t) env lives s.nodes valid.nodes d is room;
           windows = valid.windows;
           jar = valid.jar;
           requests = valid.requests;
-          refer = record {
-            nodes = All-append (NodeRefers (made t)) s.nodes xs refer.nodes (All-weaker (IsFresh (made t)) (NodeRefers (made t)) (λ node h. h.refers) xs fresh);
-            pages = refer.pages;
-            acts = refer.acts;
-            requests = refer.requests;
-            touched = refer.touched;
-          };
+          refer = record { nodes = tree_refers (made t) env lives s.nodes valid.nodes d is refer.nodes; pages = refer.pages; acts = refer.acts; requests = refer.requests; touched = refer.touched };
           rooted = record {
             root = λ p lt.
-                let is : PageRefers (made s) (nth_page s.windows.pages p) = valid.refer.pages p.0 no_page lt in
-                ap (λ (node : Node). node.shape) (old_root s.nodes xs (nth_page s.windows.pages p).root is.root) ∙ valid.rooted.root p lt;
-            only = λ n p e. valid.rooted.only n p (only_old s.nodes xs (made t) n p fresh e);
+                let page : PageRefers (made s) (nth_page s.windows.pages p) = valid.refer.pages p.0 no_page lt in
+                ap (λ (node : Node). node.shape) (old_root s.nodes xs (nth_page s.windows.pages p).root page.root) ∙ valid.rooted.root p lt;
+            only = λ n p e. valid.rooted.only n p (only_old s.nodes xs (made t) n p good e);
           };
           queued = record { entries = omega (arith, more, valid.queued.entries); slots = omega (arith, more, valid.queued.slots) };
           light = valid.light;
@@ -116,7 +101,7 @@ module _ (s : Stores) (valid : IsStores s) (env : ActId) (l : Laid) (high : ℕ)
 
   -- its root was made
   pub root_made : length s.nodes < length t.nodes
-  root_made = let some = laid_is.some in omega (arith, some, length-append s.nodes xs, laid_is.sized (length s.nodes) None)
+  root_made = let l = doc_laid env d in let some = l.some in omega (arith, some, length-append s.nodes xs, l.sized (length s.nodes) None)
 
 parts_of : (a b : Option Fault) → first_fault a b ≡ None → (a ≡ None) × (b ≡ None)
 parts_of None b e = (refl, e)
@@ -129,11 +114,10 @@ made_of s a d None valid lives is why =
     let no = parts_of (limit_unless (may_weigh s (doc_weight d))) (nodes.room_fault s.nodes (laid a d).size) (why refl) in
     let heavier = weighed_valid s (doc_weight d) valid (within _ no.0) in
     let u = stores.weighed s (doc_weight d) in
-    let shallow = is.shallow in
-    let planted = tree_planted u heavier.stores a (laid a d) (doc_depth d) (doc_laid a d is) (omega (arith, shallow)) lives (within _ no.1) in
+    let planted = tree_planted u heavier.stores a d is lives (within _ no.1) in
     record {
       keeps = record { stores = planted.stores; grows = planted.grows };
-      value = (tt, root_made u heavier.stores a (laid a d) (doc_depth d) (doc_laid a d is) (omega (arith, shallow)) lives (within _ no.1));
+      value = (tt, root_made u heavier.stores a d is lives (within _ no.1));
     }
 
 -- a tree that is made without a fault keeps stores valid, and so is the reference to it

@@ -11,7 +11,7 @@ use Rattle.std.proofs.lemmas.List.Sums.{sum_by_push}
 use Rattle.ff_name.specs.Address.{IsWellSpelled}
 use Rattle.ff_name.specs.declared.urls.Url.{Url}
 use Rattle.ff_name.specs.declared.limits.TheConstants.{MOST_DEPTH}
-use Rattle.ff_tree.specs.Spelled.{IsWellSpelledDoc}
+use Rattle.ff_tree.specs.Spelled.{IsSpelledDoc, IsWellSpelledDoc, most, doc_depth}
 use Rattle.ff_tree.specs.declared.tree.Doc.{Doc}
 use Rattle.ff_value.specs.declared.ids.ActId.{ActId}
 use Rattle.ff_value.specs.declared.ids.NodeId.{NodeId}
@@ -34,10 +34,8 @@ use Rattle.ff_machine.specs.Valid.{IsStores}
 use Rattle.ff_laws.specs.Keeps.{Keeps}
 use Rattle.ff_laws.proofs.Growing as growing
 use Rattle.ff_laws.proofs.Lists.{at_pushed}
-use Rattle.ff_laws.proofs.Forests.{nth, AreForest}
-use Rattle.ff_laws.proofs.Laid.{IsFresh, AreLaid, laid_over}
-use Rattle.ff_laws.proofs.LaidDocs.{docs_laid}
-use Rattle.ff_laws.proofs.Planted.{at_end, planted_trees}
+use Rattle.ff_machine.proofs.LaidDocs.{IsGood, HasGood, all_good, doc_good}
+use Rattle.ff_machine.proofs.MadeTrees.{page_made as page_nodes, page_refers}
 use Rattle.ff_laws.proofs.Making.{more_started, old_root, no_page_shape}
 use Rattle.ff_laws.proofs.Simple.{at_any}
 
@@ -54,6 +52,22 @@ no_act_refers m x v e = absurd (none_some (sym (finmap.get-empty (slice_cmp nat_
 no_queue : IsQueue 0 []
 unfolding IsDistinct
 no_queue = record { entries = All-nil (IsEntry 0); differ = tt }
+
+all_spelled : (docs : List Doc) → AllByRecursion IsWellSpelledDoc docs → AllByRecursion IsSpelledDoc docs
+all_spelled [] is = tt
+all_spelled (d ∷ ds) is = (is.0.spelled, all_spelled ds is.1)
+
+all_shallow : (docs : List Doc) → AllByRecursion IsWellSpelledDoc docs → most (map doc_depth docs) ≤ MOST_DEPTH
+all_shallow [] is = omega arith
+all_shallow (d ∷ ds) is = let one = is.0.shallow in let rest = all_shallow ds is.1 in omega (arith, one, rest)
+
+each_good : (m : Made) (env : ActId) → env.0 < m.acts → (docs : List Doc) → AllByRecursion IsWellSpelledDoc docs → AllByRecursion (HasGood m) (map (laid env) docs)
+each_good m env there [] is = tt
+each_good m env there (d ∷ ds) is = (doc_good m env there d is.0.spelled is.0.shallow, each_good m env there ds is.1)
+
+-- the node of a number
+abbrev nth : ℕ → NodeId
+nth n = record { 0 = n }
 
 module _ (s : Stores) (w : WinId) (u : Url) (docs : List Doc) (valid : IsStores s) (spelled : IsWellSpelled u) (docs_spelled : AllByRecursion IsWellSpelledDoc docs) (room : stores.has_load_room s docs ≡ true)
     (wins : List Window) (opened : List WinId) where
@@ -101,27 +115,17 @@ module _ (s : Stores) (w : WinId) (u : Url) (docs : List Doc) (valid : IsStores 
   pub next_is : nth_page pages page ≡ new
   next_is = get_or_push s.windows.pages new no_page (length s.windows.pages) refl
 
-  laid_are : AreLaid env laid_docs MOST_DEPTH
-  laid_are = docs_laid env docs docs_spelled
-
-  root_alone : IsNode root
-  root_alone = record {
-    shape = tt;
-    handlers = All-nil IsHandler;
-    form = record { few_handlers = omega arith; no_handlers = λ e. refl; no_children = λ e. absurd (true≢false e); no_parent = λ h. refl };
-  }
-
   grows_by : length s.windows.windows ≤ length wins → Grows (made s) (made paged)
   grows_by le = record { wins = le; pages = omega (arith, pages_more); nodes = omega (arith, nodes_more); acts = omega (arith, acts_more) }
 
-  fresh : All (IsFresh (made paged)) rest
-  fresh = laid_are.fresh (made paged) (omega (arith, acts_more)) (suc (length s.nodes)) (Some (nth (length s.nodes)))
+  env_made : env.0 < (made paged).acts
+  env_made = omega (arith, acts_more)
 
-  forest : AreForest (s.nodes ++ root ∷ rest) (length s.nodes) (length s.nodes + length (root ∷ rest)) None (nth (length s.nodes) ∷ []) (suc MOST_DEPTH)
-  forest =
-      subst (λ (n : ℕ). AreForest (s.nodes ++ root ∷ rest) (length s.nodes) (length s.nodes + n) None (nth (length s.nodes) ∷ []) (suc MOST_DEPTH))
-      (ap suc (sym (laid_are.sized (suc (length s.nodes)) (Some (nth (length s.nodes))))))
-      (laid_over env (shape.Page page) laid_docs MOST_DEPTH laid_are (s.nodes ++ root ∷ rest) (length s.nodes) None (at_end s.nodes (root ∷ rest)))
+  page_there : page.0 < (made paged).pages
+  page_there = omega (arith, pages_more)
+
+  fresh : All (IsGood (made paged)) rest
+  fresh = all_good (made paged) laid_docs (each_good (made paged) env env_made docs docs_spelled) (suc (length s.nodes)) (Some (nth (length s.nodes)))
 
   root_there : node_at (s.nodes ++ root ∷ rest) (nth (length s.nodes)) ≡ root
   root_there =
@@ -142,7 +146,7 @@ module _ (s : Stores) (w : WinId) (u : Url) (docs : List Doc) (valid : IsStores 
       (ap (λ (x : Page). (node_at (s.nodes ++ root ∷ rest) x.root).shape) next_is ∙ ap (λ (node : Node). node.shape) root_there)
 
   fresh_page : (j : ℕ) → page_of (get_or rest j no_node).shape ≡ None
-  fresh_page j = at_any (λ (node : Node). page_of node.shape ≡ None) rest j no_node (All-weaker (IsFresh (made paged)) (λ (node : Node). page_of node.shape ≡ None) (λ node h. h.page) rest fresh) refl
+  fresh_page j = at_any (λ (node : Node). page_of node.shape ≡ None) rest j no_node (All-weaker (IsGood (made paged)) (λ (node : Node). page_of node.shape ≡ None) (λ node h. h.inner) rest fresh) refl
 
   -- the root of a page among the new nodes is the first of them
   new_only : (k : ℕ) (n : NodeId) (p : PageId) → n.0 ≡ length s.nodes + k → (get_or (root ∷ rest) k no_node).shape ≡ shape.Page p → (nth_page pages p).root ≡ n
@@ -176,17 +180,10 @@ module _ (s : Stores) (w : WinId) (u : Url) (docs : List Doc) (valid : IsStores 
       let page_room = and_parts _ _ rooms.0 in
       let few_pages : length s.windows.pages < MOST_PAGES = ltb-true (length s.windows.pages) MOST_PAGES page_room.0 in
       let few_acts : length s.windows.acts < MOST_ACTS = ltb-true (length s.windows.acts) MOST_ACTS page_room.1 in
-      let fits : length s.nodes + suc (size_of laid_docs) ≤ MOST_NODES = leb-true (length s.nodes + suc (size_of laid_docs)) MOST_NODES rooms.1 in
-      let sized = laid_are.sized (suc (length s.nodes)) (Some (nth (length s.nodes))) in
       let more = more_started s.nodes (root ∷ rest) in
-      let root_refers : NodeRefers (made paged) root = record { shape = omega (arith, pages_more); handlers = All-nil (CodeRefers (made paged)) } in
       record {
         stores = record {
-          nodes = record {
-            each = All-append IsNode s.nodes (root ∷ rest) valid.nodes.each (All-cons IsNode root rest root_alone (All-weaker (IsFresh (made paged)) IsNode (λ node h. h.alone) rest fresh));
-            trees = planted_trees s.nodes (root ∷ rest) valid.nodes.trees (suc MOST_DEPTH) (omega arith) forest;
-            few = omega (arith, nodes_more, sized, fits);
-          };
+          nodes = page_nodes (made paged) env env_made s.nodes valid.nodes page page_there docs (all_spelled docs docs_spelled) (all_shallow docs docs_spelled) rooms.1;
           windows = record {
             windows = are;
             opened = opened_are;
@@ -207,7 +204,7 @@ module _ (s : Stores) (w : WinId) (u : Url) (docs : List Doc) (valid : IsStores 
           jar = valid.jar;
           requests = valid.requests;
           refer = record {
-            nodes = All-append (NodeRefers (made paged)) s.nodes (root ∷ rest) refer.nodes (All-cons (NodeRefers (made paged)) root rest root_refers (All-weaker (IsFresh (made paged)) (NodeRefers (made paged)) (λ node h. h.refers) rest fresh));
+            nodes = page_refers (made paged) env env_made s.nodes valid.nodes page page_there docs (all_spelled docs docs_spelled) (all_shallow docs docs_spelled) refer.nodes;
             pages = All-push (PageRefers (made paged)) s.windows.pages new refer.pages (record { win = there; root = omega (arith, nodes_more) });
             acts = λ a. at_pushed (λ j act. ActRefers (made paged) act) s.windows.acts a.0 no_act no_act (no_act_refers (made paged)) (refer.acts a);
             requests = refer.requests;
