@@ -1,21 +1,16 @@
 -- A tree that is put under a node, and whose scripts start, keeps stores valid.
-use Rattle.std.proofs.Common.{◌≡◌, ℕ, suc, ◌+◌, ◌<◌, Bool, true, false, cond, not, ◌==◌, ℤ, Option, Some, None, IsSome, is_some, is_none, List, length, get_or, insert, refl, sym, ap, ◌∙◌, arith, length-set}
-use Rattle.std.proofs.lemmas.Bool.{true≢false, false≢true, eqb-false, ltb-false}
+use Rattle.std.proofs.Common.{◌≡◌, ℕ, ◌<◌, ℤ, Option, Some, None, List, length, get_or, insert, refl, arith, length-set}
 use Rattle.std.proofs.lemmas.List.Elements.{All-set}
 use Rattle.std.proofs.lemmas.List.Sums.{sum_by-set}
-use Rattle.std.specs.Prelude.{nat_lt}
-use Rattle.ff_value.specs.declared.fault.Fault.{Fault}
-use Rattle.ff_value.specs.declared.fault.Fault.TheVariants as fault
 use Rattle.ff_value.specs.declared.ids.NodeId.{NodeId}
 use Rattle.ff_value.specs.declared.ids.PageId.{PageId}
-use Rattle.ff_machine.specs.declared.limits.TheConstants.{MOST_TREE_DEPTH}
-use Rattle.ff_machine.specs.Shapes.{page_of, is_started, may_have_children}
-use Rattle.ff_machine.specs.Nodes.{Node, no_node, node_at, children, parent, set_node, depth, height, root, insert_fault, joined, place_of, page_root_of}
+use Rattle.ff_machine.specs.Shapes.{page_of, is_started}
+use Rattle.ff_machine.specs.Nodes.{Node, no_node, node_at, children, set_node, insert_fault, joined, page_root_of}
 use Rattle.ff_machine.specs.Windows.{is_live}
 use Rattle.ff_machine.specs.Stores as stores
 use Rattle.ff_machine.specs.Stores.{Stores}
 use Rattle.ff_machine.specs.Alone.{AreNodes}
-use Rattle.ff_machine.specs.References.{Made, Grows, made, NodeRefers}
+use Rattle.ff_machine.specs.References.{Grows, made, NodeRefers}
 use Rattle.ff_machine.specs.Valid.{IsStores}
 use Rattle.ff_laws.specs.Keeps.{Keeps}
 use Rattle.ff_laws.proofs.Growing as growing

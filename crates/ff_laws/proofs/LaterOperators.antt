@@ -1,6 +1,8 @@
 -- Each operator leaves later stores.
-use Rattle.std.proofs.Common.{ℕ, ◌+◌, ◌≤◌, Bool, true, false, cond, ◌&&◌, ◌||◌, not, ◌++◌, ◌+ℤ◌, ◌-ℤ◌, ◌*ℤ◌, ℤ, pos, int_lt, int_le, int_div, int_rem, nat_abs, ◌==◌, Option, Some, None, Result, Ok, Err, List, [], ◌∷◌, length, arith}
+use Rattle.std.proofs.Common.{◌≡◌, ℕ, ◌+◌, ◌≤◌, Bool, true, false, cond, ◌&&◌, ◌||◌, not, ◌++◌, ◌+ℤ◌, ◌-ℤ◌, ◌*ℤ◌, ℤ, pos, int_lt, int_le, int_div, int_rem, nat_abs, ◌==◌, Option, Some, None, Result, Ok, Err, List, [], ◌∷◌, length, arith, refl}
 use Rattle.std.specs.Prelude.{⊤}
+use Rattle.std.proofs.lemmas.Bool.{and_parts, leb-true}
+use Rattle.ff_operators.specs.Limits.{most_mass}
 use Rattle.std.specs.Ordering.{int_eq}
 use Rattle.ff_reactive.specs.Turns.{Stepped}
 use Rattle.ff_name.specs.Address.{printed}
@@ -41,8 +43,9 @@ use Rattle.ff_laws.proofs.LaterSteps.{window_more, open_window, close_window, wi
 
 -- The pure operators: the mass doesn't fall.
 
-abbrev Weighs : ℕ → Result Applied Fault → Type 0
-Weighs mass (Ok applied) = mass ≤ applied.mass
+-- what a pure operator gives weighs no less than before, and no more than may be
+abbrev pub Weighs : ℕ → Result Applied Fault → Type 0
+Weighs mass (Ok applied) = (mass ≤ applied.mass) × (mass ≤ most_mass → applied.mass ≤ most_mass)
 Weighs mass (Err f) = ⊤
 
 weighs_one : (mass : ℕ) (b : Bool) (x y : Result Applied Fault) → Weighs mass x → Weighs mass y → Weighs mass (cond b x y)
@@ -54,10 +57,14 @@ weighs_given mass None f h = tt
 weighs_given mass (Some x) f h = h x
 
 free : (mass : ℕ) (v : Val) → Weighs mass (pure.free mass v)
-free mass v = omega arith
+free mass v = (omega arith, λ h. h)
 
-made : (mass : ℕ) (text : List ℕ) → Weighs mass (pure.made mass text)
-made mass text = weighs_one mass (pure.has_room mass (length text)) (Ok (record { value = val.Str text; mass = mass + length text })) (Err fault.Limit) (omega arith) tt
+-- a text that is made
+pub made : (mass : ℕ) (text : List ℕ) → Weighs mass (pure.made mass text)
+made mass text = by (pure.has_room mass (length text)) refl where
+  by : (b : Bool) → pure.has_room mass (length text) ≡ b → Weighs mass (cond b (Ok (record { value = val.Str text; mass = mass + length text })) (Err fault.Limit))
+  by true e = (omega arith, λ h. leb-true (mass + length text) most_mass (and_parts _ _ e).1)
+  by false e = tt
 
 number : (mass : ℕ) (n : ℤ) → Weighs mass (pure.num_or_overflow mass n)
 number mass n = weighs_one mass (fits n) (pure.free mass (val.Num n)) (Err fault.Overflow) (free mass (val.Num n)) tt
@@ -86,7 +93,8 @@ cut : (mass : ℕ) (part : Option (List ℕ)) → Weighs mass (pure.cut mass par
 cut mass None = tt
 cut mass (Some part) = made mass part
 
-apply : (o : Op) (args : List Val) (mass : ℕ) → Weighs mass (pure.apply o args mass)
+-- a pure operator
+pub apply : (o : Op) (args : List Val) (mass : ℕ) → Weighs mass (pure.apply o args mass)
 apply op.Add args mass = weighs_given mass (two_nums args) _ (λ o. number mass (o.0 +ℤ o.1))
 apply op.Sub args mass = weighs_given mass (two_nums args) _ (λ o. number mass (o.0 -ℤ o.1))
 apply op.Mul args mass = weighs_given mass (two_nums args) _ (λ o. number mass (o.0 *ℤ o.1))
@@ -136,7 +144,7 @@ if_open : (s : Stores) (w : WinId) (done : Outcome) → OutcomeLater s done → 
 if_open s w done h = one_of s (is_open s.windows w) done (Err fault.Dead) h tt
 
 massed : (s : Stores) (applied : Result Applied Fault) → Weighs s.mass applied → OutcomeLater s (with_mass s applied)
-massed s (Ok applied) h = record { nodes = omega arith; windows = windows_later.unchanged s.windows; mass = h }
+massed s (Ok applied) h = record { nodes = omega arith; windows = windows_later.unchanged s.windows; mass = h.0 }
 massed s (Err f) h = tt
 
 set_cookie : (s : Stores) (domain : Option (List ℕ)) (key value : List ℕ) → OutcomeLater s (operators.set_cookie s domain key value)

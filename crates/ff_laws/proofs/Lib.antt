@@ -29,8 +29,6 @@ pub mod Paging
 pub mod Loading
 pub mod Inserting
 pub mod Reducing
-pub mod PureValues
-pub mod Bytes
 pub mod Operating
 pub mod Readings
 pub mod Operate

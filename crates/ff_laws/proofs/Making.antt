@@ -1,10 +1,9 @@
 -- A tree that is made of a document keeps stores valid.
-use Rattle.std.proofs.Common.{◌≡◌, ℕ, ◌+◌, ◌-◌, ◌<◌, ◌≤◌, ⊎_elim, true, Option, Some, None, List, [], ◌∷◌, ◌++◌, length, get_or, All, refl, sym, ap, subst, ◌∙◌, arith, length-append}
-use Rattle.std.proofs.lemmas.Bool.{cases_lt, leb-true}
+use Rattle.std.proofs.Common.{◌≡◌, ◌+◌, ◌-◌, ◌<◌, ◌≤◌, ⊎_elim, true, Option, Some, None, List, [], ◌++◌, length, get_or, All, refl, sym, ap, ◌∙◌, arith, length-append}
+use Rattle.std.proofs.lemmas.Bool.{cases_lt}
 use Rattle.std.proofs.lemmas.List.{get_or_append_left, get_or-append-add, get_or_past}
-use Rattle.std.proofs.lemmas.List.Elements.{All-weaker, All-append}
 use Rattle.std.proofs.lemmas.List.Sums.{sum_by-append}
-use Rattle.ff_tree.specs.Spelled.{IsWellSpelledDoc, doc_depth}
+use Rattle.ff_tree.specs.Spelled.{IsWellSpelledDoc}
 use Rattle.ff_tree.specs.Weight.{doc_weight}
 use Rattle.ff_tree.specs.declared.tree.Doc.{Doc}
 use Rattle.ff_value.specs.declared.fault.Fault.{Fault}
@@ -12,21 +11,19 @@ use Rattle.ff_value.specs.declared.ids.ActId.{ActId}
 use Rattle.ff_value.specs.declared.ids.NodeId.{NodeId}
 use Rattle.ff_value.specs.declared.ids.PageId.{PageId}
 use Rattle.ff_value.specs.declared.value.Val.TheVariants as val
-use Rattle.ff_machine.specs.declared.limits.TheConstants.{MOST_NODES, MOST_TREE_DEPTH}
 use Rattle.ff_machine.specs.declared.records.Shape.{Shape}
 use Rattle.ff_machine.specs.declared.records.Shape.TheVariants as shape
 use Rattle.ff_machine.specs.Faults.{limit_unless, first_fault}
 use Rattle.ff_machine.specs.Shapes.{page_of, is_started}
 use Rattle.ff_machine.specs.Nodes as nodes
 use Rattle.ff_machine.specs.Nodes.{Node, no_node, node_at, has_room}
-use Rattle.ff_machine.specs.Documents.{Laid, laid}
+use Rattle.ff_machine.specs.Documents.{laid}
 use Rattle.ff_machine.specs.Windows.{no_page, nth_page}
 use Rattle.ff_machine.specs.Stores as stores
 use Rattle.ff_machine.specs.Stores.{Stores, may_weigh, nothing}
 use Rattle.ff_machine.specs.Operators.{unless, does}
 use Rattle.ff_machine.specs.Reduction.{make_tree, tree_fault, with_tree}
-use Rattle.ff_machine.specs.Alone.{IsNode}
-use Rattle.ff_machine.specs.References.{Made, Grows, made, NodeRefers, PageRefers}
+use Rattle.ff_machine.specs.References.{Made, Grows, made, PageRefers}
 use Rattle.ff_machine.specs.Valid.{IsStores, count_started}
 use Rattle.ff_laws.specs.Keeps.{Keeps}
 use Rattle.ff_laws.specs.Reduced.{KeepsUnlessFault}

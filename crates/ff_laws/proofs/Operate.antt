@@ -1,5 +1,5 @@
 -- Each operator keeps valid stores, and gives a valid value for valid operands.
-use Rattle.std.proofs.Common.{◌≡◌, ℕ, ◌<◌, ◌≤◌, Bool, true, false, cond, ◌&&◌, ◌==◌, pos, nat_abs, Option, Some, None, Err, List, [], ◌∷◌, length, All, FitsSigned, arith, refl, subst, length-append}
+use Rattle.std.proofs.Common.{◌≡◌, ℕ, ◌<◌, Bool, true, false, cond, ◌&&◌, ◌==◌, pos, nat_abs, Option, Some, None, Err, List, [], ◌∷◌, length, All, FitsSigned, arith, refl, subst, length-append}
 use Rattle.std.specs.Int.{w64}
 use Rattle.std.specs.Option.{ForSome}
 use Rattle.std.specs.Str.{IsUtf8}
@@ -19,7 +19,6 @@ use Rattle.ff_value.specs.declared.ids.NodeId.{NodeId}
 use Rattle.ff_value.specs.declared.value.Code.{Code}
 use Rattle.ff_value.specs.declared.value.Val.{Val}
 use Rattle.ff_value.specs.declared.value.Val.TheVariants as val
-use Rattle.ff_operators.specs.Limits.{most_mass}
 use Rattle.ff_machine.specs.declared.records.Dst.TheVariants as dst
 use Rattle.ff_machine.specs.Shapes.{kind_of, text_of}
 use Rattle.ff_machine.specs.Nodes as nodes
@@ -42,11 +41,13 @@ use Rattle.ff_laws.proofs.Cookies.{jar_changed, put_valid, deleted_valid}
 use Rattle.ff_laws.proofs.Inserting.{inserted_valid}
 use Rattle.ff_laws.proofs.Loading.{if_room, opened_valid, go_valid}
 use Rattle.ff_laws.proofs.Operating.{value_given, unless_fault, or_limit, one_outcome, with_open, with_url, applied, on_none, on_str, on_strs, on_win, on_win_str, on_node, on_node_str, on_node_num, on_node_str_num, on_nodes_num, on_node_code, on_strs_code}
-use Rattle.ff_laws.proofs.PureValues.{made_text, apply_valid}
 use Rattle.ff_laws.proofs.Slots.{closed_valid}
 use Rattle.ff_laws.proofs.Starting.{kept, kept_twice}
 use Rattle.ff_laws.proofs.Texts.{takes_one, text_may, with_text_valid, handler_added_valid}
-use Rattle.ff_laws.proofs.Readings.{word_text, url_domain, shape_text, found_item, walked_below, item_below, or_null_valid, cookie_of, printed_text}
+use Rattle.ff_laws.proofs.Readings.{url_domain, shape_text, found_item, walked_below, item_below, or_null_valid, cookie_of}
+use Rattle.ff_laws.proofs.LaterOperators.{made as made_weighs, apply as apply_weighs}
+use Rattle.ff_machine.proofs.Pure.{made_valid, apply_valid}
+use Rattle.ff_machine.proofs.Utf8.{IsUtf8-kind_word, IsUtf8-printed}
 
 module _ (s : Stores) (page : PageId) (valid : IsStores s) (lives : page.0 < length s.windows.pages) where
   abbrev own : Page
@@ -57,9 +58,6 @@ module _ (s : Stores) (page : PageId) (valid : IsStores s) (lives : page.0 < len
 
   own_refers : PageRefers (made s) own
   own_refers = valid.refer.pages page.0 no_page lives
-
-  light : s.mass ≤ most_mass
-  light = valid.light
 
   -- Cookies.
 
@@ -149,7 +147,7 @@ module _ (s : Stores) (page : PageId) (valid : IsStores s) (lives : page.0 < len
   operate_valid op.Url args are = on_win s valid args _ are (λ w there.
       let shows = page_at s.windows (window_at s.windows w).page in
       let is : IsPage (length s.windows.acts) shows = valid.windows.pages.each (window_at s.windows w).page.0 no_page (shown_page w there) in
-      with_open s valid w _ (applied s valid light _ (made_text (made s) s.mass light (printed shows.url) (printed_text shows.url is.url))))
+      with_open s valid w _ (applied s valid _ (made_weighs s.mass (printed shows.url)) (made_valid (made s) s.mass (printed shows.url) (IsUtf8-printed shows.url is.url))))
   operate_valid op.Page args are = on_win s valid args _ are (λ w there.
       let is : PageRefers (made s) (page_at s.windows (window_at s.windows w).page) = valid.refer.pages (window_at s.windows w).page.0 no_page (shown_page w there) in
       with_open s valid w _ (value_given s valid _ (tt, is.root)))
@@ -158,7 +156,7 @@ module _ (s : Stores) (page : PageId) (valid : IsStores s) (lives : page.0 < len
   operate_valid op.OpenNamed args are = on_strs s valid args _ are (λ name address p q. with_url s valid address _ (λ u is. open_named_valid name u (windows.named s.windows name) (named_there name) p is))
   operate_valid op.Go args are = on_win_str s valid args _ are (λ w address there. with_open s valid w _ (with_url s valid address _ (λ u is. or_limit s valid val.Null (stores.go s w u) (go_valid s w u valid there is) (λ t k. (tt, tt)))))
   operate_valid op.Close args are = on_win s valid args _ are (λ w there. with_open s valid w _ (record { keeps = closed_valid s w valid; value = (tt, tt) }))
-  operate_valid op.Kind args are = on_node s valid args _ are (λ n there. value_given s valid _ (word_text (kind_of (node_at s.nodes n).shape), tt))
+  operate_valid op.Kind args are = on_node s valid args _ are (λ n there. value_given s valid _ (IsUtf8-kind_word (kind_of (node_at s.nodes n).shape), tt))
   operate_valid op.Text args are = on_node s valid args _ are (λ n there. text_valid (text_of (node_at s.nodes n).shape) (λ t e. shape_text (node_at s.nodes n).shape t (node_shape n there) e))
   operate_valid op.SetText args are = on_node_str s valid args _ are (λ n t there p.
       unless_fault s valid (stores.set_text_fault s n t) _ (λ no. record { keeps = with_text_valid s n t valid there p (text_may s n t no); value = (tt, tt) }))
@@ -176,4 +174,4 @@ module _ (s : Stores) (page : PageId) (valid : IsStores s) (lives : page.0 < len
       unless_fault s valid (nodes.handler_fault s.nodes n code) _ (λ no. record { keeps = handler_added_valid s n code valid there is no; value = (tt, tt) }))
   operate_valid op.Ask args are = on_strs_code s valid args _ are (λ address body code p q is.
       one_outcome s valid (length code.params == 1) _ (Err fault.Kind) (λ one. with_url s valid address _ (λ u spelled. ask_at_valid body code u is one spelled)) tt)
-  operate_valid pure args are = applied s valid light _ (apply_valid (made s) s.mass light pure args are)
+  operate_valid pure args are = applied s valid _ (apply_weighs pure args s.mass) (apply_valid (made s) pure args s.mass (λ k d lt. (are k d lt).0))

@@ -1,5 +1,5 @@
 -- Operators on valid stores with valid operands keep the stores, and give valid values.
-use Rattle.std.proofs.Common.{◌≡◌, ℕ, ◌<◌, ◌≤◌, Bool, true, false, cond, ℤ, Option, Some, None, Result, Ok, Err, List, [], ◌∷◌, length, All, refl}
+use Rattle.std.proofs.Common.{◌≡◌, ℕ, ◌<◌, Bool, true, false, cond, ℤ, Option, Some, None, Result, Ok, Err, List, [], ◌∷◌, length, All, refl}
 use Rattle.std.specs.Str.{IsUtf8}
 use Rattle.std.proofs.lemmas.List.Elements.{All-head, All-tail}
 use Rattle.ff_reactive.specs.Turns.{Stepped}
@@ -17,7 +17,6 @@ use Rattle.ff_value.specs.declared.value.Code.{Code}
 use Rattle.ff_value.specs.declared.value.Val.{Val}
 use Rattle.ff_value.specs.declared.value.Val.TheVariants as val
 use Rattle.ff_operators.specs.declared.answer.Applied.{Applied}
-use Rattle.ff_operators.specs.Limits.{most_mass}
 use Rattle.ff_operators.specs.Operands.{with_operands, no_operands, one_str, two_strs, one_win, win_str, one_node, node_str, node_num, node_str_num, nodes_num, node_code, strs_code}
 use Rattle.ff_machine.specs.Stores.{Stores}
 use Rattle.ff_machine.specs.Windows.{is_open}
@@ -29,7 +28,8 @@ use Rattle.ff_laws.specs.Keeps.{Keeps, KeepsIfMade}
 use Rattle.ff_laws.specs.Reduced.{KeepsUnlessFault}
 use Rattle.ff_laws.proofs.Simple.{mass_changed}
 use Rattle.ff_laws.proofs.Starting.{kept}
-use Rattle.ff_laws.proofs.PureValues.{IsApplied}
+use Rattle.ff_laws.proofs.LaterOperators.{Weighs}
+use Rattle.ff_machine.proofs.Pure.{AppliesVal}
 
 slash_request : IsRequest (47 ∷ [])
 slash_request = IsRequest-from (47 ∷ []) refl
@@ -76,9 +76,9 @@ module _ (s : Stores) (valid : IsStores s) where
     by (Some u) e = h u (read_spelled text u e)
 
   -- a value and a mass that a pure operator gives
-  pub applied : (light : s.mass ≤ most_mass) (r : Result Applied Fault) → IsApplied (made s) s.mass light r → KeepsUnlessFault s (with_mass s r)
-  applied light (Ok a) h = record { keeps = mass_changed s a.mass valid h.1; value = h.0 }
-  applied light (Err f) h = tt
+  pub applied : (r : Result Applied Fault) → Weighs s.mass r → AppliesVal (made s) r → KeepsUnlessFault s (with_mass s r)
+  applied (Ok a) weighs is = record { keeps = mass_changed s a.mass valid (weighs.1 valid.light); value = is }
+  applied (Err f) weighs is = tt
 
   -- Operands.
 

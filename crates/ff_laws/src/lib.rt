@@ -16,10 +16,10 @@
 //!   valid, and that there is no fault, and says that the stores are kept (`Acts`, `Calling`,
 //!   `Asking`, `Answering`, `Cookies`, `Simple`, `NodeChanges`, `Texts`, `Queues`, `Slots`,
 //!   `Starting`, `Making`, `Loading`, `Inserting`).
-//! - Operators give valid values and keep stores (`Bytes`, `PureValues`, `Operating`, `Readings`,
-//!   `Operate`), and so does one reduction (`Becoming`, `Reducing`).
-//! - Trees: a walk comes to a node once at most (`Walks`); documents are laid as trees (`Forests`,
-//!   `Laid`, `LaidDocs`, `Planted`); a tree put under a node leaves trees (`Rooted`, `Joining`).
+//! - Operators give valid values and keep stores (`Operating`, `Readings`, `Operate`), and so does
+//!   one reduction (`Becoming`, `Reducing`).
+//! - A walk of a valid tree comes to each node once at most (`Walks`), so the scripts of a tree each
+//!   start once. That trees which are made or joined leave valid nodes is cited from `ff_machine`.
 #![tactic(auto)]
 
 mod keeping;
