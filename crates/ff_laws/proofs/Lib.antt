@@ -32,3 +32,4 @@ pub mod Reducing
 pub mod Operating
 pub mod Readings
 pub mod Operate
+pub mod Inputs

@@ -8,6 +8,7 @@ use Rattle.ff_machine.specs.declared.limits.TheConstants.{MOST_TREE_DEPTH}
 use Rattle.ff_machine.specs.Nodes.{Node, node_at, children, parent, walk_within, Walk, at_parent, depth_within, depth, scripts}
 use Rattle.ff_machine.specs.Shapes.{is_unstarted}
 use Rattle.ff_machine.specs.Alone.{AreTrees}
+use Rattle.ff_machine.proofs.Depths.{depth_up}
 use Rattle.ff_laws.proofs.Sums.{if_so}
 
 -- how often a node stands in a list
@@ -48,24 +49,6 @@ pub same_node : (a b : NodeId) → (a.0 == b.0) ≡ true → a ≡ b
 same_node a b e = ap (λ (k : ℕ). let n : NodeId = record { 0 = k } in n) (eqb-true a.0 b.0 e)
 
 module _ (all : List Node) (trees : AreTrees all) where
-  -- Depths.
-
-  stable : (k : ℕ) (n : NodeId) → depth_within k all n < k → depth_within (suc k) all n ≡ depth_within k all n
-  stable zero n h = absurd (omega (arith, h))
-  stable (suc k) n h = by (parent all n) (λ p. stable k p) h where
-    by : (o : Option NodeId) → ((p : NodeId) → depth_within k all p < k → depth_within (suc k) all p ≡ depth_within k all p) → at_parent 0 (λ p. suc (depth_within k all p)) o < suc k
-        → at_parent 0 (λ p. suc (depth_within (suc k) all p)) o ≡ at_parent 0 (λ p. suc (depth_within k all p)) o
-    by None up h = refl
-    by (Some p) up h = ap suc (up p (omega (arith, h)))
-
-  -- a child stands one deeper than its parent
-  pub depth_child : (m p : NodeId) → parent all m ≡ Some p → depth all m ≡ suc (depth all p)
-  unfolding depth
-  depth_child m p e =
-      let down : depth_within (suc MOST_TREE_DEPTH) all m ≡ suc (depth_within MOST_TREE_DEPTH all p) = ap (at_parent 0 (λ q. suc (depth_within MOST_TREE_DEPTH all q))) e in
-      let ends = trees.ends m in
-      down ∙ ap suc (sym (stable MOST_TREE_DEPTH p (omega (arith, ends, down))))
-
   -- Walks, by their last step.
 
   none_some : {q : NodeId} → None ≡ Some q → ⊥
@@ -135,7 +118,7 @@ module _ (all : List Node) (trees : AreTrees all) where
         → depth all n ≤ depth all m
     by true o e q ih h = let same : depth all n ≡ depth all m = ap (depth all) (same_node n m e) in omega (arith, same)
     by false None e q ih h = absurd (omega (arith, h))
-    by false (Some p) e q ih h = let above = ih p (omega (arith, h)) in omega (arith, above, depth_child m p q)
+    by false (Some p) e q ih h = let above = ih p (omega (arith, h)) in omega (arith, above, depth_up all trees m p q)
 
   -- a walk comes to a node once at most
   pub walked_once : (k : ℕ) (n m : NodeId) → times m (walk_within k all n) ≤ 1
@@ -144,7 +127,7 @@ module _ (all : List Node) (trees : AreTrees all) where
       subst (λ (t : ℕ). t ≤ 1) (sym (last_step k n m)) (by (n.0 == m.0) (parent all m) refl refl (λ p. walked_once k n p)) where
         above_none : (p : NodeId) → parent all m ≡ Some p → (n.0 == m.0) ≡ true → times p (walk_within k all n) ≡ 0
         above_none p q e =
-            ⊎_elim (λ h. absurd (omega (arith, deeper k n p h, depth_child m p q, ap (depth all) (same_node n m e)))) (λ h. omega (arith, h)) (cases_lt 0 (times p (walk_within k all n)))
+            ⊎_elim (λ h. absurd (omega (arith, deeper k n p h, depth_up all trees m p q, ap (depth all) (same_node n m e)))) (λ h. omega (arith, h)) (cases_lt 0 (times p (walk_within k all n)))
 
         by : (b : Bool) (o : Option NodeId) → (n.0 == m.0) ≡ b → parent all m ≡ o → ((p : NodeId) → times p (walk_within k all n) ≤ 1) → if_so b + up k n o ≤ 1
         by true None e q ih = omega arith
