@@ -1,5 +1,5 @@
 -- An input keeps stores valid.
-use Rattle.std.proofs.Common.{◌≡◌, ℕ, ◌+◌, ◌<◌, ◌≤◌, Bool, true, false, cond, Option, Some, None, List, [], ◌∷◌, map, length, slice_get, filter, unwrap_or, All, refl, sym, ap, subst, ◌∙◌, arith}
+use Rattle.std.proofs.Common.{◌≡◌, ℕ, ◌<◌, ◌≤◌, Bool, true, false, cond, Option, Some, None, List, [], ◌∷◌, map, length, slice_get, unwrap_or, All, refl, subst, arith}
 use Rattle.std.specs.Prelude.{⊤}
 use Rattle.std.specs.Str.{IsUtf8}
 use Rattle.std.specs.List.{AllByRecursion}
@@ -144,11 +144,11 @@ receive_keeps s domain r pending valid is_domain is asked_is refers =
     let t = with_stores s counted in
     one_step_keeps s (may_weigh s.stores (resp_weight r)) (deliver t domain pending (Some r)) (deliver s domain pending None)
     (λ may.
-        let first = weighed_valid s.stores (resp_weight r) valid may in
-        let second = put_cookies_valid heavier domain (entries_of r) first.stores is_domain (cookies_spelled r is.spelled) in
-        let both = kept_twice s.stores heavier counted first second in
-        kept_twice s.stores counted (deliver t domain pending (Some r)).after.stores both
-        (deliver_keeps t both.stores (url.At domain pending.uri) (Some r) pending.dst (is_domain, asked_is.uri) is (dst_refers_grows (made s.stores) (made counted) both.grows pending.dst refers)))
+    let first = weighed_valid s.stores (resp_weight r) valid may in
+    let second = put_cookies_valid heavier domain (entries_of r) first.stores is_domain (cookies_spelled r is.spelled) in
+    let both = kept_twice s.stores heavier counted first second in
+    kept_twice s.stores counted (deliver t domain pending (Some r)).after.stores both
+    (deliver_keeps t both.stores (url.At domain pending.uri) (Some r) pending.dst (is_domain, asked_is.uri) is (dst_refers_grows (made s.stores) (made counted) both.grows pending.dst refers)))
     (deliver_keeps s valid (url.At domain pending.uri) None pending.dst (is_domain, asked_is.uri) tt refers)
 
 reply_keeps : (s : State) (domain : List ℕ) (k : ℕ) (r : Resp) (o : Option Pending) → slice_get (asked s.stores.requests domain) k ≡ o → IsStores s.stores → IsDomain domain → IsWellSpelledResp r
@@ -160,8 +160,8 @@ reply_keeps s domain k r (Some pending) e valid is_domain is =
     let asks = asked s.stores.requests domain in
     kept_twice s.stores t (receive (with_stores s t) domain r pending).after.stores first
     (receive_keeps (with_stores s t) domain r pending first.stores is_domain is
-        (got_item IsPending asks k pending e (pending_valid s.stores.requests domain (finmap.get s.stores.requests domain) refl valid.requests))
-        (got_item (PendingRefers (made s.stores)) asks k pending e (valid.refer.requests domain)))
+    (got_item IsPending asks k pending e (pending_valid s.stores.requests domain (finmap.get s.stores.requests domain) refl valid.requests))
+    (got_item (PendingRefers (made s.stores)) asks k pending e (valid.refer.requests domain)))
 
 typed_keeps : (s : State) (w : WinId) (m : NodeId) (text : List ℕ) → IsStores s.stores → m.0 < length s.stores.nodes → IsUtf8 text
     → Keeps s.stores (given s (stores.type_text s.stores m text) (λ t. nothing (call_handlers (with_stores s t) w m))).after.stores

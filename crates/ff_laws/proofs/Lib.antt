@@ -33,3 +33,4 @@ pub mod Operating
 pub mod Readings
 pub mod Operate
 pub mod Inputs
+pub mod Working

@@ -5,7 +5,7 @@ use Rattle.std.proofs.lemmas.List.Elements.{All-head, All-tail}
 use Rattle.std.proofs.lemmas.List.Sums.{sum_by-cons}
 use Rattle.ff_value.specs.declared.ids.NodeId.{NodeId}
 use Rattle.ff_machine.specs.declared.limits.TheConstants.{MOST_TREE_DEPTH}
-use Rattle.ff_machine.specs.Nodes.{Node, node_at, children, parent, walk_within, Walk, at_parent, depth_within, depth, scripts}
+use Rattle.ff_machine.specs.Nodes.{Node, node_at, children, parent, walk_within, Walk, at_parent, depth, scripts}
 use Rattle.ff_machine.specs.Shapes.{is_unstarted}
 use Rattle.ff_machine.specs.Alone.{AreTrees}
 use Rattle.ff_machine.proofs.Depths.{depth_up}

@@ -8,7 +8,8 @@ ghost use Rattle.ff_tree.specs.Spelled.{IsVar, AreParams, IsWellSpelledDoc, IsWe
 ghost use Rattle.ff_tree.specs.declared.op.Op.{Op};
 ghost use Rattle.ff_tree.specs.declared.tree.Doc.{Doc};
 ghost use Rattle.ff_tree.specs.declared.tree.Expr.{Expr};
-ghost use Rattle.ff_value.specs.Spelled.{IsCookieOp};
+ghost use Rattle.ff_value.specs.Spelled.{IsCookieOp, IsWellSpelledInput};
+ghost use Rattle.ff_value.specs.declared.input.Input.{Input};
 ghost use Rattle.ff_value.specs.declared.ids.ActId.{ActId};
 ghost use Rattle.ff_value.specs.declared.ids.NodeId.{NodeId};
 ghost use Rattle.ff_value.specs.declared.ids.PageId.{PageId};
@@ -25,7 +26,9 @@ ghost use Rattle.ff_machine.specs.Stores as stores;
 ghost use Rattle.ff_machine.specs.Stores.{Stores};
 ghost use Rattle.ff_machine.specs.Operators.{operate};
 ghost use Rattle.ff_machine.specs.Reduction.{Red, with_acts, make_tree};
-ghost use Rattle.ff_machine.specs.State.{Task};
+ghost use Rattle.ff_machine.specs.State.{State, Task};
+ghost use Rattle.ff_machine.specs.Inputs.{begin};
+ghost use Rattle.ff_machine.specs.Turns.{turn};
 ghost use Rattle.ff_machine.specs.Alone.{IsDst};
 ghost use Rattle.ff_machine.specs.References.{Made, Grows, made, DstRefers, StoresRefer};
 ghost use Rattle.ff_machine.specs.Valid.{IsCode, IsVal, IsRunning, IsStores, IsTask};
@@ -84,4 +87,10 @@ pub fn operators_keep_stores_valid()
 /// One reduction, for a page that was made, keeps stores and the evaluation valid.
 pub fn a_reduction_keeps_stores_valid()
     ensures { (s : Stores) (page : PageId) (t : Evaluation) → IsStores s → page.0 < length s.windows.pages → t.base.0 < length s.windows.acts → IsRunning (made s) t.expr → is_value t.expr ≡ false → MovesUnlessFault s (Red s page t) }
+{}
+
+/// Taking a well spelled input keeps stores valid, and so does a turn whose tasks are valid.
+pub fn inputs_and_turns_keep_stores_valid()
+    ensures begin { (s : State) (i : Input) → IsStores s.stores → IsWellSpelledInput i → Keeps s.stores (begin s i).after.stores }
+    ensures turn { (s : State) → IsStores s.stores → All (IsTask s.stores) s.tasks → Keeps s.stores (turn s).after.stores }
 {}

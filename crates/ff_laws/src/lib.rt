@@ -17,7 +17,8 @@
 //!   `Asking`, `Answering`, `Cookies`, `Simple`, `NodeChanges`, `Texts`, `Queues`, `Slots`,
 //!   `Starting`, `Making`, `Loading`, `Inserting`).
 //! - Operators give valid values and keep stores (`Operating`, `Readings`, `Operate`), and so does
-//!   one reduction (`Becoming`, `Reducing`).
+//!   one reduction (`Becoming`, `Reducing`), taking an input (`Inputs`), and a turn whose tasks are
+//!   valid (`Working`). That the tasks stay valid is not proved.
 //! - A walk of a valid tree comes to each node once at most (`Walks`), so the scripts of a tree each
 //!   start once. That trees which are made or joined leave valid nodes is cited from `ff_machine`.
 #![tactic(auto)]
@@ -26,8 +27,8 @@ mod keeping;
 mod law;
 
 pub use keeping::{
-    a_reduction_keeps_stores_valid, counts_only_grow, nodes_keep_stores_valid,
-    operators_keep_stores_valid, requests_and_cookies_keep_stores_valid,
+    a_reduction_keeps_stores_valid, counts_only_grow, inputs_and_turns_keep_stores_valid,
+    nodes_keep_stores_valid, operators_keep_stores_valid, requests_and_cookies_keep_stores_valid,
     variables_keep_stores_valid, windows_keep_stores_valid,
 };
 pub use law::{
