@@ -91,7 +91,7 @@ module _ (requests : Requests) (domain : List ℕ) (all : List Pending) where
   }
 
 -- the requests of a domain, if there are any, are valid
-asked_each : (requests : Requests) (domain : List ℕ) (o : Option (List Pending)) → finmap.get requests domain ≡ o → AreRequests requests → All IsPending (unwrap_or o [])
+pub asked_each : (requests : Requests) (domain : List ℕ) (o : Option (List Pending)) → finmap.get requests domain ≡ o → AreRequests requests → All IsPending (unwrap_or o [])
 asked_each requests domain None e are = All-nil IsPending
 asked_each requests domain (Some ps) e are = (are.each domain ps e).each
 

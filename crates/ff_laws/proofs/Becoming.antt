@@ -27,14 +27,11 @@ use Rattle.ff_machine.specs.References.{made}
 use Rattle.ff_machine.specs.Valid.{IsVal, IsCode, IsRunning, IsRedex, IsStores, valid}
 use Rattle.ff_laws.specs.Keeps.{Keeps}
 use Rattle.ff_laws.specs.Reduced.{KeepsUnlessFault, IsGood, MovesUnlessFault}
-use Rattle.ff_laws.proofs.Growing.{as_many, val_grows}
+use Rattle.ff_laws.proofs.Growing.{val_grows}
 use Rattle.ff_laws.proofs.Redexes.{local_valid, rewritten_valid, source_valid, redex_valid, innermost_lives}
 use Rattle.ff_laws.proofs.Acts.{declared_valid, assigned_valid, looked_up_valid}
 use Rattle.ff_laws.proofs.Calling.{called_valid}
-
--- stores that stay as they are
-pub kept : (s : Stores) → IsStores s → Keeps s s
-kept s valid_s = record { stores = valid_s; grows = as_many (made s) }
+use Rattle.ff_laws.proofs.Starting.{kept}
 
 outcome_good : (s : Stores) (o : Outcome) → KeepsUnlessFault s o → IsGood s (of_outcome o)
 outcome_good s (Ok did) h = record { keeps = h.keeps; part = h.value }

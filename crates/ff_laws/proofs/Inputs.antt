@@ -1,11 +1,11 @@
 -- An input keeps stores valid.
-use Rattle.std.proofs.Common.{◌≡◌, ℕ, ◌<◌, ◌≤◌, Bool, true, false, cond, Option, Some, None, List, [], ◌∷◌, map, length, slice_get, unwrap_or, All, refl, subst, arith}
+use Rattle.std.proofs.Common.{◌≡◌, ℕ, ◌<◌, ◌≤◌, Bool, true, false, cond, Option, Some, None, List, [], ◌∷◌, map, length, slice_get, All, refl, subst, arith}
 use Rattle.std.specs.Prelude.{⊤}
 use Rattle.std.specs.Str.{IsUtf8}
 use Rattle.std.specs.List.{AllByRecursion}
 use Rattle.std.specs.FinMap as finmap
 use Rattle.std.proofs.lemmas.Option.{get_or_from_slice_get, slice_get_within}
-use Rattle.std.proofs.lemmas.List.Elements.{All-nil, All-filter, All-weaker}
+use Rattle.std.proofs.lemmas.List.Elements.{All-filter, All-weaker}
 use Rattle.ff_reactive.specs.Turns.{Stepped}
 use Rattle.ff_name.specs.Spelling.{IsDomain}
 use Rattle.ff_name.specs.Address.{IsWellSpelled}
@@ -35,18 +35,18 @@ use Rattle.ff_machine.specs.Shapes.{kind_word, url_of}
 use Rattle.ff_machine.specs.Nodes as nodes
 use Rattle.ff_machine.specs.Nodes.{Node, no_node, node_at, Walk}
 use Rattle.ff_machine.specs.Windows.{no_page, no_window, page_at, window_at, is_open, is_live}
-use Rattle.ff_machine.specs.Net.{Requests, asked, answered}
+use Rattle.ff_machine.specs.Net.{asked, answered}
 use Rattle.ff_machine.specs.Stores as stores
 use Rattle.ff_machine.specs.Stores.{Stores, may_weigh}
 use Rattle.ff_machine.specs.State.{State, Step, nothing, with_stores, if_room, given}
 use Rattle.ff_machine.specs.Inputs.{user_window, user_node, page_in, goes, links, closes, types, clicks, call_handlers, load_reply, slot_body, deliver_to, deliver, entries_of, receive, perform, begin}
-use Rattle.ff_machine.specs.Alone.{IsShape, IsNode, IsWindow, IsPending, AreRequests}
+use Rattle.ff_machine.specs.Alone.{IsShape, IsNode, IsWindow, IsPending}
 use Rattle.ff_machine.specs.References.{made, PageRefers, DstRefers}
 use Rattle.ff_machine.specs.Valid.{IsStores}
 use Rattle.ff_laws.specs.Keeps.{Keeps, KeepsIfMade}
 use Rattle.ff_laws.proofs.Growing.{dst_refers_grows}
 use Rattle.ff_laws.proofs.Answering.{answered_valid}
-use Rattle.ff_laws.proofs.Asking.{PendingRefers}
+use Rattle.ff_laws.proofs.Asking.{PendingRefers, asked_each}
 use Rattle.ff_laws.proofs.Cookies.{put_cookies_valid}
 use Rattle.ff_laws.proofs.Loading.{load_valid, go_valid, opens_valid}
 use Rattle.ff_laws.proofs.Readings.{walked_below}
@@ -75,10 +75,6 @@ one_step_keeps s true x y g h = g refl
 one_step_keeps s false x y g h = h
 
 -- What is read off valid stores.
-
-pending_valid : (requests : Requests) (domain : List ℕ) (o : Option (List Pending)) → finmap.get requests domain ≡ o → AreRequests requests → All IsPending (unwrap_or o [])
-pending_valid requests domain None e are = All-nil IsPending
-pending_valid requests domain (Some ps) e are = (are.each domain ps e).each
 
 shape_url : (x : Shape) (u : Url) → IsShape x → url_of x ≡ Some u → IsWellSpelled u
 shape_url (shape.Link x at text) u is e = let same : at ≡ u = cc in subst IsWellSpelled same is.1
@@ -160,7 +156,7 @@ reply_keeps s domain k r (Some pending) e valid is_domain is =
     let asks = asked s.stores.requests domain in
     kept_twice s.stores t (receive (with_stores s t) domain r pending).after.stores first
     (receive_keeps (with_stores s t) domain r pending first.stores is_domain is
-    (got_item IsPending asks k pending e (pending_valid s.stores.requests domain (finmap.get s.stores.requests domain) refl valid.requests))
+    (got_item IsPending asks k pending e (asked_each s.stores.requests domain (finmap.get s.stores.requests domain) refl valid.requests))
     (got_item (PendingRefers (made s.stores)) asks k pending e (valid.refer.requests domain)))
 
 typed_keeps : (s : State) (w : WinId) (m : NodeId) (text : List ℕ) → IsStores s.stores → m.0 < length s.stores.nodes → IsUtf8 text
