@@ -1,0 +1,4 @@
+pub mod Finding
+pub mod Cookies
+pub mod Pairs
+pub mod Taken

@@ -1,0 +1,1 @@
+-- The pairs of a domain, gathered in order.
