@@ -40,7 +40,8 @@ at_is_tied domain key cookie =
     ∙ cc (is_eq-slice_cmp cookie.0.0 domain, is_eq-slice_cmp cookie.0.1 key))
     ∙ (eq_by_cmp_equiv cookie_total).symm cookie.0 (domain, key)
 
-abbrev Entry : Type 0
+-- a cookie as an entry
+abbrev pub Entry : Type 0
 Entry = (List ℕ × List ℕ) × List ℕ
 
 module _ (domain key : List ℕ) (rows : List Entry) (i : ℕ) (first : i ≡ position_or_len (is_at domain key) rows) where

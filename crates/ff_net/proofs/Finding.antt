@@ -100,7 +100,7 @@ module _ {K X : Type 0} {R : K → K → Ordering} (o : IsTotalOrder R) where
       ] none
 
   -- a key that no entry has is new to the map
-  new_key : (e : K × X) (es : List (K × X)) → AreApart R (e ∷ es) → finmap.get (finmap.from_entries {R = R} es) e.0 ≡ None
+  pub new_key : (e : K × X) (es : List (K × X)) → AreApart R (e ∷ es) → finmap.get (finmap.from_entries {R = R} es) e.0 ≡ None
   new_key e es apart = finmap.get-from_entries o es e.0 ∙ none_later e.0 e es apart ((eq_by_cmp_equiv o).refl e.0)
 
   -- a sum over the map's entries

@@ -1,4 +1,4 @@
 pub mod Finding
 pub mod Cookies
-pub mod Pairs
+pub mod Gathered
 pub mod Taken

@@ -6,6 +6,7 @@ ghost use Rattle.ff_machine.specs.Net as net;
 ghost use Rattle.ff_operators.specs.Answers.{Answers, OnFault};
 
 use crate::cookie::{Cookie, has_cookie_size, has_room, place_of};
+use crate::pairs::pairs_of;
 use crate::rows::Rows;
 use ff_name::{Domain, NoMemory, Text};
 use ff_operators::Fail;
@@ -111,6 +112,14 @@ impl Jar {
             self.cookies.swap_remove(place, copies)?;
         }
         Ok(())
+    }
+
+    /// A domain's keys and values, in byte order of the keys.
+    pub fn of(&self, domain: &Domain) -> Result<Pairs, NoMemory>
+        ensures { IfOk result (λ pairs. pairs ≡ net.pairs_of self.now domain.now) }
+    {
+        let pairs = pairs_of(self.alloc, &self.cookies, domain)?;
+        Pairs::from_vec(self.alloc, pairs)
     }
 
     /// An equal jar that shares its cookies with this one: none is copied, and no later change of

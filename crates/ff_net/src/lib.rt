@@ -8,6 +8,7 @@
 
 mod cookie;
 mod jar;
+mod pairs;
 mod rows;
 
 pub use jar::Jar;

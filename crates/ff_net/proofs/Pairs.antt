@@ -1,1 +1,0 @@
--- The pairs of a domain, gathered in order.
