@@ -6,6 +6,7 @@
 //! the rows and takes no memory; a row is taken out by putting the last one into its place.
 #![tactic(auto)]
 
+mod ask;
 mod cookie;
 mod jar;
 mod pairs;

@@ -1,6 +1,6 @@
 //! A list that forks share, and that can shrink: cells behind its end wait to be written again.
-ghost use Rattle.std.specs.Prelude.{◌≡◌, ◌+◌, ◌<◌, ◌≤◌, [], ◌∷◌, ◌++◌, length, Some, IfOk, OnOk, OnErr, slice_get, slice_set};
-ghost use Rattle.std.specs.List.{swap_remove};
+ghost use Rattle.std.specs.Prelude.{◌≡◌, ◌+◌, ◌*◌, ◌<◌, ◌≤◌, [], ◌∷◌, ◌++◌, length, Some, IfOk, OnOk, OnErr, slice_get, slice_set};
+ghost use Rattle.std.specs.List.{remove, swap_remove};
 
 use ff_cow::{Cell, CowVec};
 use ff_name::NoMemory;
@@ -124,6 +124,29 @@ impl<V> Rows<V> {
         let last = self.len() - 1;
         let moved = self.at(last).copy(copies)?;
         self.set(i, moved, copies)?;
+        self.len = last;
+        Ok(())
+    }
+
+    /// Takes out the row at a place that there is; later ones move down. After a refusal, for want
+    /// of memory, the rows are not stated.
+    pub(crate) fn remove<C: Ledger>(
+        &mut self,
+        i: u32,
+        copies: &mut Steps<C>,
+    ) -> Result<(), NoMemory>
+    where
+        V: Cell<C>,
+        requires { i < length self.old }
+        ensures ok { OnOk result (self.new ≡ remove self.old i) }
+        ensures later { copies.old ≤ copies.new }
+        ensures copies { copies.new + 17 ≤ copies.old + 17 * length self.old }
+    {
+        let last = self.len() - 1;
+        for j in i..last {
+            let moved = self.at(j + 1).copy(copies)?;
+            self.set(j, moved, copies)?;
+        }
         self.len = last;
         Ok(())
     }
