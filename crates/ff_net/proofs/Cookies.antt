@@ -19,7 +19,8 @@ use Rattle.ff_machine.specs.declared.limits.TheConstants.{MOST_COOKIES, MOST_COO
 use Rattle.ff_machine.specs.Net.{Jar, cookie_cmp, cookie, cookies_of, cookie_put, cookie_deleted, cookie_fault, has_cookie_size, has_cookie_room}
 use Rattle.ff_net.specs.Cookies.{is_of, is_at}
 use Rattle.ff_net.specs.Entries.{AreApart}
-use Rattle.ff_net.proofs.Finding.{found, remove_none, sum_entries, len_entries, apart_pushed, map_pushed, apart_set, map_set, apart_removed, map_removed}
+use Rattle.ff_net.proofs.Finding.{sum_entries, len_entries}
+use Rattle.ff_net.proofs.Keyed.{IsPlace}
 
 pub cookie_total : IsTotalOrder cookie_cmp
 cookie_total = then_total (on_total (λ (s : List ℕ × List ℕ). s.0) nat_list_cmp_total) (on_total (λ (s : List ℕ × List ℕ). s.1) nat_list_cmp_total)
@@ -44,55 +45,13 @@ at_is_tied domain key cookie =
 abbrev pub Entry : Type 0
 Entry = (List ℕ × List ℕ) × List ℕ
 
-module _ (domain key : List ℕ) (rows : List Entry) (i : ℕ) (first : i ≡ position_or_len (is_at domain key) rows) where
-  -- the value of the cookie at the first place that passes
-  cookie_is : cookie (finmap.from_entries rows) domain key ≡ option_map (λ (e : Entry). e.1) (slice_get rows i)
-  cookie_is = found cookie_total (is_at domain key) (domain, key) (at_is_tied domain key) rows ∙ ap (λ k. option_map (λ (e : Entry). e.1) (slice_get rows k)) (sym first)
-
-  pub cookie_there : (x : Entry) → slice_get rows i ≡ Some x → cookie (finmap.from_entries rows) domain key ≡ Some x.1
-  cookie_there x is = cookie_is ∙ ap (option_map (λ (e : Entry). e.1)) is
-
-  -- where no place passes, there is none
-  pub no_cookie : length rows ≤ i → cookie (finmap.from_entries rows) domain key ≡ None
-  no_cookie past = cookie_is ∙ ap (option_map (λ (e : Entry). e.1)) (slice_get_past rows i past)
-
-  -- taking out what isn't there changes nothing
-  pub nothing_removed : length rows ≤ i → finmap.from_entries rows ≡ cookie_deleted (finmap.from_entries rows) domain key
-  nothing_removed past = remove_none cookie_total cookie_exact (finmap.from_entries rows) (domain, key) (no_cookie past)
-
-  module _ (apart : AreApart cookie_cmp rows) where
-    -- a new cookie
-    pub apart_more : length rows ≤ i → (value : List ℕ) → AreApart cookie_cmp (rows ++ ((domain, key), value) ∷ [])
-    apart_more past value = apart_pushed cookie_total cookie_exact rows apart (domain, key) value (no_cookie past)
-
-    pub put_more : length rows ≤ i → (value : List ℕ) → finmap.from_entries (rows ++ ((domain, key), value) ∷ []) ≡ cookie_put (finmap.from_entries rows) domain key value
-    put_more past value = map_pushed cookie_total cookie_exact rows apart (domain, key) value (no_cookie past)
-
-    module _ (within : i < length rows) where
-      here : Entry
-      here = get_or rows i (([], []), [])
-
-      here_is : here ≡ get_or rows i here
-      unfolding here
-      here_is = get_or_default rows i (([], []), []) here within
-
-      passes : eq_by_cmp cookie_cmp (domain, key) here.0 ≡ true
-      unfolding here
-      passes = sym (at_is_tied domain key here) ∙ rw first (passes_at_first (is_at domain key) rows (([], []), []) (rw first at within))
-
-      -- a cookie written over one of its key
-      pub apart_over : (value : List ℕ) → AreApart cookie_cmp (set rows i ((domain, key), value))
-      apart_over value = apart_set cookie_total cookie_exact rows apart i here within here_is (domain, key) value passes
-
-      pub put_over : (value : List ℕ) → finmap.from_entries (set rows i ((domain, key), value)) ≡ cookie_put (finmap.from_entries rows) domain key value
-      put_over value = map_set cookie_total cookie_exact rows apart i here within here_is (domain, key) value passes
-
-      -- a cookie taken out
-      pub apart_out : (new : List Entry) → ((d : Entry) → new ≡ swap_remove rows i d) → AreApart cookie_cmp new
-      apart_out new is = subst (AreApart cookie_cmp) (sym (is here)) (apart_removed cookie_total cookie_exact rows apart i here within here_is)
-
-      pub taken_out : (new : List Entry) → ((d : Entry) → new ≡ swap_remove rows i d) → finmap.from_entries new ≡ cookie_deleted (finmap.from_entries rows) domain key
-      taken_out new is = ap finmap.from_entries (is here) ∙ map_removed cookie_total cookie_exact rows apart i here within here_is (domain, key) passes
+-- the place of a cookie's key is the first that passes
+pub cookie_place : (domain key : List ℕ) (rows : List Entry) (i : ℕ) → i ≡ position_or_len (is_at domain key) rows → IsPlace cookie_cmp rows (domain, key) i
+cookie_place domain key rows i first = record {
+  test = is_at domain key;
+  tests = at_is_tied domain key;
+  first = first;
+}
 
 -- how many cookies a domain has
 pub counted : (domain : List ℕ) (rows : List Entry) → AreApart cookie_cmp rows → cookies_of (finmap.from_entries rows) domain ≡ count_by (is_of domain) rows

@@ -1,4 +1,5 @@
 pub mod Finding
 pub mod Cookies
 pub mod Gathered
+pub mod Keyed
 pub mod Taken
