@@ -10,8 +10,12 @@ use Rattle.ff_net.specs.Entries.{AreApart}
 abbrev pub is_to : List ℕ → List ℕ × List Pending → Bool
 is_to domain asked = bytes_eq asked.0 domain
 
+-- how many requests they are together
+abbrev pub count_rows : List (List ℕ × List Pending) → ℕ
+count_rows rows = sum_by (λ e. length e.1) rows
+
 -- rows of requests, no two to one domain, and how many requests they are
 pub record AreCounted (rows : List (List ℕ × List Pending)) (total : ℕ) : Type 0 where
   pub apart : AreApart (slice_cmp nat_cmp) rows
-  pub counted : total ≡ sum_by (λ e. length e.1) rows
+  pub counted : total ≡ count_rows rows
   pub few : total ≤ MOST_ASKS

@@ -1,6 +1,5 @@
 //! Pending requests: one, and those of one domain.
 ghost use Rattle.std.specs.Prelude.{◌≡◌, IfOk};
-ghost use Rattle.std.specs.List.{position_or_len};
 ghost use Rattle.ff_net.specs.Asks.{is_to};
 
 use crate::rows::Rows;
@@ -101,16 +100,4 @@ impl<C: Ledger> Cell<C> for Asked {
         copies.tick();
         Asked::of(&self.domain, self.asks.fork(copies)?)
     }
-}
-
-/// The place of the domain's requests, or the number of rows where the domain has none.
-pub(crate) fn place_to(rows: &Rows<Asked>, domain: &Domain) -> u32
-    ensures { result ≡ position_or_len (is_to domain.now) rows.now }
-{
-    for i in 0..rows.len() {
-        if rows.at(i).is_to(domain) {
-            return i;
-        }
-    }
-    rows.len()
 }

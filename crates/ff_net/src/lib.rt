@@ -7,9 +7,12 @@
 #![tactic(auto)]
 
 mod ask;
+mod asked;
 mod cookie;
 mod jar;
 mod pairs;
+mod requests;
 mod rows;
 
 pub use jar::Jar;
+pub use requests::Requests;

@@ -3,7 +3,7 @@ use Rattle.std.proofs.lemmas.Option.{get_or_from_slice_get}
 use Rattle.std.proofs.lemmas.List.Sums.{position_or_len_is}
 use Rattle.ff_machine.specs.declared.records.Pending.{Pending}
 use Rattle.ff_net.specs.Asks.{is_to}
-use Rattle.ff_net.proofs.ask.place_to.Goals as goal
+use Rattle.ff_net.proofs.asked.place_to.Goals as goal
 
 pub returns-then-is_to : goal.returns-then-is_to
 returns-then-is_to c =

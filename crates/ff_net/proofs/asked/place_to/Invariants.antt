@@ -1,6 +1,6 @@
 use Rattle.std.proofs.Common.{◌≡◌, ℕ, ◌<◌, false, [], get_or}
 use Rattle.ff_net.specs.Asks.{is_to}
-use Rattle.ff_net.proofs.ask.place_to.Given as goal
+use Rattle.ff_net.proofs.asked.place_to.Given as goal
 
 -- no row before this one passes
 abbrev pub invariant-loop-i : goal.invariant-loop-i
