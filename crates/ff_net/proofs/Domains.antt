@@ -1,10 +1,11 @@
 -- The order of domains, what the rows of requests say, and what one change of them does.
-use Rattle.std.proofs.Common.{◌≡◌, ℕ, ◌+◌, ◌<◌, ◌≤◌, Bool, true, ◌&&◌, nat_lt, Option, Some, None, unwrap_or, List, [], ◌∷◌, ◌++◌, length, get_or, set, map, sum_by, fold, refl, sym, ap, subst, ◌∙◌, bytes_eq, arith}
+use Rattle.std.proofs.Common.{◌≡◌, ℕ, ◌+◌, ◌<◌, ◌≤◌, Bool, true, false, ◌&&◌, nat_lt, Option, Some, None, unwrap_or, List, [], ◌∷◌, ◌++◌, length, get_or, set, map, sum_by, fold, refl, sym, ap, subst, ◌∙◌, bytes_eq, arith}
 use Rattle.std.specs.Ordering.{nat_cmp, eq_by_cmp}
 use Rattle.std.specs.Cmp.{eq_by_cmp_equiv}
 use Rattle.std.specs.Cmp.Lexicographic.{slice_cmp, nat_list_cmp_total}
 use Rattle.std.specs.List.{slice_get, swap_remove, position_or_len}
 use Rattle.std.specs.FinMap as finmap
+use Rattle.std.proofs.lemmas.Bool.Decides.{nat_tests}
 use Rattle.std.proofs.lemmas.Option.{slice_get_within, get_or_from_slice_get}
 use Rattle.std.proofs.lemmas.List.Folds.{fold-map}
 use Rattle.std.proofs.lemmas.List.Sums.{sum_by-cons, sum_by-set, sum_by_push}
@@ -123,3 +124,13 @@ module _ (domain : List ℕ) (rows : List Row) (i : ℕ) (first : i ≡ position
 
       pub count_added : count_rows new + length (asked (finmap.from_entries rows) domain) ≡ count_rows rows + length ps
       count_added = omega (arith, sum_by_push (λ (e : Row). length e.1) rows (domain, ps), ap length (asked_past past), ap count_rows added)
+
+both_true : (a b : Bool) → (a && b) ≡ true → b ≡ true
+both_true true b h = h
+both_true false b h = cc
+
+-- where there is room, fewer than the most are pending
+pub fewer_than_most : (rows : List Row) (total : ℕ) (domain : List ℕ) → AreCounted rows total → has_ask_room (finmap.from_entries rows) domain ≡ true → total < MOST_ASKS
+fewer_than_most rows total domain c room =
+    let below : nat_lt total MOST_ASKS ≡ true = both_true (nat_lt (length (asked (finmap.from_entries rows) domain)) MOST_ASKS_OF_DOMAIN) (nat_lt total MOST_ASKS) (sym (room_for rows total domain c) ∙ room) in
+    grind (arith, nat_tests)

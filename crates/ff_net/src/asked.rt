@@ -119,9 +119,10 @@ fn put_asks<C: Ledger>(
         change_row(rows, place, domain, asks, copies)?;
         return Ok(());
     }
-    if asks.len() > 0 {
-        rows.push(Asked::of(domain, asks)?, copies)?;
+    if asks.len() == 0 {
+        return Ok(());
     }
+    rows.push(Asked::of(domain, asks)?, copies)?;
     Ok(())
 }
 
