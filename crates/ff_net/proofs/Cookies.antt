@@ -1,10 +1,6 @@
 -- The order of cookies, the tests by which one is found, and what one change of the rows does.
-use Rattle.std.proofs.Common.{◌≡◌, ℕ, ◌<◌, ◌≤◌, Bool, true, false, cond, ◌&&◌, nat_lt, Option, Some, None, List, [], ◌∷◌, ◌++◌, length, get_or, set, count_by, refl, sym, ap, subst, ◌∙◌, bytes_eq}
-use Rattle.std.specs.List.{slice_get, swap_remove, position_or_len}
-use Rattle.std.specs.Option.{option_map}
-use Rattle.std.proofs.lemmas.Option.{slice_get_past}
-use Rattle.std.proofs.lemmas.List.{get_or_default}
-use Rattle.std.proofs.lemmas.List.Sums.{passes_at_first}
+use Rattle.std.proofs.Common.{◌≡◌, ℕ, true, false, cond, ◌&&◌, nat_lt, Some, None, List, length, count_by, refl, sym, ◌∙◌}
+use Rattle.std.specs.List.{position_or_len}
 use Rattle.std.specs.declared.cmp.Ordering.{Ordering}
 use Rattle.std.specs.declared.cmp.Ordering.TheVariants.{Less, Equal, Greater}
 use Rattle.std.specs.Ordering.{nat_cmp, eq_by_cmp, is_eq, ordering_then}
@@ -16,7 +12,7 @@ use Rattle.std.proofs.lemmas.Map.Lookups.{exact_bytes, exact_pairs}
 use Rattle.std.proofs.lemmas.Map.Text.{is_eq-slice_cmp}
 use Rattle.ff_value.specs.declared.fault.Fault.TheVariants as fault
 use Rattle.ff_machine.specs.declared.limits.TheConstants.{MOST_COOKIES, MOST_COOKIES_OF_DOMAIN}
-use Rattle.ff_machine.specs.Net.{Jar, cookie_cmp, cookie, cookies_of, cookie_put, cookie_deleted, cookie_fault, has_cookie_size, has_cookie_room}
+use Rattle.ff_machine.specs.Net.{Jar, cookie_cmp, cookie, cookies_of, cookie_fault, has_cookie_size, has_cookie_room}
 use Rattle.ff_net.specs.Cookies.{is_of, is_at}
 use Rattle.ff_net.specs.Entries.{AreApart}
 use Rattle.ff_net.proofs.Finding.{sum_entries, len_entries}

@@ -1,11 +1,11 @@
 -- The pairs of a domain, gathered from entries that stand in no order.
-use Rattle.std.proofs.Common.{◌≡◌, ℕ, zero, suc, ◌+◌, ◌<◌, Bool, true, false, cond, not, ◌&&◌, T, List, [], ◌∷◌, ◌++◌, length, map, filter, take, drop, get_or, None, Some, refl, sym, ap, subst, ◌∙◌, bytes_eq, arith}
+use Rattle.std.proofs.Common.{◌≡◌, ℕ, zero, suc, ◌+◌, Bool, true, false, cond, not, ◌&&◌, T, List, [], ◌∷◌, length, map, filter, drop, None, Some, refl, sym, ap, subst, ◌∙◌, arith}
 use Rattle.std.specs.declared.cmp.Ordering.{Ordering}
 use Rattle.std.specs.declared.cmp.Ordering.TheVariants.{Less, Equal, Greater}
 use Rattle.std.specs.Ordering.{nat_cmp, is_eq, is_lt, ordering_then, eq_by_cmp}
-use Rattle.std.specs.Cmp.{IsTotalOrder, tied_itself}
+use Rattle.std.specs.Cmp.{tied_itself}
 use Rattle.std.specs.Cmp.Lexicographic.{slice_cmp, nat_list_cmp_total}
-use Rattle.std.specs.List.{insert, position_or_len, prefix_len, slice_get}
+use Rattle.std.specs.List.{insert, position_or_len, slice_get}
 use Rattle.std.specs.Map.{keys_of}
 use Rattle.std.specs.FinMap as finmap
 use Rattle.std.specs.FinMap.Entries.{by_order, below_all}
@@ -15,7 +15,7 @@ use Rattle.std.proofs.lemmas.Map.Keys.{IsDistinct-tail}
 use Rattle.std.proofs.lemmas.Slice.Eq.{bytes_eq-Decides}
 use Rattle.ff_value.specs.declared.output.Pair.{Pair}
 use Rattle.ff_machine.specs.Net.{cookie_cmp, pairs_of}
-use Rattle.ff_machine.proofs.Maps.{entries-empty, no_pairs}
+use Rattle.ff_machine.proofs.Maps.{no_pairs}
 use Rattle.ff_net.specs.Cookies.{is_of, is_above}
 use Rattle.ff_net.specs.Entries.{AreApart}
 use Rattle.ff_net.proofs.Cookies.{Entry, cookie_total}

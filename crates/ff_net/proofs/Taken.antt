@@ -2,7 +2,7 @@
 use Rattle.std.proofs.Common.{◌≡◌, ℕ, zero, suc, ◌+◌, ◌-◌, ◌<◌, ◌≤◌, Some, List, [], ◌∷◌, ◌++◌, length, take, drop, set, get_or, refl, sym, ap, ◌∙◌, append_assoc, arith}
 use Rattle.std.specs.List.{remove, slice_get}
 use Rattle.std.proofs.lemmas.Option.{get_or_from_slice_get}
-use Rattle.std.proofs.lemmas.List.{take-append-drop, take-append-le, take-take, take_at, take_all, take_more, drop_more, length-take-le, length-append, length-drop, set_at, get_or-append_right, get_or-drop}
+use Rattle.std.proofs.lemmas.List.{take-append-drop, take_at, take_all, take_more, drop_more, length-take-le, length-append, length-drop, set_at, get_or-append_right, get_or-drop}
 use Rattle.std.proofs.lemmas.List.Edits.{length-remove, get_or-remove_above}
 
 -- a cell is written before or after the front is taken

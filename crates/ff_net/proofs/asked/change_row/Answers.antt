@@ -1,7 +1,6 @@
-use Rattle.std.proofs.Common.{ℕ, List, [], get_or, set, ap, ◌∙◌, arith}
+use Rattle.std.proofs.Common.{[], set, ap, ◌∙◌, arith}
 use Rattle.std.proofs.lemmas.Option.{slice_get-get_or}
-use Rattle.ff_machine.specs.declared.records.Pending.{Pending}
-use Rattle.ff_net.proofs.Domains.{Row, apart_written, given_written, count_written, apart_dropped, given_dropped, count_dropped}
+use Rattle.ff_net.proofs.Domains.{apart_written, given_written, count_written, apart_dropped, given_dropped, count_dropped}
 use Rattle.ff_net.proofs.asked.change_row.Goals as goal
 
 pub returns-then-len-eq0-clause-done : goal.returns-then-len-eq0-clause-done

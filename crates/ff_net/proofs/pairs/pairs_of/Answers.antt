@@ -1,6 +1,4 @@
-use Rattle.std.proofs.Common.{◌≡◌, ◌-◌, arith, sym, ap, ◌∙◌, true, false, drop}
-use Rattle.std.specs.FinMap as finmap
-use Rattle.ff_machine.specs.Net as net
+use Rattle.std.proofs.Common.{◌≡◌, ◌-◌, arith, sym, ap, ◌∙◌, true, false}
 use Rattle.ff_net.specs.Cookies.{is_of}
 use Rattle.ff_net.proofs.Gathered.{in_order, gathered_none, gathered_here, gathered_elsewhere}
 use Rattle.ff_net.proofs.pairs.pairs_of.Goals as goal

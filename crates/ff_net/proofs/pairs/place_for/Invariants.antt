@@ -1,4 +1,4 @@
-use Rattle.std.proofs.Common.{◌≡◌, ◌+◌, length, drop}
+use Rattle.std.proofs.Common.{◌≡◌, ◌+◌, drop}
 use Rattle.std.specs.List.{position_or_len}
 use Rattle.ff_net.specs.Cookies.{is_above}
 use Rattle.ff_net.proofs.pairs.place_for.Given as goal

@@ -1,4 +1,4 @@
-use Rattle.std.proofs.Common.{[], sym, subst}
+use Rattle.std.proofs.Common.{sym, subst}
 use Rattle.std.specs.List.{IsDistinct}
 use Rattle.ff_machine.specs.Net.{cookie_cmp}
 use Rattle.ff_net.specs.Entries.{AreApart}

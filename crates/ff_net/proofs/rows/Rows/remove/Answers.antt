@@ -1,7 +1,7 @@
-use Rattle.std.proofs.Common.{◌≡◌, ℕ, ◌+◌, ◌-◌, ◌≤◌, Some, length, take, set, sym, ap, ◌∙◌, arith}
+use Rattle.std.proofs.Common.{◌≡◌, ◌+◌, ◌-◌, Some, length, take, set, sym, ap, ◌∙◌, arith}
 use Rattle.std.specs.List.{slice_get}
 use Rattle.std.proofs.lemmas.List.{take-take, length-take}
-use Rattle.ff_net.proofs.Taken.{half_moved, length_moved, moved_more, moved_all}
+use Rattle.ff_net.proofs.Taken.{length_moved, moved_more, moved_all}
 use Rattle.ff_net.proofs.rows.Rows.remove.Goals as goal
 
 pub loop-j-preserved : goal.loop-j-preserved

@@ -1,4 +1,4 @@
-use Rattle.std.proofs.Common.{◌≡◌, ◌+◌, ◌*◌, ◌≤◌, length}
+use Rattle.std.proofs.Common.{◌≡◌, ◌+◌, ◌*◌, ◌≤◌}
 use Rattle.ff_net.proofs.Taken.{half_moved}
 use Rattle.ff_net.proofs.rows.Rows.remove.Given as goal
 

@@ -1,4 +1,3 @@
-use Rattle.std.proofs.Common.{arith}
 use Rattle.ff_net.proofs.Taken.{take_of_set}
 use Rattle.ff_net.proofs.rows.Rows.set.Goals as goal
 
