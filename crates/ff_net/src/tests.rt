@@ -99,6 +99,90 @@ fn room_after<C: Ledger>(
     Ok(requests.room(&to))
 }
 
+fn put_done<C: Ledger>(
+    alloc: Global,
+    jar: &mut Jar,
+    of: &Domain,
+    number: u32,
+    copies: &mut Steps<C>,
+) -> Result<(), NoMemory> {
+    match put(alloc, jar, of, number, copies) {
+        Ok(()) => Ok(()),
+        Err(_fail) => Err(AllocError),
+    }
+}
+
+// A jar from which a cookie was taken out after a fork, and the fork, which has one more.
+fn jar_and_fork<C: Ledger>(alloc: Global, blank: Blank, of: &Domain) -> Result<(Jar, Jar), NoMemory>
+    requires name { blank.name ≡ C.name }
+    requires parts { blank.parts ≡ C.parts }
+    requires some { 0 < blank.parts }
+{
+    let mut copies = Steps::<C>::new(blank);
+    let mut jar = Jar::new(alloc);
+    put_done(alloc, &mut jar, of, 1, &mut copies)?;
+    put_done(alloc, &mut jar, of, 0, &mut copies)?;
+    let mut fork = jar.fork(&mut copies)?;
+    jar.delete(of, b"aa", &mut copies)?;
+    put_done(alloc, &mut fork, of, 2, &mut copies)?;
+    Ok((jar, fork))
+}
+
+// The keys of a domain's cookies, one behind the other.
+fn keys_of(alloc: Global, jar: &Jar, of: &Domain) -> Result<Vec<u8>, NoMemory> {
+    let mut keys = Vec::new(alloc);
+    for pair in jar.of(of)?.as_slice() {
+        keys.extend_from_slice(pair.key.as_bytes())?;
+    }
+    Ok(keys)
+}
+
+// The request text that is answered first, of two, and how many are pending then, and in a fork
+// that was made before.
+fn first_answered<C: Ledger>(
+    alloc: Global,
+    blank: Blank,
+    to: &Domain,
+) -> Result<(bool, u32, u32), NoMemory>
+    requires name { blank.name ≡ C.name }
+    requires parts { blank.parts ≡ C.parts }
+    requires some { 0 < blank.parts }
+{
+    let mut copies = Steps::<C>::new(blank);
+    let mut requests = Requests::new(alloc);
+    ask_times(alloc, &mut requests, to, 2, &mut copies)?;
+    let fork = requests.fork(&mut copies)?;
+    let answer = requests.answer(to, 0, &mut copies)?;
+    Ok((answer.is_some(), requests.len(to), fork.len(to)))
+}
+
+#[test]
+fn a_cookie_taken_out_is_gone(rt: HostRuntime) -> Result<(), NoMemory> {
+    let of = domain(rt.alloc(), 0)?;
+    let (jar, _fork) = jar_and_fork::<Brand>(rt.alloc(), Blank::new(1), &of)?;
+    assert_eq!(rt; keys_of(rt.alloc(), &jar, &of)?, b"ab".to_vec(rt.alloc())?);
+    Ok(())
+}
+
+#[test]
+fn a_fork_keeps_its_cookies_in_order(rt: HostRuntime) -> Result<(), NoMemory> {
+    let of = domain(rt.alloc(), 0)?;
+    let (_jar, fork) = jar_and_fork::<Brand>(rt.alloc(), Blank::new(1), &of)?;
+    assert_eq!(rt;
+        keys_of(rt.alloc(), &fork, &of)?,
+        b"aaabac".to_vec(rt.alloc())?
+    );
+    Ok(())
+}
+
+#[test]
+fn a_request_that_was_answered_is_pending_in_a_fork(rt: HostRuntime) -> Result<(), NoMemory> {
+    let to = domain(rt.alloc(), 0)?;
+    let told = first_answered::<Brand>(rt.alloc(), Blank::new(1), &to)?;
+    assert_eq!(rt; told, (true, 1, 2));
+    Ok(())
+}
+
 #[test]
 fn sixty_four_cookies_of_a_domain_fit(rt: HostRuntime) -> Result<(), NoMemory> {
     let last = last_put::<Brand>(rt.alloc(), Blank::new(1), 1, 64)?;
