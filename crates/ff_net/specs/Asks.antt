@@ -1,0 +1,21 @@
+-- What is asked of the pending requests of one domain, which are seen as an entry.
+use Rattle.std.specs.Prelude.{◌≡◌, ◌≤◌, ℕ, Bool, List, length, sum_by, bytes_eq}
+use Rattle.std.specs.Ordering.{nat_cmp}
+use Rattle.std.specs.Cmp.Lexicographic.{slice_cmp}
+use Rattle.ff_machine.specs.declared.records.Pending.{Pending}
+use Rattle.ff_machine.specs.declared.limits.TheConstants.{MOST_ASKS}
+use Rattle.ff_net.specs.Entries.{AreApart}
+
+-- they are requests to the domain
+abbrev pub is_to : List ℕ → List ℕ × List Pending → Bool
+is_to domain asked = bytes_eq asked.0 domain
+
+-- how many requests they are together
+abbrev pub count_rows : List (List ℕ × List Pending) → ℕ
+count_rows rows = sum_by (λ e. length e.1) rows
+
+-- rows of requests, no two to one domain, and how many requests they are
+pub record AreCounted (rows : List (List ℕ × List Pending)) (total : ℕ) : Type 0 where
+  pub apart : AreApart (slice_cmp nat_cmp) rows
+  pub counted : total ≡ count_rows rows
+  pub few : total ≤ MOST_ASKS
