@@ -34,3 +34,5 @@ pub mod Readings
 pub mod Operate
 pub mod Inputs
 pub mod Working
+pub mod TasksDepth
+pub mod TasksPlacing
