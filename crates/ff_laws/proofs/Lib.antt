@@ -36,3 +36,4 @@ pub mod Inputs
 pub mod Working
 pub mod TasksDepth
 pub mod TasksPlacing
+pub mod TasksWorking
