@@ -37,3 +37,4 @@ pub mod Working
 pub mod TasksDepth
 pub mod TasksPlacing
 pub mod TasksWorking
+pub mod TasksBeginning
