@@ -88,6 +88,7 @@ docs_spelled : (docs : List Doc) → AllByRecursion IsSpelledDoc docs → most (
 docs_spelled [] is deep = tt
 docs_spelled (d ∷ ds) is deep = (record { spelled = is.0; shallow = omega (arith, deep) }, docs_spelled ds is.1 (omega (arith, deep)))
 
+-- the cookies of a well spelled reply are well spelled
 pub cookies_spelled : (r : Resp) → IsSpelledResp r → AllByRecursion IsCookieOp (entries_of r)
 cookies_spelled (resp.Page cookies docs) is = is.0
 cookies_spelled (resp.Script cookies body) is = is.0
@@ -103,9 +104,11 @@ body_spelled (Some (resp.Script cookies body)) is = let deep = is.shallow in rec
 body_spelled other is = null_spelled
 
 module _ (s : State) (valid : IsStores s.stores) where
+  -- the window that the user points at was made
   pub window_there : (at : ℕ) (w : WinId) → user_window s at ≡ Some w → w.0 < length s.stores.windows.windows
   window_there at w e = got_item (λ v. v.0 < length s.stores.windows.windows) s.stores.windows.opened at w e valid.windows.opened.there
 
+  -- and so was the node
   pub node_there : (w : WinId) (k : Kind) (n : ℕ) (m : NodeId) → w.0 < length s.stores.windows.windows → user_node s w k n ≡ Some m → m.0 < length s.stores.nodes
   node_there w k n m there e =
       let shows : IsWindow (length s.stores.windows.windows) (length s.stores.windows.pages) (window_at s.stores.windows w) = valid.windows.windows w.0 no_window there in

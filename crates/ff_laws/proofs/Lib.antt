@@ -38,3 +38,4 @@ pub mod TasksDepth
 pub mod TasksPlacing
 pub mod TasksWorking
 pub mod TasksBeginning
+pub mod States

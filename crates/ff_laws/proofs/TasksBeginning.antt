@@ -52,6 +52,7 @@ use Rattle.ff_laws.proofs.Texts.{with_text_valid}
 
 -- Tasks that call functions.
 
+-- a call of a valid function with a valid value
 call_task : (s : Stores) (page : PageId) (code : Code) (arg : Val) → page.0 < length s.windows.pages → IsCode (made s) code → IsVal (made s) arg → IsTask s (task_of s page (call_of code arg))
 call_task s page code arg there is value = record { page = there; act = refl; running = (is, (value, tt)); around = call-around code arg; shallow = omega arith }
 
@@ -63,6 +64,7 @@ with_calls_tasks s page codes arg there valid value are =
     (All-map (IsTask s.stores) (λ code. task_for s page (call_of code arg)) codes
     (All-weaker (IsCode (made s.stores)) (λ code. IsTask s.stores (task_for s page (call_of code arg))) (λ code is. call_task s.stores page code arg there is value) codes valid))
 
+-- the handlers of a node are valid functions
 handlers_valid : (s : Stores) (n : NodeId) → IsStores s → n.0 < length s.nodes → All (IsCode (made s)) (node_at s.nodes n).handlers
 handlers_valid s n valid there =
     let node : IsNode (node_at s.nodes n) = valid.nodes.each n.0 no_node there in
@@ -77,29 +79,35 @@ handlers_tasks s w n valid shown there are =
 
 -- Steps.
 
+-- a step that is made where there is room leaves valid tasks
 room_tasks : (s : State) (step : Option (Stepped Out Stores)) → MaybeLater s.stores step → AreTasks s → AreTasks (if_room s step).after
 room_tasks s None later are = are
 room_tasks s (Some step) later are = tasks_stay s.stores step.after later s.tasks are
 
+-- what follows where there is something does
 given_tasks : {X : Type 0} (s : State) (x : Option X) (f : X → Step) → AreTasks s → ((y : X) → x ≡ Some y → AreTasks (f y).after) → AreTasks (given s x f).after
 given_tasks s None f are h = are
 given_tasks s (Some x) f are h = h x refl
 
+-- one of two steps does
 one_step_tasks : (b : Bool) (x y : Step) → (b ≡ true → AreTasks x.after) → AreTasks y.after → AreTasks (cond b x y).after
 one_step_tasks true x y g h = g refl
 one_step_tasks false x y g h = h
 
 -- Replies.
 
+-- the value for a callback is valid
 value_valid : (m : Made) (reply : Option Resp) → IsReply reply → IsVal m (call_value reply)
 value_valid m (Some (resp.Data cookies text)) is = (is.spelled.1, tt)
 value_valid m other is = (tt, tt)
 
+-- a reply to a window leaves valid tasks
 load_tasks : (s : State) (w : WinId) (u : Url) (reply : Option Resp) → AreTasks s → AreTasks (load_reply s w u reply).after
 load_tasks s w u (Some (resp.Page cookies docs)) are =
     one_step_tasks (is_open s.stores.windows w) (if_room s (stores.load s.stores w u docs)) (nothing s) (λ shown. room_tasks s (stores.load s.stores w u docs) (load s.stores w u docs) are) are
 load_tasks s w u other are = are
 
+-- a reply to any destination does
 deliver_tasks : (s : State) (u : Url) (reply : Option Resp) (d : Dst) → IsReply reply → IsDst d → DstRefers (made s.stores) d → AreTasks s → AreTasks (deliver_to s u reply d).after
 deliver_tasks s u reply (dst.Window w) is spelled there are = load_tasks s w u reply are
 deliver_tasks s u reply (dst.Slot page slot) is spelled there are =
@@ -110,6 +118,7 @@ deliver_tasks s u reply (dst.Call page code) is spelled there are =
     one_step_tasks (is_live s.stores.windows page) _ (nothing s)
     (λ live. with_calls_tasks s page (code ∷ []) (call_value reply) there.0 (All-cons (IsCode m) code [] (spelled.spelled, there.1) (All-nil (IsCode m))) (value_valid m reply is) are) are
 
+-- a reply that may count does
 receive_tasks : (s : State) (domain : List ℕ) (r : Resp) (pending : Pending) → IsStores s.stores → IsDomain domain → IsWellSpelledResp r → IsPending pending → DstRefers (made s.stores) pending.dst → AreTasks s
     → AreTasks (receive s domain r pending).after
 receive_tasks s domain r pending valid is_domain is asked_is refers are =
@@ -126,6 +135,7 @@ receive_tasks s domain r pending valid is_domain is asked_is refers are =
     deliver_tasks t from (Some r) pending.dst is asked_is.dst (dst_refers_grows (made s.stores) (made counted) grows pending.dst refers) (tasks_stay s.stores counted later s.tasks are))
     (deliver_tasks s from None pending.dst tt asked_is.dst refers are)
 
+-- a reply to a pending request, if there is one, does
 reply_tasks : (s : State) (domain : List ℕ) (k : ℕ) (r : Resp) (o : Option Pending) → slice_get (asked s.stores.requests domain) k ≡ o → IsStores s.stores → IsDomain domain → IsWellSpelledResp r → AreTasks s
     → AreTasks (given s (stores.taken_out s.stores domain k o) (λ t. receive (with_stores s t.1) domain r t.0)).after
 reply_tasks s domain k r None e valid is_domain is are = are
@@ -139,6 +149,7 @@ reply_tasks s domain k r (Some pending) e valid is_domain is are =
 
 -- Acts.
 
+-- text that the user types leaves valid tasks
 typed_tasks : (s : State) (w : WinId) (m : NodeId) (text : List ℕ) → IsStores s.stores → w.0 < length s.stores.windows.windows → m.0 < length s.stores.nodes → IsUtf8 text → AreTasks s
     → AreTasks (given s (stores.type_text s.stores m text) (λ t. nothing (call_handlers (with_stores s t) w m))).after
 typed_tasks s w m text valid shown there is are = by (may_weigh s.stores (length text)) refl where

@@ -1,5 +1,5 @@
 -- How many calls an expression has when something stands in the place of its redex.
-use Rattle.std.proofs.Common.{◌≡◌, ℕ, ◌+◌, ◌≤◌, Bool, true, false, cond, arith}
+use Rattle.std.proofs.Common.{ℕ, ◌+◌, ◌≤◌, Bool, true, false, cond, arith}
 use Rattle.ff_term.specs.Running.{Running, Runnings, Done, Var, Let, Set, If, While, Do, And, Or, Make, Apply, Tree, Prim, Inside, none, more, is_value, are_values, begins_done, redex, redex_among, rewritten, rewritten_among, insides, insides_among}
 use Rattle.ff_term.specs.Calls.{CallsStandAround}
 use Rattle.ff_term.specs.Rows.{local_row, branch}
@@ -46,6 +46,7 @@ module _ (y : Running) where
     no_more_calls (Make xs e) = omega arith
     no_more_calls (Tree d) = omega arith
 
+    -- the same of some parts
     no_more_calls_among : (es : Runnings) → insides_among (rewritten_among put es) + insides (redex_among es) ≤ insides_among es + insides y
     no_more_calls_among none = omega arith
     no_more_calls_among (more e es) =

@@ -43,10 +43,12 @@ abbrev pub GoesOnUnlessFault : Evaluation → Result Moved Fault → Type 0
 GoesOnUnlessFault t (Ok moved) = GoesOn t moved.now
 GoesOnUnlessFault t (Err f) = ⊤
 
+-- a value has no calls
 outcome_placed : (calls : ℕ) (e : Running) (o : Outcome) → calls ≤ MOST_CALLS → BecomesPlaced calls e (of_outcome o)
 outcome_placed calls e (Ok did) few = record { around = refl; few = omega (arith, few) }
 outcome_placed calls e (Err f) few = tt
 
+-- a branch stands in the place of its test
 choose_placed : (s : Stores) (calls : ℕ) (v : Val) (e : Running) → calls ≤ MOST_CALLS → CallsStandAround e → BecomesPlaced calls e (choose s v e)
 choose_placed s calls (val.Bool b) e few h = let fewer = branch_no_more b e in record { around = branch-around b e h; few = omega (arith, few, fewer) }
 choose_placed s calls other e few h = tt
@@ -57,6 +59,7 @@ depth_of true b f g o e = cc
 depth_of false true f g o e = cc
 depth_of false false f g o e = refl
 
+-- a body that is entered has one call, its own
 entered_placed : (s : Stores) (calls : ℕ) (e : Running) (code : Code) (args : List Val) (why : Option Fault) → (why ≡ None → calls < MOST_CALLS)
     → BecomesPlaced calls e (or_fault why (entered s code args))
 entered_placed s calls e code args (Some f) few = tt
@@ -64,12 +67,14 @@ entered_placed s calls e code args None few =
     let below = few refl in let none = (source code.body).insides in
     record { around = entered-around (windows.next_act s.windows) code.body; few = omega (arith, below, none) }
 
+-- a function that is called
 call_placed : (s : Stores) (calls : ℕ) (e : Running) (v : Val) (args : List Val) → BecomesPlaced calls e (call s calls v args)
 call_placed s calls e (val.Code code) args =
     entered_placed s calls e code args (enter_fault s calls code args)
     (λ free. leb-false MOST_CALLS calls (depth_of (not (eqb (length code.params) (length args))) (leb MOST_CALLS calls) fault.Kind fault.Depth (windows.call_fault s.windows.acts (length code.params)) free))
 call_placed s calls e other args = tt
 
+-- what any redex becomes
 reduced_placed : (s : Stores) (page : PageId) (a : ActId) (calls : ℕ) (e : Running) (r : Redex) → calls ≤ MOST_CALLS → CallsStandAround e → BecomesPlaced calls e (reduced s page a calls e r)
 reduced_placed s page a calls e read.Local few h = let fewer = local_no_more e h in record { around = local-around e h; few = omega (arith, few, fewer) }
 reduced_placed s page a calls e (read.Test v) few h = choose_placed s calls v e few h
@@ -81,6 +86,7 @@ reduced_placed s page a calls e (read.Make params body) few h = record { around 
 reduced_placed s page a calls e (read.Tree doc) few h = outcome_placed calls e (make_tree s a doc) few
 reduced_placed s page a calls e (read.Prim op vs) few h = outcome_placed calls e (operate s page op vs) few
 
+-- with such a part in the place of its redex the evaluation goes on
 put_goes_on : (t : Evaluation) (r : Result Became Fault) → CallsStandAround t.expr → BecomesPlaced (calls_around t.expr) (redex t.expr) r → GoesOnUnlessFault t (put_back t r)
 put_goes_on t (Ok b) h is =
     let here = at_most_all (rewritten (λ _. b.part) t.expr) in let all = no_more_calls b.part t.expr in let few = is.few in
