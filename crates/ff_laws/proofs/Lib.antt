@@ -34,3 +34,8 @@ pub mod Readings
 pub mod Operate
 pub mod Inputs
 pub mod Working
+pub mod TasksDepth
+pub mod TasksPlacing
+pub mod TasksWorking
+pub mod TasksBeginning
+pub mod States
