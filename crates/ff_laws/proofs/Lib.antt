@@ -34,3 +34,7 @@ pub mod Readings
 pub mod Operate
 pub mod Inputs
 pub mod Working
+pub mod OutputsRead
+pub mod OutputsSteps
+pub mod OutputsOperators
+pub mod OutputsTurns

@@ -25,6 +25,7 @@
 
 mod keeping;
 mod law;
+mod putting;
 
 pub use keeping::{
     a_reduction_keeps_stores_valid, counts_only_grow, inputs_and_turns_keep_stores_valid,
@@ -35,3 +36,4 @@ pub use law::{
     a_page_that_is_not_live_never_runs, an_input_ends_at_rest, nothing_that_has_gone_comes_back,
     tags_change_nothing, what_was_made_stays,
 };
+pub use putting::what_is_put_is_well_spelled;
