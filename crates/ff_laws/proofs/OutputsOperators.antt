@@ -45,87 +45,87 @@ use Rattle.ff_machine.specs.Operators.{Outcome, operate, unless, does_or_limit, 
 use Rattle.ff_machine.specs.Reduction.{Became, Red, put_back, reduced, of_outcome, choose, call, entered, enter_fault, or_fault, variable, declare, assign, make_tree, tree_fault}
 use Rattle.ff_machine.specs.References.{made}
 use Rattle.ff_machine.specs.Valid.{IsVal, IsRunning, IsRedex, IsStores}
-use Rattle.ff_laws.specs.Puts.{AreSpelled, SpelledIfMade, SpelledUnlessFault, SpelledIfMoved}
+use Rattle.ff_laws.specs.Puts.{AreOuts, OutsUnlessFault, OutsIfMoved}
 use Rattle.ff_laws.proofs.Operating.{read_spelled}
 use Rattle.ff_laws.proofs.Redexes.{redex_valid}
-use Rattle.ff_laws.proofs.OutputsSteps.{none_spelled, first_spelled, sent_spelled, made_spelled, send_spelled, go_spelled, closed_spelled, insert_spelled}
+use Rattle.ff_laws.proofs.OutputsSteps.{OutsIfMade, none_spelled, first_spelled, sent_spelled, made_spelled, send_spelled, go_spelled, closed_spelled, insert_spelled}
 
 -- Operators.
 
-given_spelled : {X : Type 0} (o : Option X) (f : X → Outcome) → ((x : X) → SpelledUnlessFault (f x)) → SpelledUnlessFault (with_operands o f)
+given_spelled : {X : Type 0} (o : Option X) (f : X → Outcome) → ((x : X) → OutsUnlessFault (f x)) → OutsUnlessFault (with_operands o f)
 given_spelled None f h = tt
 given_spelled (Some x) f h = h x
 
-one_spelled_of : (b : Bool) (x y : Outcome) → SpelledUnlessFault x → SpelledUnlessFault y → SpelledUnlessFault (cond b x y)
+one_spelled_of : (b : Bool) (x y : Outcome) → OutsUnlessFault x → OutsUnlessFault y → OutsUnlessFault (cond b x y)
 one_spelled_of true x y g h = g
 one_spelled_of false x y g h = h
 
-unless_spelled : (why : Option Fault) (done : Outcome) → SpelledUnlessFault done → SpelledUnlessFault (unless why done)
+unless_spelled : (why : Option Fault) (done : Outcome) → OutsUnlessFault done → OutsUnlessFault (unless why done)
 unless_spelled None done h = h
 unless_spelled (Some f) done h = tt
 
-limit_spelled : (v : Val) (step : Option (Stepped Out Stores)) → SpelledIfMade step → SpelledUnlessFault (does_or_limit v step)
+limit_spelled : (v : Val) (step : Option (Stepped Out Stores)) → OutsIfMade step → OutsUnlessFault (does_or_limit v step)
 limit_spelled v None h = tt
 limit_spelled v (Some step) h = h
 
-open_spelled : (s : Stores) (w : WinId) (done : Outcome) → SpelledUnlessFault done → SpelledUnlessFault (operators.if_open s w done)
+open_spelled : (s : Stores) (w : WinId) (done : Outcome) → OutsUnlessFault done → OutsUnlessFault (operators.if_open s w done)
 open_spelled s w done h = one_spelled_of (is_open s.windows w) done (Err fault.Dead) h tt
 
-url_spelled : (text : List ℕ) (f : Url → Outcome) → ((u : Url) → IsWellSpelled u → SpelledUnlessFault (f u)) → SpelledUnlessFault (operators.at_url (read_url text) f)
+url_spelled : (text : List ℕ) (f : Url → Outcome) → ((u : Url) → IsWellSpelled u → OutsUnlessFault (f u)) → OutsUnlessFault (operators.at_url (read_url text) f)
 url_spelled text f h = by (read_url text) refl where
-  by : (o : Option Url) → read_url text ≡ o → SpelledUnlessFault (operators.at_url o f)
+  by : (o : Option Url) → read_url text ≡ o → OutsUnlessFault (operators.at_url o f)
   by None e = tt
   by (Some u) e = h u (read_spelled text u e)
 
-massed_spelled : (s : Stores) (applied : Result Applied Fault) → SpelledUnlessFault (with_mass s applied)
+massed_spelled : (s : Stores) (applied : Result Applied Fault) → OutsUnlessFault (with_mass s applied)
 massed_spelled s (Ok applied) = none_spelled
 massed_spelled s (Err f) = tt
 
 module _ (s : Stores) (page : PageId) (valid : IsStores s) where
-  set_cookie_spelled : (domain : Option (List ℕ)) (key value : List ℕ) → SpelledUnlessFault (operators.set_cookie s domain key value)
+  set_cookie_spelled : (domain : Option (List ℕ)) (key value : List ℕ) → OutsUnlessFault (operators.set_cookie s domain key value)
   set_cookie_spelled None key value = tt
   set_cookie_spelled (Some d) key value = unless_spelled (net.cookie_fault s.jar d key value) (operators.becomes (record s { jar = net.cookie_put s.jar d key value })) none_spelled
 
-  del_cookie_spelled : (domain : Option (List ℕ)) (key : List ℕ) → SpelledUnlessFault (operators.del_cookie s domain key)
+  del_cookie_spelled : (domain : Option (List ℕ)) (key : List ℕ) → OutsUnlessFault (operators.del_cookie s domain key)
   del_cookie_spelled None key = none_spelled
   del_cookie_spelled (Some d) key = none_spelled
 
-  open_at_spelled : (name : Option (List ℕ)) (u : Url) → IsWellSpelled u → SpelledUnlessFault (operators.open_at s page name u)
+  open_at_spelled : (name : Option (List ℕ)) (u : Url) → IsWellSpelled u → OutsUnlessFault (operators.open_at s page name u)
   open_at_spelled name url.Blank is =
       let opener = Some (operators.self_window s page) in
       limit_spelled (val.Win (windows.next_win s.windows)) (stores.open_window s name opener)
-      (made_spelled (stores.has_window_room s) (stores.opened s name opener) (λ room. first_spelled out.Opened [] tt none_spelled))
+      (made_spelled (stores.has_window_room s) (stores.opened s name opener) (λ room. first_spelled out.Opened [] (record { spelled = tt; ordered = tt }) none_spelled))
   open_at_spelled name (url.At domain uri) is =
       let t = (stores.opened s name (Some (operators.self_window s page))).after in
       let to = dst.Window (windows.next_win s.windows) in
       one_spelled_of (stores.has_window_room s && stores.has_ask_room s domain) _ (Err fault.Limit)
-      (first_spelled out.Opened (stores.sent t domain uri [] to).outputs tt (sent_spelled t domain uri [] to valid.jar is.0 is.1 IsUtf8-nil)) tt
+      (first_spelled out.Opened (stores.sent t domain uri [] to).outputs (record { spelled = tt; ordered = tt }) (sent_spelled t domain uri [] to valid.jar is.0 is.1 IsUtf8-nil)) tt
 
-  open_named_spelled : (name : List ℕ) (u : Url) (w : Option WinId) → IsWellSpelled u → SpelledUnlessFault (operators.open_named s page name u w)
+  open_named_spelled : (name : List ℕ) (u : Url) (w : Option WinId) → IsWellSpelled u → OutsUnlessFault (operators.open_named s page name u w)
   open_named_spelled name u None is = open_at_spelled (Some name) u is
   open_named_spelled name u (Some w) is = limit_spelled (val.Win w) (stores.go s w u) (go_spelled s w u valid is)
 
-  text_spelled : (t : Option (List ℕ)) → SpelledUnlessFault (operators.text s t)
+  text_spelled : (t : Option (List ℕ)) → OutsUnlessFault (operators.text s t)
   text_spelled None = tt
   text_spelled (Some t) = none_spelled
 
-  child_spelled : (c : Option NodeId) → SpelledUnlessFault (operators.child s c)
+  child_spelled : (c : Option NodeId) → OutsUnlessFault (operators.child s c)
   child_spelled None = tt
   child_spelled (Some c) = none_spelled
 
-  ask_at_spelled : (body : List ℕ) (code : Code) (u : Url) → IsUtf8 body → IsWellSpelled u → SpelledUnlessFault (operators.ask_at s page body code u)
+  ask_at_spelled : (body : List ℕ) (code : Code) (u : Url) → IsUtf8 body → IsWellSpelled u → OutsUnlessFault (operators.ask_at s page body code u)
   ask_at_spelled body code url.Blank is_body is = tt
   ask_at_spelled body code (url.At domain uri) is_body is =
       limit_spelled val.Null (stores.send s domain uri body (dst.Call page code)) (send_spelled s domain uri body (dst.Call page code) valid.jar is.0 is.1 is_body)
 
-  ask_spelled : (args : List Val) → All (IsVal (made s)) args → SpelledUnlessFault (with_operands (strs_code args) (λ o. operators.ask s page o.0 o.1 o.2))
+  ask_spelled : (args : List Val) → All (IsVal (made s)) args → OutsUnlessFault (with_operands (strs_code args) (λ o. operators.ask s page o.0 o.1 o.2))
   ask_spelled (val.Str address ∷ val.Str body ∷ val.Code code ∷ []) are =
       let is = All-head (IsVal (made s)) (val.Str body) (val.Code code ∷ []) (All-tail (IsVal (made s)) (val.Str address) (val.Str body ∷ val.Code code ∷ []) are) in
       one_spelled_of (length code.params == 1) _ (Err fault.Kind) (url_spelled address _ (λ u spelled. ask_at_spelled body code u is.0 spelled)) tt
   ask_spelled other are = tt
 
   -- what an operator with valid operands puts
-  pub operate_spelled : (o : Op) (args : List Val) → All (IsVal (made s)) args → SpelledUnlessFault (operate s page o args)
+  pub operate_spelled : (o : Op) (args : List Val) → All (IsVal (made s)) args → OutsUnlessFault (operate s page o args)
   operate_spelled op.Cookie args are = given_spelled (one_str args) _ (λ key. none_spelled)
   operate_spelled op.SetCookie args are = given_spelled (two_strs args) _ (λ o. set_cookie_spelled (operators.page_domain s page) o.0 o.1)
   operate_spelled op.DelCookie args are = given_spelled (one_str args) _ (λ key. del_cookie_spelled (operators.page_domain s page) key)
@@ -154,31 +154,31 @@ module _ (s : Stores) (page : PageId) (valid : IsStores s) where
 
 -- One reduction.
 
-abbrev SpelledIfBecame : Result Became Fault → Type 0
-SpelledIfBecame (Ok became) = AreSpelled became.outputs
-SpelledIfBecame (Err f) = ⊤
+abbrev OutsIfBecame : Result Became Fault → Type 0
+OutsIfBecame (Ok became) = AreOuts became.outputs
+OutsIfBecame (Err f) = ⊤
 
-outcome_spelled : (o : Outcome) → SpelledUnlessFault o → SpelledIfBecame (of_outcome o)
+outcome_spelled : (o : Outcome) → OutsUnlessFault o → OutsIfBecame (of_outcome o)
 outcome_spelled (Ok did) h = h
 outcome_spelled (Err f) h = tt
 
-variable_spelled : (s : Stores) (v : Option Val) → SpelledUnlessFault (variable s v)
+variable_spelled : (s : Stores) (v : Option Val) → OutsUnlessFault (variable s v)
 variable_spelled s None = tt
 variable_spelled s (Some v) = none_spelled
 
-choose_spelled : (s : Stores) (v : Val) (e : Running) → SpelledIfBecame (choose s v e)
+choose_spelled : (s : Stores) (v : Val) (e : Running) → OutsIfBecame (choose s v e)
 choose_spelled s (val.Bool b) e = none_spelled
 choose_spelled s other e = tt
 
-entered_spelled : (s : Stores) (why : Option Fault) (code : Code) (args : List Val) → SpelledIfBecame (or_fault why (entered s code args))
+entered_spelled : (s : Stores) (why : Option Fault) (code : Code) (args : List Val) → OutsIfBecame (or_fault why (entered s code args))
 entered_spelled s None code args = none_spelled
 entered_spelled s (Some f) code args = tt
 
-call_spelled : (s : Stores) (calls : ℕ) (v : Val) (args : List Val) → SpelledIfBecame (call s calls v args)
+call_spelled : (s : Stores) (calls : ℕ) (v : Val) (args : List Val) → OutsIfBecame (call s calls v args)
 call_spelled s calls (val.Code code) args = entered_spelled s (enter_fault s calls code args) code args
 call_spelled s calls other args = tt
 
-reduced_spelled : (s : Stores) (page : PageId) (a : ActId) (calls : ℕ) (e : Running) (r : Redex) → IsStores s → IsRedex (made s) r → SpelledIfBecame (reduced s page a calls e r)
+reduced_spelled : (s : Stores) (page : PageId) (a : ActId) (calls : ℕ) (e : Running) (r : Redex) → IsStores s → IsRedex (made s) r → OutsIfBecame (reduced s page a calls e r)
 reduced_spelled s page a calls e read.Local valid is = none_spelled
 reduced_spelled s page a calls e (read.Test v) valid is = choose_spelled s v e
 reduced_spelled s page a calls e (read.Apply v vs) valid is = call_spelled s calls v vs
@@ -191,12 +191,12 @@ reduced_spelled s page a calls e (read.Make params body) valid is = none_spelled
 reduced_spelled s page a calls e (read.Tree doc) valid is = outcome_spelled (make_tree s a doc) (unless_spelled (tree_fault s a doc) _ none_spelled)
 reduced_spelled s page a calls e (read.Prim o vs) valid is = outcome_spelled (operate s page o vs) (operate_spelled s page valid o vs is.1)
 
-back_spelled : (t : Evaluation) (became : Result Became Fault) → SpelledIfBecame became → SpelledIfMoved (put_back t became)
+back_spelled : (t : Evaluation) (became : Result Became Fault) → OutsIfBecame became → OutsIfMoved (put_back t became)
 back_spelled t (Ok became) h = h
 back_spelled t (Err f) h = tt
 
 -- what one reduction of a valid evaluation puts
-pub red_spelled : (s : Stores) (page : PageId) (t : Evaluation) → IsStores s → IsRunning (made s) t.expr → is_value t.expr ≡ false → SpelledIfMoved (Red s page t)
+pub red_spelled : (s : Stores) (page : PageId) (t : Evaluation) → IsStores s → IsRunning (made s) t.expr → is_value t.expr ≡ false → OutsIfMoved (Red s page t)
 unfolding Red
 red_spelled s page t valid is unfinished =
     let e = redex t.expr in

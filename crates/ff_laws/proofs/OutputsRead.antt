@@ -1,17 +1,20 @@
--- What valid stores put into outputs is well spelled: cookies, what is seen, places of windows.
-use Rattle.std.proofs.Common.{◌≡◌, ℕ, zero, suc, ◌<◌, ◌≤◌, ◌+◌, Bool, true, false, cond, ◌&&◌, Option, Some, None, List, [], ◌∷◌, ◌++◌, map, flat_map, filter, length, All, unwrap_or, bytes_eq, refl, sym, ap, subst, ◌∙◌, arith}
+-- What valid stores put into outputs is well spelled: cookies, which stand in order of their keys,
+-- what is seen, and places of windows.
+use Rattle.std.proofs.Common.{◌≡◌, ℕ, zero, suc, ◌<◌, ◌≤◌, Bool, true, false, cond, ◌&&◌, Option, Some, None, List, [], ◌∷◌, ◌++◌, map, flat_map, filter, length, All, unwrap_or, bytes_eq, refl, sym, ap, subst, ◌∙◌, arith}
 use Rattle.std.specs.Prelude.{T}
 use Rattle.std.specs.List.{AllByRecursion, position}
-use Rattle.std.specs.Ordering.{eq_by_cmp, is_eq, is_lt}
+use Rattle.std.specs.List.Sorted.{IsStrictlySortedBy}
+use Rattle.std.specs.Ordering.{nat_cmp, eq_by_cmp, is_eq, is_lt, ordering_then}
 use Rattle.std.specs.declared.cmp.Ordering.{Ordering}
 use Rattle.std.specs.declared.cmp.Ordering.TheVariants.{Less, Equal, Greater}
-use Rattle.std.specs.Cmp.{IsTotalOrder, eq_by_cmp_equiv}
-use Rattle.std.specs.Cmp.Lexicographic.{nat_list_cmp_total}
+use Rattle.std.specs.Cmp.{IsTotalOrder, Equal-is, eq_by_cmp_equiv}
+use Rattle.std.specs.Cmp.Lexicographic.{slice_cmp, nat_list_cmp_total}
 use Rattle.std.specs.FinMap as finmap
-use Rattle.std.specs.FinMap.Entries.{below_all, is_sorted, find}
+use Rattle.std.specs.FinMap.Entries.{below_all, is_sorted, is_sorted-where_key, find}
 use Rattle.std.proofs.lemmas.Cmp.{then_total, on_total}
-use Rattle.std.proofs.lemmas.List.Elements.{All-from_recursion, recursion_from_All, All-filter, All-map, All-weaker}
+use Rattle.std.proofs.lemmas.List.Elements.{All-from_recursion, recursion_from_All, All-filter, All-map, All-weaker, filter_passes}
 use Rattle.std.proofs.lemmas.List.Quantifiers.{position-Some}
+use Rattle.std.proofs.lemmas.Map.Text.{is_eq-slice_cmp}
 use Rattle.ff_value.specs.Spelled.{IsNat, IsSpelledPair, IsSpelledSeen, seen_spelled}
 use Rattle.ff_value.specs.declared.ids.NodeId.{NodeId}
 use Rattle.ff_value.specs.declared.ids.WinId.{WinId}
@@ -32,6 +35,7 @@ use Rattle.ff_machine.specs.Stores as stores
 use Rattle.ff_machine.specs.Stores.{Stores}
 use Rattle.ff_machine.specs.Alone.{IsShape, IsNode, IsJar}
 use Rattle.ff_machine.specs.Valid.{IsStores}
+use Rattle.ff_laws.proofs.Acts.{same_name}
 use Rattle.ff_laws.proofs.Simple.{at_any}
 
 -- Cookies.
@@ -79,6 +83,50 @@ pairs_spelled jar domain are =
     (λ e h. let is = are.each e.0.0 e.0.1 e.1 (finmap.get-entries jar e.0 ∙ h) in (is.key_is, is.value_is)) es found in
     let own = filter (λ (e : (List ℕ × List ℕ) × List ℕ). bytes_eq e.0.0 domain) es in
     recursion_from_All IsSpelledPair (map pair_of own) (All-map IsSpelledPair pair_of own (All-filter _ (λ e. IsSpelledPair (pair_of e)) es each))
+
+less_then : (r q : Ordering) → r ≡ Equal → T (is_lt (ordering_then r q)) → q ≡ Less
+less_then Less q e h = cc
+less_then Greater q e h = cc
+less_then Equal Less e h = refl
+less_then Equal Equal e h = absurd h
+less_then Equal Greater e h = absurd h
+
+own_domain : (d domain : List ℕ) → bytes_eq d domain ≡ true → d ≡ domain
+own_domain d domain e = same_name d domain (is_eq-slice_cmp d domain ∙ e)
+
+module _ (domain : List ℕ) where
+  -- a cookie of the domain
+  abbrev IsOwn : (List ℕ × List ℕ) × List ℕ → Type 0
+  IsOwn e = bytes_eq e.0.0 domain ≡ true
+
+  tied : (d e : List ℕ) → d ≡ domain → e ≡ domain → slice_cmp nat_cmp d e ≡ Equal
+  tied d e p q =
+      let same : slice_cmp nat_cmp domain domain ≡ Equal = (Equal-is (slice_cmp nat_cmp domain domain)).0 ((eq_by_cmp_equiv nat_list_cmp_total).refl domain) in
+      ap (λ (x : List ℕ). slice_cmp nat_cmp x e) p ∙ ap (λ (x : List ℕ). slice_cmp nat_cmp domain x) q ∙ same
+
+  keys_above : (e : (List ℕ × List ℕ) × List ℕ) (es : List ((List ℕ × List ℕ) × List ℕ)) → IsOwn e → AllByRecursion IsOwn es → T (below_all cookie_cmp e.0 es)
+      → AllByRecursion (λ k. slice_cmp nat_cmp e.0.1 k ≡ Less) (map (λ (p : Pair). p.key) (map pair_of es))
+  keys_above e [] is own below = tt
+  keys_above e (x ∷ xs) is own below =
+      let below_both = both_hold (is_lt (cookie_cmp e.0 x.0)) (below_all cookie_cmp e.0 xs) below in
+      let tie = tied e.0.0 x.0.0 (own_domain e.0.0 domain is) (own_domain x.0.0 domain own.0) in
+      (less_then (slice_cmp nat_cmp e.0.0 x.0.0) (slice_cmp nat_cmp e.0.1 x.0.1) tie below_both.0, keys_above e xs is own.1 below_both.1)
+
+  -- the keys of sorted cookies of one domain rise
+  keys_rise : (es : List ((List ℕ × List ℕ) × List ℕ)) → AllByRecursion IsOwn es → T (is_sorted cookie_cmp es) → IsStrictlySortedBy (slice_cmp nat_cmp) (map (λ (p : Pair). p.key) (map pair_of es))
+  unfolding IsStrictlySortedBy
+  keys_rise [] own sorted = tt
+  keys_rise (e ∷ es) own sorted =
+      let sorted_both = both_hold (below_all cookie_cmp e.0 es) (is_sorted cookie_cmp es) sorted in
+      (keys_above e es own.0 own.1 sorted_both.0, keys_rise es own.1 sorted_both.1)
+
+-- the cookies of a domain stand in the order of their keys
+pub pairs_ordered : (jar : Jar) (domain : List ℕ) → IsStrictlySortedBy (slice_cmp nat_cmp) (map (λ (p : Pair). p.key) (pairs_of jar domain))
+pairs_ordered jar domain =
+    let es = finmap.entries jar in
+    let own = filter (λ (e : (List ℕ × List ℕ) × List ℕ). bytes_eq e.0.0 domain) es in
+    keys_rise domain own (recursion_from_All (IsOwn domain) own (filter_passes (λ (e : (List ℕ × List ℕ) × List ℕ). bytes_eq e.0.0 domain) es))
+    (is_sorted-where_key cookie_cmp (λ (k : List ℕ × List ℕ). bytes_eq k.0 domain) es (finmap.entries_sorted jar))
 
 -- What is seen.
 

@@ -1,5 +1,5 @@
 -- The steps of valid stores put well spelled outputs.
-use Rattle.std.proofs.Common.{◌≡◌, ℕ, suc, ◌+◌, ◌<◌, ◌≤◌, Bool, true, false, cond, Option, Some, None, List, [], ◌∷◌, ◌++◌, map, length, All, refl, sym, ap, subst, ◌∙◌, arith}
+use Rattle.std.proofs.Common.{◌≡◌, ℕ, suc, ◌+◌, ◌≤◌, Bool, true, false, cond, Option, Some, None, List, [], ◌∷◌, ◌++◌, map, length, All, refl, sym, subst, ◌∙◌, arith}
 use Rattle.std.specs.Prelude.{⊤}
 use Rattle.std.specs.List.{AllByRecursion}
 use Rattle.std.specs.Str.{IsUtf8}
@@ -17,7 +17,6 @@ use Rattle.ff_tree.specs.Spelled.{IsSpelledDoc, IsWellSpelledDoc, most, doc_dept
 use Rattle.ff_tree.specs.declared.tree.Doc.{Doc}
 use Rattle.ff_tree.specs.declared.tree.Expr.TheVariants as expr
 use Rattle.ff_tree.specs.declared.tree.Lit.TheVariants as lit
-use Rattle.ff_value.specs.Spelled.{IsWellSpelledOut}
 use Rattle.ff_value.specs.declared.ids.NodeId.{NodeId}
 use Rattle.ff_value.specs.declared.ids.PageId.{PageId}
 use Rattle.ff_value.specs.declared.ids.WinId.{WinId}
@@ -39,41 +38,46 @@ use Rattle.ff_machine.specs.Alone.{IsShape, IsNode, IsJar, AreNodes}
 use Rattle.ff_machine.specs.References.{Made}
 use Rattle.ff_machine.specs.Valid.{IsStores}
 use Rattle.ff_machine.proofs.MadeTrees.{page_made as page_nodes}
-use Rattle.ff_laws.specs.Puts.{AreSpelled, SpelledIfMade}
+use Rattle.ff_laws.specs.Puts.{IsOut, AreOuts}
 use Rattle.ff_laws.proofs.Lists.{at_set}
 use Rattle.ff_laws.proofs.Simple.{at_any}
-use Rattle.ff_laws.proofs.OutputsRead.{pairs_spelled, shown_spelled, place_fits}
+use Rattle.ff_laws.proofs.OutputsRead.{pairs_spelled, pairs_ordered, shown_spelled, place_fits}
+
+-- each output of a step that is made, if it is, is well spelled
+abbrev pub OutsIfMade : Option (Stepped Out Stores) → Type 0
+OutsIfMade None = ⊤
+OutsIfMade (Some step) = AreOuts step.outputs
 
 -- no output
-pub none_spelled : AreSpelled []
-none_spelled = All-nil IsWellSpelledOut
+pub none_spelled : AreOuts []
+none_spelled = All-nil IsOut
 
 -- one output
-pub one_spelled : (o : Out) → IsWellSpelledOut o → AreSpelled (o ∷ [])
-one_spelled o is = All-cons IsWellSpelledOut o [] is none_spelled
+pub one_spelled : (o : Out) → IsOut o → AreOuts (o ∷ [])
+one_spelled o is = All-cons IsOut o [] is none_spelled
 
 -- one output before others
-pub first_spelled : (o : Out) (os : List Out) → IsWellSpelledOut o → AreSpelled os → AreSpelled (o ∷ os)
-first_spelled o os is rest = All-cons IsWellSpelledOut o os is rest
+pub first_spelled : (o : Out) (os : List Out) → IsOut o → AreOuts os → AreOuts (o ∷ os)
+first_spelled o os is rest = All-cons IsOut o os is rest
 
 -- outputs and then others
-pub both_spelled : (os ps : List Out) → AreSpelled os → AreSpelled ps → AreSpelled (os ++ ps)
-both_spelled os ps g h = All-append IsWellSpelledOut os ps g h
+pub both_spelled : (os ps : List Out) → AreOuts os → AreOuts ps → AreOuts (os ++ ps)
+both_spelled os ps g h = All-append IsOut os ps g h
 
 -- Sending.
 
 -- a request
-pub sent_spelled : (s : Stores) (domain uri body : List ℕ) (to : Dst) → IsJar s.jar → IsDomain domain → IsRequest uri → IsUtf8 body → AreSpelled (stores.sent s domain uri body to).outputs
+pub sent_spelled : (s : Stores) (domain uri body : List ℕ) (to : Dst) → IsJar s.jar → IsDomain domain → IsRequest uri → IsUtf8 body → AreOuts (stores.sent s domain uri body to).outputs
 sent_spelled s domain uri body to jar is_domain is_request is_body =
-    one_spelled (out.Send domain uri _ body) (is_domain, is_request, pairs_spelled s.jar domain jar, is_body)
+    one_spelled (out.Send domain uri _ body) (record { spelled = (is_domain, is_request, pairs_spelled s.jar domain jar, is_body); ordered = pairs_ordered s.jar domain })
 
 -- what is put where there is room
-pub made_spelled : (b : Bool) (step : Stepped Out Stores) → (b ≡ true → AreSpelled step.outputs) → SpelledIfMade (cond b (Some step) None)
+pub made_spelled : (b : Bool) (step : Stepped Out Stores) → (b ≡ true → AreOuts step.outputs) → OutsIfMade (cond b (Some step) None)
 made_spelled true step h = h refl
 made_spelled false step h = tt
 
 -- a request where there is room
-pub send_spelled : (s : Stores) (domain uri body : List ℕ) (to : Dst) → IsJar s.jar → IsDomain domain → IsRequest uri → IsUtf8 body → SpelledIfMade (stores.send s domain uri body to)
+pub send_spelled : (s : Stores) (domain uri body : List ℕ) (to : Dst) → IsJar s.jar → IsDomain domain → IsRequest uri → IsUtf8 body → OutsIfMade (stores.send s domain uri body to)
 send_spelled s domain uri body to jar is_domain is_request is_body =
     made_spelled (stores.has_ask_room s domain) (stores.sent s domain uri body to) (λ room. sent_spelled s domain uri body to jar is_domain is_request is_body)
 
@@ -81,7 +85,7 @@ send_spelled s domain uri body to jar is_domain is_request is_body =
 
 -- a script that begins puts well spelled outputs, and leaves cookies and nodes
 record Begins (s : Stores) (step : Stepped Out Stores) : Type 0 where
-  pub spelled : AreSpelled step.outputs
+  pub spelled : AreOuts step.outputs
   pub jar : step.after.jar ≡ s.jar
   pub nodes : step.after.nodes ≡ s.nodes
 
@@ -130,7 +134,7 @@ pub address_kept : (all : List Node) (n : NodeId) (node : Node) → url_of node.
 address_kept all n node same have m =
     at_set (λ j (x : Node). (u : Url) → url_of x.shape ≡ Some u → IsWellSpelled u) all n.0 m.0 node no_node (λ u e. have n u (sym same ∙ e)) (have m)
 
-start_each_spelled : (page : PageId) (ns : List NodeId) (s : Stores) → IsJar s.jar → HaveAddresses s.nodes → AreSpelled (stores.start_each page ns s).outputs
+start_each_spelled : (page : PageId) (ns : List NodeId) (s : Stores) → IsJar s.jar → HaveAddresses s.nodes → AreOuts (stores.start_each page ns s).outputs
 start_each_spelled page [] s jar have = none_spelled
 start_each_spelled page (n ∷ ns) s jar have =
     let t : Stores = record s { nodes = nodes.started s.nodes n } in
@@ -141,7 +145,7 @@ start_each_spelled page (n ∷ ns) s jar have =
     (start_each_spelled page ns first.after (subst IsJar (sym one.jar) jar) (subst HaveAddresses (sym one.nodes) kept))
 
 -- the scripts of a tree that start
-pub start_spelled : (page : PageId) (n : NodeId) (s : Stores) → IsJar s.jar → HaveAddresses s.nodes → AreSpelled (stores.start page n s).outputs
+pub start_spelled : (page : PageId) (n : NodeId) (s : Stores) → IsJar s.jar → HaveAddresses s.nodes → AreOuts (stores.start page n s).outputs
 start_spelled page n s jar have = start_each_spelled page (nodes.scripts s.nodes n) s jar have
 
 -- Loading.
@@ -160,57 +164,57 @@ page_nodes_valid s w u docs valid are room =
     page_nodes m (windows.next_act s.windows) (omega arith) s.nodes valid.nodes (windows.next_page s.windows) (omega arith) docs (docs_spelled docs are) (docs_shallow docs are) (and_parts _ _ room).1
 
 -- documents that a window loads
-pub loaded_spelled : (s : Stores) (w : WinId) (u : Url) (docs : List Doc) → IsStores s → IsWellSpelled u → AllByRecursion IsWellSpelledDoc docs → stores.has_load_room s docs ≡ true → AreSpelled (stores.loaded s w u docs).outputs
+pub loaded_spelled : (s : Stores) (w : WinId) (u : Url) (docs : List Doc) → IsStores s → IsWellSpelled u → AllByRecursion IsWellSpelledDoc docs → stores.has_load_room s docs ≡ true → AreOuts (stores.loaded s w u docs).outputs
 loaded_spelled s w u docs valid is are room =
     let root = nodes.next_node s.nodes in
     let t = stores.with_shown_page s w u docs in
     let each : All IsNode t.nodes = (page_nodes_valid s w u docs valid are room).each in
     first_spelled (out.Loaded (stores.place s w) u (nodes.shown t.nodes root)) (stores.start (windows.next_page s.windows) root t).outputs
-    (place_fits s w valid, is, shown_spelled t.nodes root each)
+    (record { spelled = (place_fits s w valid, is, shown_spelled t.nodes root each); ordered = tt })
     (start_spelled (windows.next_page s.windows) root t valid.jar (addresses_spelled t.nodes each))
 
 -- the same where there is room
-pub load_spelled : (s : Stores) (w : WinId) (u : Url) (docs : List Doc) → IsStores s → IsWellSpelled u → AllByRecursion IsWellSpelledDoc docs → SpelledIfMade (stores.load s w u docs)
+pub load_spelled : (s : Stores) (w : WinId) (u : Url) (docs : List Doc) → IsStores s → IsWellSpelled u → AllByRecursion IsWellSpelledDoc docs → OutsIfMade (stores.load s w u docs)
 load_spelled s w u docs valid is are = made_spelled (stores.has_load_room s docs) (stores.loaded s w u docs) (loaded_spelled s w u docs valid is are)
 
 -- a window that goes to an address
-pub go_spelled : (s : Stores) (w : WinId) (u : Url) → IsStores s → IsWellSpelled u → SpelledIfMade (stores.go s w u)
+pub go_spelled : (s : Stores) (w : WinId) (u : Url) → IsStores s → IsWellSpelled u → OutsIfMade (stores.go s w u)
 go_spelled s w url.Blank valid is = load_spelled s w url.Blank [] valid tt tt
 go_spelled s w (url.At domain uri) valid is = send_spelled s domain uri [] (dst.Window w) valid.jar is.0 is.1 IsUtf8-nil
 
 -- Windows, joining and settling.
 
-or_nothing_spelled : (s : Stores) (step : Option (Stepped Out Stores)) → SpelledIfMade step → AreSpelled (stores.or_nothing s step).outputs
+or_nothing_spelled : (s : Stores) (step : Option (Stepped Out Stores)) → OutsIfMade step → AreOuts (stores.or_nothing s step).outputs
 or_nothing_spelled s None h = none_spelled
 or_nothing_spelled s (Some step) h = h
 
-send_first_spelled : (u : Url) (w : WinId) (s : Stores) → IsJar s.jar → IsWellSpelled u → AreSpelled (stores.send_first u w s).outputs
+send_first_spelled : (u : Url) (w : WinId) (s : Stores) → IsJar s.jar → IsWellSpelled u → AreOuts (stores.send_first u w s).outputs
 send_first_spelled url.Blank w s jar is = none_spelled
 send_first_spelled (url.At domain uri) w s jar is =
     or_nothing_spelled s (stores.send s domain uri [] (dst.Window w)) (send_spelled s domain uri [] (dst.Window w) jar is.0 is.1 IsUtf8-nil)
 
 -- a window that the user opens at an address
-pub opens_spelled : (s : Stores) (u : Url) → IsJar s.jar → IsWellSpelled u → AreSpelled (stores.opens s u).outputs
+pub opens_spelled : (s : Stores) (u : Url) → IsJar s.jar → IsWellSpelled u → AreOuts (stores.opens s u).outputs
 opens_spelled s u jar is = by (stores.has_window_room s) where
-  by : (b : Bool) → AreSpelled (stores.and_then s (cond b (Some (stores.opened s None None)) None) (stores.send_first u (windows.next_win s.windows))).outputs
+  by : (b : Bool) → AreOuts (stores.and_then s (cond b (Some (stores.opened s None None)) None) (stores.send_first u (windows.next_win s.windows))).outputs
   by false = none_spelled
   by true =
       let t = (stores.opened s None None).after in
-      first_spelled out.Opened (stores.send_first u (windows.next_win s.windows) t).outputs tt (send_first_spelled u (windows.next_win s.windows) t jar is)
+      first_spelled out.Opened (stores.send_first u (windows.next_win s.windows) t).outputs (record { spelled = tt; ordered = tt }) (send_first_spelled u (windows.next_win s.windows) t jar is)
 
 -- a window that closes
-pub closed_spelled : (s : Stores) (w : WinId) → IsStores s → AreSpelled (stores.close_window s w).outputs
-closed_spelled s w valid = one_spelled (out.Closed (stores.place s w)) (place_fits s w valid)
+pub closed_spelled : (s : Stores) (w : WinId) → IsStores s → AreOuts (stores.close_window s w).outputs
+closed_spelled s w valid = one_spelled (out.Closed (stores.place s w)) (record { spelled = place_fits s w valid; ordered = tt })
 
-start_in_spelled : (page : Option PageId) (n : NodeId) (s : Stores) → IsJar s.jar → HaveAddresses s.nodes → AreSpelled (stores.start_in page n s).outputs
+start_in_spelled : (page : Option PageId) (n : NodeId) (s : Stores) → IsJar s.jar → HaveAddresses s.nodes → AreOuts (stores.start_in page n s).outputs
 start_in_spelled None n s jar have = none_spelled
 start_in_spelled (Some page) n s jar have = by (is_live s.windows page) where
-  by : (b : Bool) → AreSpelled (cond b (stores.start page n s) (stores.nothing s)).outputs
+  by : (b : Bool) → AreOuts (cond b (stores.start page n s) (stores.nothing s)).outputs
   by true = start_spelled page n s jar have
   by false = none_spelled
 
 -- a child that is put under a parent
-pub insert_spelled : (s : Stores) (p c : NodeId) (place : ℕ) → IsStores s → AreSpelled (stores.insert s p c place).outputs
+pub insert_spelled : (s : Stores) (p c : NodeId) (place : ℕ) → IsStores s → AreOuts (stores.insert s p c place).outputs
 unfolding nodes.joined
 insert_spelled s p c place valid =
     let child : Node = record (node_at s.nodes c) { parent = Some p } in
@@ -220,18 +224,18 @@ insert_spelled s p c place valid =
     start_in_spelled (nodes.page_root_of s.nodes p) c (record s { nodes = nodes.joined s.nodes p c place; touched = stores.touched_at s p }) valid.jar
     (λ m. at_set (λ j (x : Node). (u : Url) → url_of x.shape ≡ Some u → IsWellSpelled u) under p.0 m.0 _ no_node (have p) (first m))
 
-one_or_none : (b : Bool) (o : Out) (rest : List Out) → IsWellSpelledOut o → AreSpelled rest → AreSpelled (cond b (o ∷ rest) rest)
+one_or_none : (b : Bool) (o : Out) (rest : List Out) → IsOut o → AreOuts rest → AreOuts (cond b (o ∷ rest) rest)
 one_or_none true o rest is h = first_spelled o rest is h
 one_or_none false o rest is h = h
 
-updates_spelled : (s : Stores) (at : ℕ) (ws : List WinId) → All IsNode s.nodes → at + length ws ≤ MOST_WINDOWS → AreSpelled (stores.updates_from s at ws)
+updates_spelled : (s : Stores) (at : ℕ) (ws : List WinId) → All IsNode s.nodes → at + length ws ≤ MOST_WINDOWS → AreOuts (stores.updates_from s at ws)
 updates_spelled s at [] are few = none_spelled
 updates_spelled s at (w ∷ ws) are few =
     let page = (window_at s.windows w).page in
     let root = (page_at s.windows page).root in
     one_or_none (finset.contains s.touched page.0) (out.Updated at (nodes.shown s.nodes root)) (stores.updates_from s (at + 1) ws)
-    (omega (arith, few), shown_spelled s.nodes root are) (updates_spelled s (at + 1) ws are (omega (arith, few)))
+    (record { spelled = (omega (arith, few), shown_spelled s.nodes root are); ordered = tt }) (updates_spelled s (at + 1) ws are (omega (arith, few)))
 
 -- what was changed, as it is shown
-pub settle_spelled : (s : Stores) → IsStores s → AreSpelled (stores.settle s).outputs
+pub settle_spelled : (s : Stores) → IsStores s → AreOuts (stores.settle s).outputs
 settle_spelled s valid = let few = valid.windows.opened.few in updates_spelled s 0 s.windows.opened valid.nodes.each (omega (arith, few))

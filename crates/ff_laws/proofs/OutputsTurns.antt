@@ -15,7 +15,6 @@ use Rattle.ff_tree.specs.declared.tree.Doc.{Doc}
 use Rattle.ff_tree.specs.declared.tree.Expr.{Expr}
 use Rattle.ff_value.specs.Spelled.{IsCookieOp, IsSpelledResp, IsWellSpelledResp, IsWellSpelledAct, IsWellSpelledInput}
 use Rattle.ff_value.specs.Weight.{resp_weight}
-use Rattle.ff_value.specs.declared.ids.NodeId.{NodeId}
 use Rattle.ff_value.specs.declared.ids.PageId.{PageId}
 use Rattle.ff_value.specs.declared.ids.WinId.{WinId}
 use Rattle.ff_value.specs.declared.input.Act.{Act}
@@ -24,7 +23,6 @@ use Rattle.ff_value.specs.declared.input.Input.{Input}
 use Rattle.ff_value.specs.declared.fault.Fault.{Fault}
 use Rattle.ff_value.specs.declared.output.Out.{Out}
 use Rattle.ff_value.specs.declared.output.Out.TheVariants as out
-use Rattle.ff_value.specs.declared.reply.CookieOp.{CookieOp}
 use Rattle.ff_value.specs.declared.reply.Resp.{Resp}
 use Rattle.ff_value.specs.declared.reply.Resp.TheVariants as resp
 use Rattle.ff_value.specs.declared.value.Val.{Val}
@@ -45,14 +43,14 @@ use Rattle.ff_machine.specs.Inputs.{user_window, user_node, goes, links, closes,
 use Rattle.ff_machine.specs.Turns.{Worked, work, go_on, gone, script_work, work_of, next_work, spend, turn_of, turn}
 use Rattle.ff_machine.specs.Alone.{IsPending}
 use Rattle.ff_machine.specs.Valid.{IsStores, IsTask}
-use Rattle.ff_laws.specs.Puts.{AreSpelled, SpelledIfMade, SpelledIfMoved}
+use Rattle.ff_laws.specs.Puts.{AreOuts, OutsIfMoved}
 use Rattle.ff_laws.proofs.Answering.{answered_valid}
 use Rattle.ff_laws.proofs.Asking.{asked_each}
 use Rattle.ff_laws.proofs.Cookies.{put_cookies_valid}
 use Rattle.ff_laws.proofs.Inputs.{got_item}
 use Rattle.ff_laws.proofs.Simple.{weighed_valid}
 use Rattle.ff_laws.proofs.OutputsRead.{place_fits}
-use Rattle.ff_laws.proofs.OutputsSteps.{none_spelled, one_spelled, first_spelled, load_spelled, go_spelled, opens_spelled, closed_spelled, settle_spelled, addresses_spelled}
+use Rattle.ff_laws.proofs.OutputsSteps.{OutsIfMade, none_spelled, one_spelled, first_spelled, load_spelled, go_spelled, opens_spelled, closed_spelled, settle_spelled, addresses_spelled}
 use Rattle.ff_laws.proofs.OutputsOperators.{red_spelled}
 
 -- Turns.
@@ -61,18 +59,18 @@ no_value : (e : Running) → value_of e ≡ None → is_value e ≡ false
 no_value (Done v) e = cc
 no_value other e = refl
 
-worked_spelled : (s : Stores) (task : Task) (o : Option Val) (red : Result Moved Fault) → IsStores s → (o ≡ None → SpelledIfMoved red)
-    → AreSpelled (go_on s task (as_reduction s task.running o red) (as_reduction s task.running o red).answer).outputs
+worked_spelled : (s : Stores) (task : Task) (o : Option Val) (red : Result Moved Fault) → IsStores s → (o ≡ None → OutsIfMoved red)
+    → AreOuts (go_on s task (as_reduction s task.running o red) (as_reduction s task.running o red).answer).outputs
 worked_spelled s task (Some v) red valid h = none_spelled
 worked_spelled s task None (Ok moved) valid h = h refl
-worked_spelled s task None (Err f) valid h = let w = (page_at s.windows task.page).win in one_spelled (out.Error (stores.place s w) f) (place_fits s w valid)
+worked_spelled s task None (Err f) valid h = let w = (page_at s.windows task.page).win in one_spelled (out.Error (stores.place s w) f) (record { spelled = place_fits s w valid; ordered = tt })
 
-one_worked : (b : Bool) (x y : Worked) → AreSpelled x.outputs → AreSpelled y.outputs → AreSpelled (cond b x y).outputs
+one_worked : (b : Bool) (x y : Worked) → AreOuts x.outputs → AreOuts y.outputs → AreOuts (cond b x y).outputs
 one_worked true x y g h = g
 one_worked false x y g h = h
 
 -- what work on a valid task puts
-work_spelled : (s : Stores) (task : Task) → IsStores s → IsTask s task → AreSpelled (work s task).outputs
+work_spelled : (s : Stores) (task : Task) → IsStores s → IsTask s task → AreOuts (work s task).outputs
 unfolding reduction
 work_spelled s task valid is =
     let r = reduction s task.page task.running in
@@ -84,7 +82,7 @@ work_spelled s task valid is =
 -- what is done next, if anything is, in a state with these stores
 abbrev WorkSpelled : Stores → Option (State → Step) → Type 0
 WorkSpelled s None = ⊤
-WorkSpelled s (Some f) = (t : State) → t.stores ≡ s → AreSpelled (f t).outputs
+WorkSpelled s (Some f) = (t : State) → t.stores ≡ s → AreOuts (f t).outputs
 
 script_spelled : (s : Stores) (script : Option ((PageId × Expr) × Stores)) → WorkSpelled s (script_work script)
 script_spelled s None = tt
@@ -92,32 +90,32 @@ script_spelled s (Some taken) = λ t e. none_spelled
 
 work_of_spelled : (s : Stores) (tasks : List Task) (script : Option ((PageId × Expr) × Stores)) → IsStores s → All (IsTask s) tasks → WorkSpelled s (work_of tasks script)
 work_of_spelled s [] script valid are = script_spelled s script
-work_of_spelled s (task ∷ tasks) script valid are = λ t e. subst (λ (x : Stores). AreSpelled (work x task).outputs) (sym e) (work_spelled s task valid (All-head (IsTask s) task tasks are))
+work_of_spelled s (task ∷ tasks) script valid are = λ t e. subst (λ (x : Stores). AreOuts (work x task).outputs) (sym e) (work_spelled s task valid (All-head (IsTask s) task tasks are))
 
-spend_spelled : (s : State) (fuel : ℕ) (f : State → Step) → IsStores s.stores → ((t : State) → t.stores ≡ s.stores → AreSpelled (f t).outputs) → AreSpelled (spend s fuel f).outputs
-spend_spelled s zero f valid h = first_spelled out.Stopped (stores.settle s.stores).outputs tt (settle_spelled s.stores valid)
+spend_spelled : (s : State) (fuel : ℕ) (f : State → Step) → IsStores s.stores → ((t : State) → t.stores ≡ s.stores → AreOuts (f t).outputs) → AreOuts (spend s fuel f).outputs
+spend_spelled s zero f valid h = first_spelled out.Stopped (stores.settle s.stores).outputs (record { spelled = tt; ordered = tt }) (settle_spelled s.stores valid)
 spend_spelled s (suc fuel) f valid h = h (record s { fuel = fuel }) refl
 
-turn_of_spelled : (s : State) (f : Option (State → Step)) → IsStores s.stores → WorkSpelled s.stores f → AreSpelled (turn_of s f).outputs
+turn_of_spelled : (s : State) (f : Option (State → Step)) → IsStores s.stores → WorkSpelled s.stores f → AreOuts (turn_of s f).outputs
 turn_of_spelled s None valid h = settle_spelled s.stores valid
 turn_of_spelled s (Some f) valid h = spend_spelled s s.fuel f valid h
 
 -- what a turn puts, where its tasks are valid
-pub turn_spelled : (s : State) → IsStores s.stores → All (IsTask s.stores) s.tasks → AreSpelled (turn s).outputs
+pub turn_spelled : (s : State) → IsStores s.stores → All (IsTask s.stores) s.tasks → AreOuts (turn s).outputs
 unfolding turn
 turn_spelled s valid are = turn_of_spelled s (next_work s) valid (work_of_spelled s.stores s.tasks (stores.take_ready s.stores) valid are)
 
 -- Inputs.
 
-room_spelled : (s : State) (step : Option (Stepped Out Stores)) → SpelledIfMade step → AreSpelled (if_room s step).outputs
+room_spelled : (s : State) (step : Option (Stepped Out Stores)) → OutsIfMade step → AreOuts (if_room s step).outputs
 room_spelled s None h = none_spelled
 room_spelled s (Some step) h = h
 
-given_spelled : {X : Type 0} (s : State) (x : Option X) (f : X → Step) → ((y : X) → x ≡ Some y → AreSpelled (f y).outputs) → AreSpelled (given s x f).outputs
+given_spelled : {X : Type 0} (s : State) (x : Option X) (f : X → Step) → ((y : X) → x ≡ Some y → AreOuts (f y).outputs) → AreOuts (given s x f).outputs
 given_spelled s None f h = none_spelled
 given_spelled s (Some x) f h = h x refl
 
-one_step : (b : Bool) (x y : Step) → (b ≡ true → AreSpelled x.outputs) → AreSpelled y.outputs → AreSpelled (cond b x y).outputs
+one_step : (b : Bool) (x y : Step) → (b ≡ true → AreOuts x.outputs) → AreOuts y.outputs → AreOuts (cond b x y).outputs
 one_step true x y g h = g refl
 one_step false x y g h = h
 
@@ -135,19 +133,19 @@ abbrev IsReply : Option Resp → Type 0
 IsReply None = ⊤
 IsReply (Some r) = IsWellSpelledResp r
 
-loads : (s : State) (w : WinId) (u : Url) (reply : Option Resp) → IsStores s.stores → IsWellSpelled u → IsReply reply → AreSpelled (load_reply s w u reply).outputs
+loads : (s : State) (w : WinId) (u : Url) (reply : Option Resp) → IsStores s.stores → IsWellSpelled u → IsReply reply → AreOuts (load_reply s w u reply).outputs
 loads s w u (Some (resp.Page cookies docs)) valid spelled is =
     let deep = is.shallow in
     one_step (is_open s.stores.windows w) (if_room s (stores.load s.stores w u docs)) (nothing s)
     (λ shown. room_spelled s (stores.load s.stores w u docs) (load_spelled s.stores w u docs valid spelled (docs_of docs is.spelled.1 (omega (arith, deep))))) none_spelled
 loads s w u other valid spelled is = none_spelled
 
-delivers : (s : State) (u : Url) (reply : Option Resp) (d : Dst) → IsStores s.stores → IsWellSpelled u → IsReply reply → AreSpelled (deliver_to s u reply d).outputs
+delivers : (s : State) (u : Url) (reply : Option Resp) (d : Dst) → IsStores s.stores → IsWellSpelled u → IsReply reply → AreOuts (deliver_to s u reply d).outputs
 delivers s u reply (dst.Window w) valid spelled is = loads s w u reply valid spelled is
 delivers s u reply (dst.Slot page slot) valid spelled is = one_step (is_live s.stores.windows page) _ (nothing s) (λ live. none_spelled) none_spelled
 delivers s u reply (dst.Call page code) valid spelled is = one_step (is_live s.stores.windows page) _ (nothing s) (λ live. none_spelled) none_spelled
 
-receives : (s : State) (domain : List ℕ) (r : Resp) (pending : Pending) → IsStores s.stores → IsDomain domain → IsWellSpelledResp r → IsPending pending → AreSpelled (receive s domain r pending).outputs
+receives : (s : State) (domain : List ℕ) (r : Resp) (pending : Pending) → IsStores s.stores → IsDomain domain → IsWellSpelledResp r → IsPending pending → AreOuts (receive s domain r pending).outputs
 receives s domain r pending valid is_domain is asked_is =
     let from = url.At domain pending.uri in
     let heavier = stores.weighed s.stores (resp_weight r) in
@@ -160,7 +158,7 @@ receives s domain r pending valid is_domain is asked_is =
     (delivers s from None pending.dst valid (is_domain, asked_is.uri) tt)
 
 replied : (s : State) (domain : List ℕ) (k : ℕ) (r : Resp) (o : Option Pending) → slice_get (asked s.stores.requests domain) k ≡ o → IsStores s.stores → IsDomain domain → IsWellSpelledResp r
-    → AreSpelled (given s (stores.taken_out s.stores domain k o) (λ t. receive (with_stores s t.1) domain r t.0)).outputs
+    → AreOuts (given s (stores.taken_out s.stores domain k o) (λ t. receive (with_stores s t.1) domain r t.0)).outputs
 replied s domain k r None e valid is_domain is = none_spelled
 replied s domain k r (Some pending) e valid is_domain is =
     let t : Stores = record s.stores { requests = answered s.stores.requests domain k } in
@@ -168,7 +166,7 @@ replied s domain k r (Some pending) e valid is_domain is =
     (got_item IsPending (asked s.stores.requests domain) k pending e (asked_each s.stores.requests domain (finmap.get s.stores.requests domain) refl valid.requests))
 
 -- what a well spelled act puts
-perform_spelled : (s : State) (a : Act) → IsStores s.stores → IsWellSpelledAct a → AreSpelled (perform s a).outputs
+perform_spelled : (s : State) (a : Act) → IsStores s.stores → IsWellSpelledAct a → AreOuts (perform s a).outputs
 perform_spelled s (act.Opens u) valid is = opens_spelled s.stores u valid.jar is
 perform_spelled s (act.Goes at u) valid is = given_spelled s (user_window s at) (goes s u) (λ w e. room_spelled s (stores.go s.stores w u) (go_spelled s.stores w u valid is.1))
 perform_spelled s (act.Links at n) valid is =
@@ -186,6 +184,6 @@ perform_spelled s (act.Clicks at n) valid is =
 perform_spelled s (act.Replies domain k r) valid is = replied s domain k r (slice_get (asked s.stores.requests domain) k) refl valid is.0 is.2
 
 -- what taking a well spelled input puts
-pub begin_spelled : (s : State) (i : Input) → IsStores s.stores → IsWellSpelledInput i → AreSpelled (begin s i).outputs
+pub begin_spelled : (s : State) (i : Input) → IsStores s.stores → IsWellSpelledInput i → AreOuts (begin s i).outputs
 unfolding begin
 begin_spelled s i valid is = perform_spelled (record s { fuel = s.budget; quiet = false }) i.act valid is

@@ -1,28 +1,35 @@
--- Which outputs are put: well spelled ones alone.
-use Rattle.std.specs.Prelude.{Option, Some, None, Result, Ok, Err, List, All, ⊤}
-use Rattle.ff_reactive.specs.Turns.{Stepped}
+-- Which outputs are put: well spelled ones alone, with the cookies of a request in order.
+use Rattle.std.specs.Prelude.{Result, Ok, Err, List, All, map, ⊤}
+use Rattle.std.specs.Ordering.{nat_cmp}
+use Rattle.std.specs.Cmp.Lexicographic.{slice_cmp}
+use Rattle.std.specs.List.Sorted.{IsStrictlySortedBy}
 use Rattle.ff_value.specs.Spelled.{IsWellSpelledOut}
 use Rattle.ff_value.specs.declared.fault.Fault.{Fault}
 use Rattle.ff_value.specs.declared.output.Out.{Out}
-use Rattle.ff_machine.specs.Stores.{Stores}
+use Rattle.ff_value.specs.declared.output.Out.TheVariants as out
 use Rattle.ff_machine.specs.Operators.{Outcome}
 use Rattle.ff_machine.specs.Reduction.{Moved}
 
--- each of the outputs is well spelled
-abbrev pub AreSpelled : List Out → Type 0
-AreSpelled outputs = All IsWellSpelledOut outputs
+-- the cookies of a request stand in byte order of their keys, each key once
+abbrev pub HasOrder : Out → Type 0
+HasOrder (out.Send domain request cookies body) = IsStrictlySortedBy (slice_cmp nat_cmp) (map (λ pair. pair.key) cookies)
+HasOrder other = ⊤
 
--- so are those of a step that is made, if it is
-abbrev pub SpelledIfMade : Option (Stepped Out Stores) → Type 0
-SpelledIfMade None = ⊤
-SpelledIfMade (Some step) = AreSpelled step.outputs
+-- an output that the notation spells, with its cookies in order
+pub record IsOut (o : Out) : Type 0 where
+  pub spelled : IsWellSpelledOut o
+  pub ordered : HasOrder o
 
--- those of an operator that doesn't fail
-abbrev pub SpelledUnlessFault : Outcome → Type 0
-SpelledUnlessFault (Ok did) = AreSpelled did.outputs
-SpelledUnlessFault (Err f) = ⊤
+-- each of the outputs is one
+abbrev pub AreOuts : List Out → Type 0
+AreOuts outputs = All IsOut outputs
 
--- and those of a reduction that doesn't fail
-abbrev pub SpelledIfMoved : Result Moved Fault → Type 0
-SpelledIfMoved (Ok moved) = AreSpelled moved.outputs
-SpelledIfMoved (Err f) = ⊤
+-- each output of an operator that doesn't fail is one
+abbrev pub OutsUnlessFault : Outcome → Type 0
+OutsUnlessFault (Ok did) = AreOuts did.outputs
+OutsUnlessFault (Err f) = ⊤
+
+-- each output of a reduction that doesn't fail is one
+abbrev pub OutsIfMoved : Result Moved Fault → Type 0
+OutsIfMoved (Ok moved) = AreOuts moved.outputs
+OutsIfMoved (Err f) = ⊤

@@ -19,6 +19,10 @@
 //! - Operators give valid values and keep stores (`Operating`, `Readings`, `Operate`), and so does
 //!   one reduction (`Becoming`, `Reducing`), taking an input (`Inputs`), and a turn whose tasks are
 //!   valid (`Working`). That the tasks stay valid is not proved.
+//! - `specs/Puts`: an output that is well spelled, with the cookies of a request in order. From valid
+//!   stores each output is one: what is read off stores (`OutputsRead`), the steps that put
+//!   (`OutputsSteps`), operators and one reduction (`OutputsOperators`), turns and inputs
+//!   (`OutputsTurns`).
 //! - A walk of a valid tree comes to each node once at most (`Walks`), so the scripts of a tree each
 //!   start once. That trees which are made or joined leave valid nodes is cited from `ff_machine`.
 #![tactic(auto)]

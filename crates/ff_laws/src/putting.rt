@@ -13,13 +13,14 @@ ghost use Rattle.ff_machine.specs.Inputs.{begin};
 ghost use Rattle.ff_machine.specs.Turns.{turn};
 ghost use Rattle.ff_machine.specs.References.{made};
 ghost use Rattle.ff_machine.specs.Valid.{IsVal, IsRunning, IsStores, IsTask};
-ghost use Rattle.ff_laws.specs.Puts.{AreSpelled, SpelledUnlessFault, SpelledIfMoved};
+ghost use Rattle.ff_laws.specs.Puts.{AreOuts, OutsUnlessFault, OutsIfMoved};
 
-/// From valid stores each output is well spelled: what taking a well spelled input puts, a turn whose
-/// tasks are valid, an operator with valid operands, and one reduction of a valid evaluation.
+/// From valid stores each output is well spelled, with the cookies of a request in byte order of
+/// their keys: what taking a well spelled input puts, a turn whose tasks are valid, an operator with
+/// valid operands, and one reduction of a valid evaluation.
 pub fn what_is_put_is_well_spelled()
-    ensures begin { (s : State) (i : Input) → IsStores s.stores → IsWellSpelledInput i → AreSpelled (begin s i).outputs }
-    ensures turn { (s : State) → IsStores s.stores → All (IsTask s.stores) s.tasks → AreSpelled (turn s).outputs }
-    ensures operator { (s : Stores) (page : PageId) → IsStores s → (op : Op) (args : List Val) → All (IsVal (made s)) args → SpelledUnlessFault (operate s page op args) }
-    ensures reduction { (s : Stores) (page : PageId) (t : Evaluation) → IsStores s → IsRunning (made s) t.expr → is_value t.expr ≡ false → SpelledIfMoved (Red s page t) }
+    ensures begin { (s : State) (i : Input) → IsStores s.stores → IsWellSpelledInput i → AreOuts (begin s i).outputs }
+    ensures turn { (s : State) → IsStores s.stores → All (IsTask s.stores) s.tasks → AreOuts (turn s).outputs }
+    ensures operator { (s : Stores) (page : PageId) → IsStores s → (op : Op) (args : List Val) → All (IsVal (made s)) args → OutsUnlessFault (operate s page op args) }
+    ensures reduction { (s : Stores) (page : PageId) (t : Evaluation) → IsStores s → IsRunning (made s) t.expr → is_value t.expr ≡ false → OutsIfMoved (Red s page t) }
 {}
