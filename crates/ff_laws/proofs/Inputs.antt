@@ -76,25 +76,29 @@ one_step_keeps s false x y g h = h
 
 -- What is read off valid stores.
 
-shape_url : (x : Shape) (u : Url) → IsShape x → url_of x ≡ Some u → IsWellSpelled u
+-- the address of a valid shape is well spelled
+pub shape_url : (x : Shape) (u : Url) → IsShape x → url_of x ≡ Some u → IsWellSpelled u
 shape_url (shape.Link x at text) u is e = let same : at ≡ u = cc in subst IsWellSpelled same is.1
 shape_url (shape.Src x started at) u is e = let same : at ≡ u = cc in subst IsWellSpelled same is.1
 shape_url other u is e = cc
 
-no_url : (u : Url) → url_of (shape.Div []) ≡ Some u → IsWellSpelled u
+-- and so is that of no node, which has none
+pub no_url : (u : Url) → url_of (shape.Div []) ≡ Some u → IsWellSpelled u
 no_url u e = cc
 
-docs_spelled : (docs : List Doc) → AllByRecursion IsSpelledDoc docs → most (map doc_depth docs) ≤ MOST_DEPTH → AllByRecursion IsWellSpelledDoc docs
+-- the documents of a well spelled reply are well spelled
+pub docs_spelled : (docs : List Doc) → AllByRecursion IsSpelledDoc docs → most (map doc_depth docs) ≤ MOST_DEPTH → AllByRecursion IsWellSpelledDoc docs
 docs_spelled [] is deep = tt
 docs_spelled (d ∷ ds) is deep = (record { spelled = is.0; shallow = omega (arith, deep) }, docs_spelled ds is.1 (omega (arith, deep)))
 
-cookies_spelled : (r : Resp) → IsSpelledResp r → AllByRecursion IsCookieOp (entries_of r)
+-- the cookies of a well spelled reply are well spelled
+pub cookies_spelled : (r : Resp) → IsSpelledResp r → AllByRecursion IsCookieOp (entries_of r)
 cookies_spelled (resp.Page cookies docs) is = is.0
 cookies_spelled (resp.Script cookies body) is = is.0
 cookies_spelled (resp.Data cookies text) is = is.0
 
 -- a reply that counts, if one does, is well spelled
-abbrev IsReply : Option Resp → Type 0
+abbrev pub IsReply : Option Resp → Type 0
 IsReply None = ⊤
 IsReply (Some r) = IsWellSpelledResp r
 
@@ -103,10 +107,12 @@ body_spelled (Some (resp.Script cookies body)) is = let deep = is.shallow in rec
 body_spelled other is = null_spelled
 
 module _ (s : State) (valid : IsStores s.stores) where
-  window_there : (at : ℕ) (w : WinId) → user_window s at ≡ Some w → w.0 < length s.stores.windows.windows
+  -- the window that the user points at was made
+  pub window_there : (at : ℕ) (w : WinId) → user_window s at ≡ Some w → w.0 < length s.stores.windows.windows
   window_there at w e = got_item (λ v. v.0 < length s.stores.windows.windows) s.stores.windows.opened at w e valid.windows.opened.there
 
-  node_there : (w : WinId) (k : Kind) (n : ℕ) (m : NodeId) → w.0 < length s.stores.windows.windows → user_node s w k n ≡ Some m → m.0 < length s.stores.nodes
+  -- and so was the node
+  pub node_there : (w : WinId) (k : Kind) (n : ℕ) (m : NodeId) → w.0 < length s.stores.windows.windows → user_node s w k n ≡ Some m → m.0 < length s.stores.nodes
   node_there w k n m there e =
       let shows : IsWindow (length s.stores.windows.windows) (length s.stores.windows.pages) (window_at s.stores.windows w) = valid.windows.windows w.0 no_window there in
       let page : PageRefers (made s.stores) (page_at s.stores.windows (page_in s w)) = valid.refer.pages (page_in s w).0 no_page shows.page in

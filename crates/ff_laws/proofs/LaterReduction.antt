@@ -28,7 +28,8 @@ abbrev BecameLater : Stores → Result Became Fault → Type 0
 BecameLater s (Ok became) = AreLater s became.after
 BecameLater s (Err f) = ⊤
 
-abbrev MovedLater : Stores → Result Moved Fault → Type 0
+-- a reduction that doesn't fail leaves later stores
+abbrev pub MovedLater : Stores → Result Moved Fault → Type 0
 MovedLater s (Ok moved) = AreLater s moved.after
 MovedLater s (Err f) = ⊤
 
@@ -94,7 +95,8 @@ put_later : (s : Stores) (t : Evaluation) (became : Result Became Fault) → Bec
 put_later s t (Ok became) h = h
 put_later s t (Err f) h = tt
 
-red_later : (s : Stores) (page : PageId) (t : Evaluation) → MovedLater s (Red s page t)
+-- the one reduction of an evaluation leaves later stores
+pub red_later : (s : Stores) (page : PageId) (t : Evaluation) → MovedLater s (Red s page t)
 unfolding Red
 red_later s page t =
     put_later s t _ (reduced_later s page (innermost t.base t.expr) (calls_around t.expr) (redex t.expr) (read_redex (redex t.expr)))

@@ -96,7 +96,8 @@ abbrev pub TakenLater : {X : Type 0} → Stores → Option (X × Stores) → Typ
 TakenLater s None = ⊤
 TakenLater s (Some taken) = AreLater s taken.1
 
-taken_out : (s : Stores) (domain : List ℕ) (k : ℕ) (pending : Option Pending) → TakenLater s (stores.taken_out s domain k pending)
+-- a pending request, if there is one, is taken out
+pub taken_out : (s : Stores) (domain : List ℕ) (k : ℕ) (pending : Option Pending) → TakenLater s (stores.taken_out s domain k pending)
 taken_out s domain k None = tt
 taken_out s domain k (Some pending) = record { nodes = omega arith; windows = windows_later.unchanged s.windows; mass = omega arith }
 

@@ -88,16 +88,17 @@ turn_later s = turn_of_later s (next_work s) (work_of_later s.stores s.tasks (st
 -- what follows in a state: its stores are later, and only its tasks are others
 record IsChanged (s t : State) : Type 0 where
   pub later : AreLater s.stores t.stores
+  pub budget : t.budget ≡ s.budget
   pub quiet : t.quiet ≡ s.quiet
 
 changed : (s : State) (t : Stores) (tasks : List Task) → AreLater s.stores t → IsChanged s (record s { stores = t; tasks = tasks })
-changed s t tasks h = record { later = h; quiet = refl }
+changed s t tasks h = record { later = h; budget = refl; quiet = refl }
 
 alike : (s : State) → IsChanged s s
-alike s = record { later = unchanged s.stores; quiet = refl }
+alike s = record { later = unchanged s.stores; budget = refl; quiet = refl }
 
 over : (s : State) (t : Stores) (u : State) → AreLater s.stores t → IsChanged (with_stores s t) u → IsChanged s u
-over s t u g h = record { later = both s.stores t u.stores g h.later; quiet = h.quiet }
+over s t u g h = record { later = both s.stores t u.stores g h.later; budget = h.budget; quiet = h.quiet }
 
 room_later : (s : State) (step : Option (Stepped Out Stores)) → MaybeLater s.stores step → IsChanged s (if_room s step).after
 room_later s None h = alike s
@@ -166,6 +167,11 @@ begin_later s i = (perform_later (record s { fuel = s.budget; quiet = false }) i
 pub begin_busy : (s : State) (i : Input) → (begin s i).after.quiet ≡ false
 unfolding begin
 begin_busy s i = (perform_later (record s { fuel = s.budget; quiet = false }) i.act).quiet
+
+-- what an input brings stays as it is
+pub begin_budget : (s : State) (i : Input) → (begin s i).after.budget ≡ s.budget
+unfolding begin
+begin_budget s i = (perform_later (record s { fuel = s.budget; quiet = false }) i.act).budget
 
 -- Whole inputs.
 

@@ -34,7 +34,13 @@ pub mod Readings
 pub mod Operate
 pub mod Inputs
 pub mod Working
+pub mod TasksDepth
+pub mod TasksPlacing
+pub mod TasksWorking
+pub mod TasksBeginning
+pub mod States
 pub mod OutputsRead
 pub mod OutputsSteps
 pub mod OutputsOperators
 pub mod OutputsTurns
+pub mod OutputsRuns

@@ -11,7 +11,6 @@ use Rattle.std.specs.Cmp.{IsTotalOrder, Equal-is, eq_by_cmp_equiv}
 use Rattle.std.specs.Cmp.Lexicographic.{slice_cmp, nat_list_cmp_total}
 use Rattle.std.specs.FinMap as finmap
 use Rattle.std.specs.FinMap.Entries.{below_all, is_sorted, is_sorted-where_key, find}
-use Rattle.std.proofs.lemmas.Cmp.{then_total, on_total}
 use Rattle.std.proofs.lemmas.List.Elements.{All-from_recursion, recursion_from_All, All-filter, All-map, All-weaker, filter_passes}
 use Rattle.std.proofs.lemmas.List.Quantifiers.{position-Some}
 use Rattle.std.proofs.lemmas.Map.Text.{is_eq-slice_cmp}
@@ -36,6 +35,7 @@ use Rattle.ff_machine.specs.Stores.{Stores}
 use Rattle.ff_machine.specs.Alone.{IsShape, IsNode, IsJar}
 use Rattle.ff_machine.specs.Valid.{IsStores}
 use Rattle.ff_laws.proofs.Acts.{same_name}
+use Rattle.ff_laws.proofs.Cookies.{cookie_total}
 use Rattle.ff_laws.proofs.Simple.{at_any}
 
 -- Cookies.
@@ -65,10 +65,6 @@ module _ {K X : Type 0} {R : K → K → Ordering} (o : IsTotalOrder R) where
       let sorted_both = both_hold (below_all R e.0 es) (is_sorted R es) sorted in
       (ap (λ (b : Bool). cond b (Some e.1) (find R e.0 es)) ((eq_by_cmp_equiv o).refl e.0), found_behind e es es sorted_both.0 (each_found es sorted_both.1))
 
--- the order of cookies is total
-cookies_total : IsTotalOrder cookie_cmp
-cookies_total = then_total (on_total (λ (s : List ℕ × List ℕ). s.0) nat_list_cmp_total) (on_total (λ (s : List ℕ × List ℕ). s.1) nat_list_cmp_total)
-
 -- a cookie as a pair of its key and its value
 abbrev pair_of : (List ℕ × List ℕ) × List ℕ → Pair
 pair_of e = record { key = e.0.1; value = e.1 }
@@ -77,7 +73,7 @@ pair_of e = record { key = e.0.1; value = e.1 }
 pub pairs_spelled : (jar : Jar) (domain : List ℕ) → IsJar jar → AllByRecursion IsSpelledPair (pairs_of jar domain)
 pairs_spelled jar domain are =
     let es = finmap.entries jar in
-    let found : All (λ (e : (List ℕ × List ℕ) × List ℕ). find cookie_cmp e.0 es ≡ Some e.1) es = All-from_recursion _ es (each_found cookies_total es (finmap.entries_sorted jar)) in
+    let found : All (λ (e : (List ℕ × List ℕ) × List ℕ). find cookie_cmp e.0 es ≡ Some e.1) es = All-from_recursion _ es (each_found cookie_total es (finmap.entries_sorted jar)) in
     let each : All (λ (e : (List ℕ × List ℕ) × List ℕ). IsSpelledPair (pair_of e)) es =
     All-weaker (λ (e : (List ℕ × List ℕ) × List ℕ). find cookie_cmp e.0 es ≡ Some e.1) (λ e. IsSpelledPair (pair_of e))
     (λ e h. let is = are.each e.0.0 e.0.1 e.1 (finmap.get-entries jar e.0 ∙ h) in (is.key_is, is.value_is)) es found in

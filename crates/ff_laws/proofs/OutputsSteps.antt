@@ -1,19 +1,18 @@
 -- The steps of valid stores put well spelled outputs.
-use Rattle.std.proofs.Common.{◌≡◌, ℕ, suc, ◌+◌, ◌≤◌, Bool, true, false, cond, Option, Some, None, List, [], ◌∷◌, ◌++◌, map, length, All, refl, sym, subst, ◌∙◌, arith}
+use Rattle.std.proofs.Common.{◌≡◌, ℕ, suc, ◌+◌, ◌≤◌, Bool, true, false, cond, Option, Some, None, List, [], ◌∷◌, ◌++◌, length, All, refl, sym, subst, ◌∙◌, arith}
 use Rattle.std.specs.Prelude.{⊤}
 use Rattle.std.specs.List.{AllByRecursion}
 use Rattle.std.specs.Str.{IsUtf8}
 use Rattle.std.specs.FinSet as finset
 use Rattle.std.proofs.lemmas.Bool.{and_parts}
-use Rattle.std.proofs.lemmas.List.Elements.{All-nil, All-cons, All-append, All-weaker, All-from_recursion, recursion_from_All}
+use Rattle.std.proofs.lemmas.List.Elements.{All-nil, All-cons, All-append, All-weaker}
 use Rattle.std.proofs.lemmas.Str.{IsUtf8-nil}
 use Rattle.ff_reactive.specs.Turns.{Stepped}
 use Rattle.ff_name.specs.Spelling.{IsDomain}
 use Rattle.ff_name.specs.Address.{IsRequest, IsWellSpelled}
-use Rattle.ff_name.specs.declared.limits.TheConstants.{MOST_DEPTH}
 use Rattle.ff_name.specs.declared.urls.Url.{Url}
 use Rattle.ff_name.specs.declared.urls.Url.TheVariants as url
-use Rattle.ff_tree.specs.Spelled.{IsSpelledDoc, IsWellSpelledDoc, most, doc_depth}
+use Rattle.ff_tree.specs.Spelled.{IsWellSpelledDoc}
 use Rattle.ff_tree.specs.declared.tree.Doc.{Doc}
 use Rattle.ff_tree.specs.declared.tree.Expr.TheVariants as expr
 use Rattle.ff_tree.specs.declared.tree.Lit.TheVariants as lit
@@ -34,12 +33,14 @@ use Rattle.ff_machine.specs.Windows as windows
 use Rattle.ff_machine.specs.Windows.{is_live, page_at, window_at}
 use Rattle.ff_machine.specs.Stores as stores
 use Rattle.ff_machine.specs.Stores.{Stores}
-use Rattle.ff_machine.specs.Alone.{IsShape, IsNode, IsJar, AreNodes}
+use Rattle.ff_machine.specs.Alone.{IsNode, IsJar, AreNodes}
 use Rattle.ff_machine.specs.References.{Made}
 use Rattle.ff_machine.specs.Valid.{IsStores}
 use Rattle.ff_machine.proofs.MadeTrees.{page_made as page_nodes}
 use Rattle.ff_laws.specs.Puts.{IsOut, AreOuts}
+use Rattle.ff_laws.proofs.Inputs.{shape_url, no_url}
 use Rattle.ff_laws.proofs.Lists.{at_set}
+use Rattle.ff_laws.proofs.Paging.{all_spelled, all_shallow}
 use Rattle.ff_laws.proofs.Simple.{at_any}
 use Rattle.ff_laws.proofs.OutputsRead.{pairs_spelled, pairs_ordered, shown_spelled, place_fits}
 
@@ -110,19 +111,11 @@ begun_begins s page other jar is = record { spelled = none_spelled; jar = refl; 
 abbrev pub HaveAddresses : List Node → Type 0
 HaveAddresses all = (n : NodeId) (u : Url) → url_of (node_at all n).shape ≡ Some u → IsWellSpelled u
 
-shape_address : (x : Shape) (u : Url) → IsShape x → url_of x ≡ Some u → IsWellSpelled u
-shape_address (shape.Link x at text) u is e = let same : at ≡ u = cc in subst IsWellSpelled same is.1
-shape_address (shape.Src x started at) u is e = let same : at ≡ u = cc in subst IsWellSpelled same is.1
-shape_address other u is e = cc
-
-no_address : (u : Url) → url_of (shape.Div []) ≡ Some u → IsWellSpelled u
-no_address u e = cc
-
 -- each address in valid nodes is well spelled
 pub addresses_spelled : (all : List Node) → All IsNode all → HaveAddresses all
 addresses_spelled all are n =
     at_any (λ (node : Node). (u : Url) → url_of node.shape ≡ Some u → IsWellSpelled u) all n.0 no_node
-    (All-weaker IsNode (λ (node : Node). (u : Url) → url_of node.shape ≡ Some u → IsWellSpelled u) (λ node h u e. shape_address node.shape u h.shape e) all are) no_address
+    (All-weaker IsNode (λ (node : Node). (u : Url) → url_of node.shape ≡ Some u → IsWellSpelled u) (λ node h u e. shape_url node.shape u h.shape e) all are) no_url
 
 started_address : (x : Shape) → url_of (as_started x) ≡ url_of x
 started_address (shape.Script x started body) = refl
@@ -150,18 +143,11 @@ start_spelled page n s jar have = start_each_spelled page (nodes.scripts s.nodes
 
 -- Loading.
 
-docs_shallow : (docs : List Doc) → AllByRecursion IsWellSpelledDoc docs → most (map doc_depth docs) ≤ MOST_DEPTH
-docs_shallow [] is = omega arith
-docs_shallow (d ∷ ds) is = let one = is.0.shallow in let rest = docs_shallow ds is.1 in omega (arith, one, rest)
-
-docs_spelled : (docs : List Doc) → AllByRecursion IsWellSpelledDoc docs → AllByRecursion IsSpelledDoc docs
-docs_spelled docs is = recursion_from_All IsSpelledDoc docs (All-weaker IsWellSpelledDoc IsSpelledDoc (λ d h. h.spelled) docs (All-from_recursion IsWellSpelledDoc docs is))
-
 -- the nodes of stores with a page more are valid
 page_nodes_valid : (s : Stores) (w : WinId) (u : Url) (docs : List Doc) → IsStores s → AllByRecursion IsWellSpelledDoc docs → stores.has_load_room s docs ≡ true → AreNodes (stores.with_page s w u docs).nodes
 page_nodes_valid s w u docs valid are room =
     let m : Made = record { wins = 0; pages = suc (length s.windows.pages); nodes = 0; acts = suc (length s.windows.acts) } in
-    page_nodes m (windows.next_act s.windows) (omega arith) s.nodes valid.nodes (windows.next_page s.windows) (omega arith) docs (docs_spelled docs are) (docs_shallow docs are) (and_parts _ _ room).1
+    page_nodes m (windows.next_act s.windows) (omega arith) s.nodes valid.nodes (windows.next_page s.windows) (omega arith) docs (all_spelled docs are) (all_shallow docs are) (and_parts _ _ room).1
 
 -- documents that a window loads
 pub loaded_spelled : (s : Stores) (w : WinId) (u : Url) (docs : List Doc) → IsStores s → IsWellSpelled u → AllByRecursion IsWellSpelledDoc docs → stores.has_load_room s docs ≡ true → AreOuts (stores.loaded s w u docs).outputs

@@ -1,19 +1,15 @@
 -- Turns and inputs from valid stores put well spelled outputs.
-use Rattle.std.proofs.Common.{◌≡◌, ℕ, zero, suc, ◌≤◌, Bool, true, false, cond, Option, Some, None, Result, Ok, Err, List, [], ◌∷◌, map, slice_get, All, refl, sym, subst, arith}
+use Rattle.std.proofs.Common.{◌≡◌, ℕ, zero, suc, Bool, true, false, cond, Option, Some, None, Result, Ok, Err, List, [], ◌∷◌, slice_get, All, refl, sym, subst, arith}
 use Rattle.std.specs.Prelude.{⊤}
-use Rattle.std.specs.List.{AllByRecursion}
 use Rattle.std.specs.FinMap as finmap
 use Rattle.std.proofs.lemmas.List.Elements.{All-head}
 use Rattle.ff_reactive.specs.Turns.{Stepped}
 use Rattle.ff_name.specs.Spelling.{IsDomain}
 use Rattle.ff_name.specs.Address.{IsWellSpelled}
-use Rattle.ff_name.specs.declared.limits.TheConstants.{MOST_DEPTH}
 use Rattle.ff_name.specs.declared.urls.Url.{Url}
 use Rattle.ff_name.specs.declared.urls.Url.TheVariants as url
-use Rattle.ff_tree.specs.Spelled.{IsSpelledDoc, IsWellSpelledDoc, most, doc_depth}
-use Rattle.ff_tree.specs.declared.tree.Doc.{Doc}
 use Rattle.ff_tree.specs.declared.tree.Expr.{Expr}
-use Rattle.ff_value.specs.Spelled.{IsCookieOp, IsSpelledResp, IsWellSpelledResp, IsWellSpelledAct, IsWellSpelledInput}
+use Rattle.ff_value.specs.Spelled.{IsWellSpelledResp, IsWellSpelledAct, IsWellSpelledInput}
 use Rattle.ff_value.specs.Weight.{resp_weight}
 use Rattle.ff_value.specs.declared.ids.PageId.{PageId}
 use Rattle.ff_value.specs.declared.ids.WinId.{WinId}
@@ -26,7 +22,7 @@ use Rattle.ff_value.specs.declared.output.Out.TheVariants as out
 use Rattle.ff_value.specs.declared.reply.Resp.{Resp}
 use Rattle.ff_value.specs.declared.reply.Resp.TheVariants as resp
 use Rattle.ff_value.specs.declared.value.Val.{Val}
-use Rattle.ff_term.specs.Running.{Running, Done, is_value, value_of}
+use Rattle.ff_term.specs.Running.{value_of}
 use Rattle.ff_machine.specs.declared.kinds.Kind.TheVariants as kind
 use Rattle.ff_machine.specs.declared.records.Dst.{Dst}
 use Rattle.ff_machine.specs.declared.records.Dst.TheVariants as dst
@@ -47,17 +43,14 @@ use Rattle.ff_laws.specs.Puts.{AreOuts, OutsIfMoved}
 use Rattle.ff_laws.proofs.Answering.{answered_valid}
 use Rattle.ff_laws.proofs.Asking.{asked_each}
 use Rattle.ff_laws.proofs.Cookies.{put_cookies_valid}
-use Rattle.ff_laws.proofs.Inputs.{got_item}
+use Rattle.ff_laws.proofs.Inputs.{IsReply, got_item, docs_spelled, cookies_spelled}
 use Rattle.ff_laws.proofs.Simple.{weighed_valid}
+use Rattle.ff_laws.proofs.Working.{unfinished}
 use Rattle.ff_laws.proofs.OutputsRead.{place_fits}
 use Rattle.ff_laws.proofs.OutputsSteps.{OutsIfMade, none_spelled, one_spelled, first_spelled, load_spelled, go_spelled, opens_spelled, closed_spelled, settle_spelled, addresses_spelled}
 use Rattle.ff_laws.proofs.OutputsOperators.{red_spelled}
 
 -- Turns.
-
-no_value : (e : Running) → value_of e ≡ None → is_value e ≡ false
-no_value (Done v) e = cc
-no_value other e = refl
 
 worked_spelled : (s : Stores) (task : Task) (o : Option Val) (red : Result Moved Fault) → IsStores s → (o ≡ None → OutsIfMoved red)
     → AreOuts (go_on s task (as_reduction s task.running o red) (as_reduction s task.running o red).answer).outputs
@@ -76,7 +69,7 @@ work_spelled s task valid is =
     let r = reduction s task.page task.running in
     one_worked (is_live s.windows task.page) (go_on s task r r.answer) (gone s [])
     (worked_spelled s task (value_of task.running.expr) (Red s task.page task.running) valid
-    (λ e. red_spelled s task.page task.running valid is.running (no_value task.running.expr e)))
+    (λ e. red_spelled s task.page task.running valid is.running (unfinished task.running.expr e)))
     none_spelled
 
 -- what is done next, if anything is, in a state with these stores
@@ -119,25 +112,11 @@ one_step : (b : Bool) (x y : Step) → (b ≡ true → AreOuts x.outputs) → Ar
 one_step true x y g h = g refl
 one_step false x y g h = h
 
-docs_of : (docs : List Doc) → AllByRecursion IsSpelledDoc docs → most (map doc_depth docs) ≤ MOST_DEPTH → AllByRecursion IsWellSpelledDoc docs
-docs_of [] is deep = tt
-docs_of (d ∷ ds) is deep = (record { spelled = is.0; shallow = omega (arith, deep) }, docs_of ds is.1 (omega (arith, deep)))
-
-cookies_of : (r : Resp) → IsSpelledResp r → AllByRecursion IsCookieOp (entries_of r)
-cookies_of (resp.Page cookies docs) is = is.0
-cookies_of (resp.Script cookies body) is = is.0
-cookies_of (resp.Data cookies text) is = is.0
-
--- a reply that counts, if one does, is well spelled
-abbrev IsReply : Option Resp → Type 0
-IsReply None = ⊤
-IsReply (Some r) = IsWellSpelledResp r
-
 loads : (s : State) (w : WinId) (u : Url) (reply : Option Resp) → IsStores s.stores → IsWellSpelled u → IsReply reply → AreOuts (load_reply s w u reply).outputs
 loads s w u (Some (resp.Page cookies docs)) valid spelled is =
     let deep = is.shallow in
     one_step (is_open s.stores.windows w) (if_room s (stores.load s.stores w u docs)) (nothing s)
-    (λ shown. room_spelled s (stores.load s.stores w u docs) (load_spelled s.stores w u docs valid spelled (docs_of docs is.spelled.1 (omega (arith, deep))))) none_spelled
+    (λ shown. room_spelled s (stores.load s.stores w u docs) (load_spelled s.stores w u docs valid spelled (docs_spelled docs is.spelled.1 (omega (arith, deep))))) none_spelled
 loads s w u other valid spelled is = none_spelled
 
 delivers : (s : State) (u : Url) (reply : Option Resp) (d : Dst) → IsStores s.stores → IsWellSpelled u → IsReply reply → AreOuts (deliver_to s u reply d).outputs
@@ -153,7 +132,7 @@ receives s domain r pending valid is_domain is asked_is =
     one_step (may_weigh s.stores (resp_weight r)) (deliver t domain pending (Some r)) (deliver s domain pending None)
     (λ may.
     let first = weighed_valid s.stores (resp_weight r) valid may in
-    let second = put_cookies_valid heavier domain (entries_of r) first.stores is_domain (cookies_of r is.spelled) in
+    let second = put_cookies_valid heavier domain (entries_of r) first.stores is_domain (cookies_spelled r is.spelled) in
     delivers t from (Some r) pending.dst second.stores (is_domain, asked_is.uri) is)
     (delivers s from None pending.dst valid (is_domain, asked_is.uri) tt)
 

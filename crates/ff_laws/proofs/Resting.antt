@@ -18,10 +18,11 @@ use Rattle.ff_machine.proofs.Fuel.{ends_quiet}
 use Rattle.ff_laws.proofs.LaterTurns.{begin_busy}
 
 -- the state is at rest, if it is quiet
-abbrev RestsIfQuiet : State → Type 0
+abbrev pub RestsIfQuiet : State → Type 0
 RestsIfQuiet s = s.quiet ≡ true → IsQuiet s
 
-busy : (s : State) → s.quiet ≡ false → RestsIfQuiet s
+-- a state that isn't quiet
+pub busy : (s : State) → s.quiet ≡ false → RestsIfQuiet s
 busy s e = λ h. absurd (false≢true (sym e ∙ h))
 
 -- what is done next leaves a state busy
@@ -38,7 +39,7 @@ work_busy [] script = script_busy script
 work_busy (task ∷ tasks) script = λ t e. e
 
 -- there are tasks only where something is done next
-nothing_left : (tasks : List Task) (script : Option ((PageId × Expr) × Stores)) → work_of tasks script ≡ None → tasks ≡ []
+pub nothing_left : (tasks : List Task) (script : Option ((PageId × Expr) × Stores)) → work_of tasks script ≡ None → tasks ≡ []
 nothing_left [] script e = refl
 nothing_left (task ∷ tasks) script e = cc
 
@@ -50,7 +51,8 @@ turn_rests_of : (s : State) (f : Option (State → Step)) → s.quiet ≡ false 
 turn_rests_of s None e h none = λ _. record { tasks = none refl; fuel = refl; touched = refl }
 turn_rests_of s (Some f) e h none = spend_rests s s.fuel f e h
 
-turn_rests : (s : State) → s.quiet ≡ false → RestsIfQuiet (turn s).after
+-- a turn leaves a state that is at rest, if it is quiet
+pub turn_rests : (s : State) → s.quiet ≡ false → RestsIfQuiet (turn s).after
 unfolding turn
 turn_rests s e =
     let script = stores.take_ready s.stores in

@@ -25,7 +25,8 @@ use Rattle.ff_laws.proofs.Simple.{settled_valid}
 use Rattle.ff_laws.proofs.Slots.{popped_valid}
 use Rattle.ff_laws.proofs.Starting.{kept}
 
-unfinished : (e : Running) → value_of e ≡ None → is_value e ≡ false
+-- an expression without a value is not one
+pub unfinished : (e : Running) → value_of e ≡ None → is_value e ≡ false
 unfinished (Done v) e = cc
 unfinished other e = refl
 
@@ -59,7 +60,8 @@ TakenKeeps s (Some taken) = Keeps s taken.1
 none_some : {body : Expr} → None ≡ Some body → ⊥
 none_some e = cc
 
-queue_lives : (s : Stores) (page : PageId) (body : Expr) → first_ready (page_at s.windows page).queue ≡ Some body → page.0 < length s.windows.pages
+-- a page whose queue begins with a script was made
+pub queue_lives : (s : Stores) (page : PageId) (body : Expr) → first_ready (page_at s.windows page).queue ≡ Some body → page.0 < length s.windows.pages
 queue_lives s page body e =
     ⊎_elim (λ l. l) (λ l. absurd (none_some (sym (ap (λ (x : Page). first_ready x.queue) (get_or_past s.windows.pages page.0 no_page l)) ∙ e))) (cases_lt page.0 (length s.windows.pages))
 

@@ -1,9 +1,11 @@
-ghost use Rattle.std.specs.Prelude.{◌≡◌, ◌<◌, ℕ, ℤ, true, false, None, List, All, length};
+ghost use Rattle.std.specs.Prelude.{◌≡◌, ◌<◌, ℕ, ℤ, true, false, None, List, All, length, ⊤};
 ghost use Rattle.std.specs.List.{AllByRecursion};
 ghost use Rattle.std.specs.Str.{IsUtf8};
 ghost use Rattle.ff_name.specs.Address.{IsRequest, IsWellSpelled};
 ghost use Rattle.ff_name.specs.Spelling.{IsDomain};
 ghost use Rattle.ff_name.specs.declared.urls.Url.{Url};
+ghost use Rattle.ff_reactive.specs.Runs.{after};
+ghost use Rattle.ff_reactive.specs.Turns.{KeepsOk, machine_of};
 ghost use Rattle.ff_tree.specs.Spelled.{IsVar, AreParams, IsWellSpelledDoc, IsWellSpelledExpr};
 ghost use Rattle.ff_tree.specs.declared.op.Op.{Op};
 ghost use Rattle.ff_tree.specs.declared.tree.Doc.{Doc};
@@ -29,9 +31,10 @@ ghost use Rattle.ff_machine.specs.Reduction.{Red, with_acts, make_tree};
 ghost use Rattle.ff_machine.specs.State.{State, Task};
 ghost use Rattle.ff_machine.specs.Inputs.{begin};
 ghost use Rattle.ff_machine.specs.Turns.{turn};
+ghost use Rattle.ff_machine.specs.Machine.{reactor, browser};
 ghost use Rattle.ff_machine.specs.Alone.{IsDst};
 ghost use Rattle.ff_machine.specs.References.{Made, Grows, made, DstRefers, StoresRefer};
-ghost use Rattle.ff_machine.specs.Valid.{IsCode, IsVal, IsRunning, IsStores, IsTask};
+ghost use Rattle.ff_machine.specs.Valid.{IsCode, IsVal, IsRunning, IsStores, IsTask, IsQuiet, IsState};
 ghost use Rattle.ff_laws.specs.Keeps.{Keeps, KeepsIfMade};
 ghost use Rattle.ff_laws.specs.Reduced.{KeepsUnlessFault, MovesUnlessFault};
 
@@ -93,4 +96,15 @@ pub fn a_reduction_keeps_stores_valid()
 pub fn inputs_and_turns_keep_stores_valid()
     ensures begin { (s : State) (i : Input) → IsStores s.stores → IsWellSpelledInput i → Keeps s.stores (begin s i).after.stores }
     ensures turn { (s : State) → IsStores s.stores → All (IsTask s.stores) s.tasks → Keeps s.stores (turn s).after.stores }
+{}
+
+/// Valid states stay valid, their tasks too: when a well spelled input is taken, at each turn, and
+/// when an input is handled in however many turns. After a run over well spelled inputs the state is
+/// valid, and nothing is left to do, to show or to spend.
+pub fn states_stay_valid()
+    ensures begin { (budget : ℕ) (s : State) (i : Input) → IsState budget s → IsWellSpelledInput i → IsState budget (begin s i).after }
+    ensures turn { (budget : ℕ) (s : State) → IsState budget s → IsState budget (turn s).after }
+    ensures reactor { (budget : ℕ) → KeepsOk (reactor budget) IsWellSpelledInput (IsState budget) (λ o. ⊤) }
+    ensures handled { (budget most : ℕ) (s : State) (i : Input) → IsState budget s → IsWellSpelledInput i → IsState budget ((machine_of (reactor budget) most).handle s i).after }
+    ensures run { (budget : ℕ) (is : List Input) → All IsWellSpelledInput is → IsState budget (after (browser budget) is) × IsQuiet (after (browser budget) is) }
 {}

@@ -18,11 +18,14 @@
 //!   `Starting`, `Making`, `Loading`, `Inserting`).
 //! - Operators give valid values and keep stores (`Operating`, `Readings`, `Operate`), and so does
 //!   one reduction (`Becoming`, `Reducing`), taking an input (`Inputs`), and a turn whose tasks are
-//!   valid (`Working`). That the tasks stay valid is not proved.
+//!   valid (`Working`).
+//! - Tasks stay valid: a reduction leaves calls around the redex, a thousand at most (`TasksDepth`,
+//!   `TasksPlacing`), and a turn and an input leave valid tasks (`TasksWorking`, `TasksBeginning`).
+//!   So states stay valid, over whole runs (`States`).
 //! - `specs/Puts`: an output that is well spelled, with the cookies of a request in order. From valid
 //!   stores each output is one: what is read off stores (`OutputsRead`), the steps that put
 //!   (`OutputsSteps`), operators and one reduction (`OutputsOperators`), turns and inputs
-//!   (`OutputsTurns`).
+//!   (`OutputsTurns`). So is each output of a run over well spelled inputs (`OutputsRuns`).
 //! - A walk of a valid tree comes to each node once at most (`Walks`), so the scripts of a tree each
 //!   start once. That trees which are made or joined leave valid nodes is cited from `ff_machine`.
 #![tactic(auto)]
@@ -34,10 +37,10 @@ mod putting;
 pub use keeping::{
     a_reduction_keeps_stores_valid, counts_only_grow, inputs_and_turns_keep_stores_valid,
     nodes_keep_stores_valid, operators_keep_stores_valid, requests_and_cookies_keep_stores_valid,
-    variables_keep_stores_valid, windows_keep_stores_valid,
+    states_stay_valid, variables_keep_stores_valid, windows_keep_stores_valid,
 };
 pub use law::{
     a_page_that_is_not_live_never_runs, an_input_ends_at_rest, nothing_that_has_gone_comes_back,
     tags_change_nothing, what_was_made_stays,
 };
-pub use putting::what_is_put_is_well_spelled;
+pub use putting::{what_a_run_puts_is_well_spelled, what_is_put_is_well_spelled};

@@ -1,4 +1,6 @@
-ghost use Rattle.std.specs.Prelude.{◌≡◌, false, List, All};
+ghost use Rattle.std.specs.Prelude.{◌≡◌, ℕ, false, List, All};
+ghost use Rattle.ff_reactive.specs.Runs.{plain};
+ghost use Rattle.ff_reactive.specs.Turns.{KeepsOk, machine_of};
 ghost use Rattle.ff_tree.specs.declared.op.Op.{Op};
 ghost use Rattle.ff_value.specs.Spelled.{IsWellSpelledInput};
 ghost use Rattle.ff_value.specs.declared.ids.PageId.{PageId};
@@ -11,9 +13,10 @@ ghost use Rattle.ff_machine.specs.Reduction.{Red};
 ghost use Rattle.ff_machine.specs.State.{State};
 ghost use Rattle.ff_machine.specs.Inputs.{begin};
 ghost use Rattle.ff_machine.specs.Turns.{turn};
+ghost use Rattle.ff_machine.specs.Machine.{reactor, browser};
 ghost use Rattle.ff_machine.specs.References.{made};
-ghost use Rattle.ff_machine.specs.Valid.{IsVal, IsRunning, IsStores, IsTask};
-ghost use Rattle.ff_laws.specs.Puts.{AreOuts, OutsUnlessFault, OutsIfMoved};
+ghost use Rattle.ff_machine.specs.Valid.{IsVal, IsRunning, IsStores, IsTask, IsState};
+ghost use Rattle.ff_laws.specs.Puts.{IsOut, AreOuts, OutsUnlessFault, OutsIfMoved};
 
 /// From valid stores each output is well spelled, with the cookies of a request in byte order of
 /// their keys: what taking a well spelled input puts, a turn whose tasks are valid, an operator with
@@ -23,4 +26,12 @@ pub fn what_is_put_is_well_spelled()
     ensures turn { (s : State) → IsStores s.stores → All (IsTask s.stores) s.tasks → AreOuts (turn s).outputs }
     ensures operator { (s : Stores) (page : PageId) → IsStores s → (op : Op) (args : List Val) → All (IsVal (made s)) args → OutsUnlessFault (operate s page op args) }
     ensures reduction { (s : Stores) (page : PageId) (t : Evaluation) → IsStores s → IsRunning (made s) t.expr → is_value t.expr ≡ false → OutsIfMoved (Red s page t) }
+{}
+
+/// From valid states and well spelled inputs the browser puts such outputs alone: at each step, in all
+/// that an input brings about, however many turns that may take, and in a whole run.
+pub fn what_a_run_puts_is_well_spelled()
+    ensures reactor { (budget : ℕ) → KeepsOk (reactor budget) IsWellSpelledInput (IsState budget) IsOut }
+    ensures handled { (budget most : ℕ) (s : State) (i : Input) → IsState budget s → IsWellSpelledInput i → AreOuts ((machine_of (reactor budget) most).handle s i).outputs }
+    ensures run { (budget : ℕ) (is : List Input) → All IsWellSpelledInput is → All AreOuts (plain (browser budget) is) }
 {}
