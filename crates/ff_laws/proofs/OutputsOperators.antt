@@ -52,44 +52,54 @@ use Rattle.ff_laws.proofs.OutputsSteps.{OutsIfMade, none_spelled, first_spelled,
 
 -- Operators.
 
+-- what follows for operands
 given_spelled : {X : Type 0} (o : Option X) (f : X → Outcome) → ((x : X) → OutsUnlessFault (f x)) → OutsUnlessFault (with_operands o f)
 given_spelled None f h = tt
 given_spelled (Some x) f h = h x
 
+-- one of two outcomes
 one_spelled_of : (b : Bool) (x y : Outcome) → OutsUnlessFault x → OutsUnlessFault y → OutsUnlessFault (cond b x y)
 one_spelled_of true x y g h = g
 one_spelled_of false x y g h = h
 
+-- what is done unless there is a fault
 unless_spelled : (why : Option Fault) (done : Outcome) → OutsUnlessFault done → OutsUnlessFault (unless why done)
 unless_spelled None done h = h
 unless_spelled (Some f) done h = tt
 
+-- a step where there is room
 limit_spelled : (v : Val) (step : Option (Stepped Out Stores)) → OutsIfMade step → OutsUnlessFault (does_or_limit v step)
 limit_spelled v None h = tt
 limit_spelled v (Some step) h = h
 
+-- what is done with an open window
 open_spelled : (s : Stores) (w : WinId) (done : Outcome) → OutsUnlessFault done → OutsUnlessFault (operators.if_open s w done)
 open_spelled s w done h = one_spelled_of (is_open s.windows w) done (Err fault.Dead) h tt
 
+-- what is done at an address that is read
 url_spelled : (text : List ℕ) (f : Url → Outcome) → ((u : Url) → IsWellSpelled u → OutsUnlessFault (f u)) → OutsUnlessFault (operators.at_url (read_url text) f)
 url_spelled text f h = by (read_url text) refl where
   by : (o : Option Url) → read_url text ≡ o → OutsUnlessFault (operators.at_url o f)
   by None e = tt
   by (Some u) e = h u (read_spelled text u e)
 
+-- a pure operator puts nothing
 massed_spelled : (s : Stores) (applied : Result Applied Fault) → OutsUnlessFault (with_mass s applied)
 massed_spelled s (Ok applied) = none_spelled
 massed_spelled s (Err f) = tt
 
 module _ (s : Stores) (page : PageId) (valid : IsStores s) where
+  -- a cookie that is set puts nothing
   set_cookie_spelled : (domain : Option (List ℕ)) (key value : List ℕ) → OutsUnlessFault (operators.set_cookie s domain key value)
   set_cookie_spelled None key value = tt
   set_cookie_spelled (Some d) key value = unless_spelled (net.cookie_fault s.jar d key value) (operators.becomes (record s { jar = net.cookie_put s.jar d key value })) none_spelled
 
+  -- nor does one that is deleted
   del_cookie_spelled : (domain : Option (List ℕ)) (key : List ℕ) → OutsUnlessFault (operators.del_cookie s domain key)
   del_cookie_spelled None key = none_spelled
   del_cookie_spelled (Some d) key = none_spelled
 
+  -- a window that opens at an address
   open_at_spelled : (name : Option (List ℕ)) (u : Url) → IsWellSpelled u → OutsUnlessFault (operators.open_at s page name u)
   open_at_spelled name url.Blank is =
       let opener = Some (operators.self_window s page) in
@@ -101,23 +111,28 @@ module _ (s : Stores) (page : PageId) (valid : IsStores s) where
       one_spelled_of (stores.has_window_room s && stores.has_ask_room s domain) _ (Err fault.Limit)
       (first_spelled out.Opened (stores.sent t domain uri [] to).outputs (record { spelled = tt; ordered = tt }) (sent_spelled t domain uri [] to valid.jar is.0 is.1 IsUtf8-nil)) tt
 
+  -- a window of a name that goes to an address or opens there
   open_named_spelled : (name : List ℕ) (u : Url) (w : Option WinId) → IsWellSpelled u → OutsUnlessFault (operators.open_named s page name u w)
   open_named_spelled name u None is = open_at_spelled (Some name) u is
   open_named_spelled name u (Some w) is = limit_spelled (val.Win w) (stores.go s w u) (go_spelled s w u valid is)
 
+  -- the text of a node
   text_spelled : (t : Option (List ℕ)) → OutsUnlessFault (operators.text s t)
   text_spelled None = tt
   text_spelled (Some t) = none_spelled
 
+  -- the child of a node
   child_spelled : (c : Option NodeId) → OutsUnlessFault (operators.child s c)
   child_spelled None = tt
   child_spelled (Some c) = none_spelled
 
+  -- a body that is sent to an address
   ask_at_spelled : (body : List ℕ) (code : Code) (u : Url) → IsUtf8 body → IsWellSpelled u → OutsUnlessFault (operators.ask_at s page body code u)
   ask_at_spelled body code url.Blank is_body is = tt
   ask_at_spelled body code (url.At domain uri) is_body is =
       limit_spelled val.Null (stores.send s domain uri body (dst.Call page code)) (send_spelled s domain uri body (dst.Call page code) valid.jar is.0 is.1 is_body)
 
+  -- a body that is sent, with its operands
   ask_spelled : (args : List Val) → All (IsVal (made s)) args → OutsUnlessFault (with_operands (strs_code args) (λ o. operators.ask s page o.0 o.1 o.2))
   ask_spelled (val.Str address ∷ val.Str body ∷ val.Code code ∷ []) are =
       let is = All-head (IsVal (made s)) (val.Str body) (val.Code code ∷ []) (All-tail (IsVal (made s)) (val.Str address) (val.Str body ∷ val.Code code ∷ []) are) in
@@ -154,30 +169,37 @@ module _ (s : Stores) (page : PageId) (valid : IsStores s) where
 
 -- One reduction.
 
+-- each output of a redex that doesn't fail is well spelled
 abbrev OutsIfBecame : Result Became Fault → Type 0
 OutsIfBecame (Ok became) = AreOuts became.outputs
 OutsIfBecame (Err f) = ⊤
 
+-- what a redex that becomes a value puts
 outcome_spelled : (o : Outcome) → OutsUnlessFault o → OutsIfBecame (of_outcome o)
 outcome_spelled (Ok did) h = h
 outcome_spelled (Err f) h = tt
 
+-- the value of a variable
 variable_spelled : (s : Stores) (v : Option Val) → OutsUnlessFault (variable s v)
 variable_spelled s None = tt
 variable_spelled s (Some v) = none_spelled
 
+-- the branch of a test
 choose_spelled : (s : Stores) (v : Val) (e : Running) → OutsIfBecame (choose s v e)
 choose_spelled s (val.Bool b) e = none_spelled
 choose_spelled s other e = tt
 
+-- a function that is entered
 entered_spelled : (s : Stores) (why : Option Fault) (code : Code) (args : List Val) → OutsIfBecame (or_fault why (entered s code args))
 entered_spelled s None code args = none_spelled
 entered_spelled s (Some f) code args = tt
 
+-- a function that is called
 call_spelled : (s : Stores) (calls : ℕ) (v : Val) (args : List Val) → OutsIfBecame (call s calls v args)
 call_spelled s calls (val.Code code) args = entered_spelled s (enter_fault s calls code args) code args
 call_spelled s calls other args = tt
 
+-- what becomes of a valid redex
 reduced_spelled : (s : Stores) (page : PageId) (a : ActId) (calls : ℕ) (e : Running) (r : Redex) → IsStores s → IsRedex (made s) r → OutsIfBecame (reduced s page a calls e r)
 reduced_spelled s page a calls e read.Local valid is = none_spelled
 reduced_spelled s page a calls e (read.Test v) valid is = choose_spelled s v e
@@ -191,6 +213,7 @@ reduced_spelled s page a calls e (read.Make params body) valid is = none_spelled
 reduced_spelled s page a calls e (read.Tree doc) valid is = outcome_spelled (make_tree s a doc) (unless_spelled (tree_fault s a doc) _ none_spelled)
 reduced_spelled s page a calls e (read.Prim o vs) valid is = outcome_spelled (operate s page o vs) (operate_spelled s page valid o vs is.1)
 
+-- what a redex becomes, put in its place
 back_spelled : (t : Evaluation) (became : Result Became Fault) → OutsIfBecame became → OutsIfMoved (put_back t became)
 back_spelled t (Ok became) h = h
 back_spelled t (Err f) h = tt

@@ -40,10 +40,12 @@ use Rattle.ff_laws.proofs.Simple.{at_any}
 
 -- Cookies.
 
+-- where both of two tests pass, each does
 both_hold : (a b : Bool) → T (a && b) → T a × T b
 both_hold true b h = (tt, h)
 both_hold false b h = absurd h
 
+-- what is less is not a tie
 less_apart : (r : Ordering) → T (is_lt r) → is_eq r ≡ false
 less_apart Less h = refl
 less_apart Equal h = absurd h
@@ -80,6 +82,7 @@ pairs_spelled jar domain are =
     let own = filter (λ (e : (List ℕ × List ℕ) × List ℕ). bytes_eq e.0.0 domain) es in
     recursion_from_All IsSpelledPair (map pair_of own) (All-map IsSpelledPair pair_of own (All-filter _ (λ e. IsSpelledPair (pair_of e)) es each))
 
+-- where the first keys tie, the second are less
 less_then : (r q : Ordering) → r ≡ Equal → T (is_lt (ordering_then r q)) → q ≡ Less
 less_then Less q e h = cc
 less_then Greater q e h = cc
@@ -87,6 +90,7 @@ less_then Equal Less e h = refl
 less_then Equal Equal e h = absurd h
 less_then Equal Greater e h = absurd h
 
+-- equal bytes are one domain
 own_domain : (d domain : List ℕ) → bytes_eq d domain ≡ true → d ≡ domain
 own_domain d domain e = same_name d domain (is_eq-slice_cmp d domain ∙ e)
 
@@ -95,11 +99,13 @@ module _ (domain : List ℕ) where
   abbrev IsOwn : (List ℕ × List ℕ) × List ℕ → Type 0
   IsOwn e = bytes_eq e.0.0 domain ≡ true
 
+  -- two that are the domain tie
   tied : (d e : List ℕ) → d ≡ domain → e ≡ domain → slice_cmp nat_cmp d e ≡ Equal
   tied d e p q =
       let same : slice_cmp nat_cmp domain domain ≡ Equal = (Equal-is (slice_cmp nat_cmp domain domain)).0 ((eq_by_cmp_equiv nat_list_cmp_total).refl domain) in
       ap (λ (x : List ℕ). slice_cmp nat_cmp x e) p ∙ ap (λ (x : List ℕ). slice_cmp nat_cmp domain x) q ∙ same
 
+  -- the keys of later cookies of the domain are greater
   keys_above : (e : (List ℕ × List ℕ) × List ℕ) (es : List ((List ℕ × List ℕ) × List ℕ)) → IsOwn e → AllByRecursion IsOwn es → T (below_all cookie_cmp e.0 es)
       → AllByRecursion (λ k. slice_cmp nat_cmp e.0.1 k ≡ Less) (map (λ (p : Pair). p.key) (map pair_of es))
   keys_above e [] is own below = tt
@@ -126,10 +132,12 @@ pairs_ordered jar domain =
 
 -- What is seen.
 
+-- what holds of mapped items holds of each through the map
 all_mapped : {A B : Type 0} (f : A → B) (P : B → Type 0) (xs : List A) → AllByRecursion (λ x. P (f x)) xs ≡ AllByRecursion P (map f xs)
 all_mapped f P [] = refl
 all_mapped f P (x ∷ xs) = ap (λ (A : Type 0). P (f x) × A) (all_mapped f P xs)
 
+-- a layer is spelled where its mapped parts are
 seen_of_parts : (S : Type 0) (s : S → Seen) (claim : Seen → Type 0) (x : Seen-F S) → seen_spelled S (λ p. claim (s p)) x ≡ seen_spelled Seen claim (map-Seen S Seen s x)
 seen_of_parts S s claim (Seen-F.Text text) = refl
 seen_of_parts S s claim (Seen-F.Link url label) = refl
@@ -137,6 +145,7 @@ seen_of_parts S s claim (Seen-F.TextBox text) = refl
 seen_of_parts S s claim (Seen-F.Button label) = refl
 seen_of_parts S s claim (Seen-F.Div parts) = all_mapped s claim parts
 
+-- what is seen is spelled as its layer is
 seen_out : (x : Seen) → IsSpelledSeen x ≡ seen_spelled Seen IsSpelledSeen (out-Seen x)
 unfolding IsSpelledSeen
 seen_out x = ap IsSpelledSeen (sym (roll-out-Seen x)) ∙ rec-roll-Seen (Type 0) (λ S _. seen_spelled S) seen_of_parts (out-Seen x)
@@ -156,6 +165,7 @@ seen_as_spelled (shape.Script x started body) parts is h = tt
 seen_as_spelled (shape.Src x started url) parts is h = tt
 seen_as_spelled (shape.Div x) parts is h = (seen_is (seen.Div parts) (Seen-F.Div parts) (seen.outs-Div parts) h, tt)
 
+-- two lists of what is seen are spelled together
 joined_spelled : (xs ys : List Seen) → AllByRecursion IsSpelledSeen xs → AllByRecursion IsSpelledSeen ys → AllByRecursion IsSpelledSeen (xs ++ ys)
 joined_spelled [] ys g h = h
 joined_spelled (x ∷ xs) ys g h = (g.0, joined_spelled xs ys g.1 h)
@@ -165,6 +175,7 @@ each_spelled : (f : NodeId → List Seen) (ns : List NodeId) → ((n : NodeId) �
 each_spelled f [] h = tt
 each_spelled f (n ∷ ns) h = joined_spelled (f n) (flat_map f ns) (h n) (each_spelled f ns h)
 
+-- what is seen of valid nodes through so many generations is spelled
 within_spelled : (more : ℕ) (all : List Node) (n : NodeId) → All IsNode all → AllByRecursion IsSpelledSeen (shown_within more all n)
 within_spelled zero all n are = tt
 within_spelled (suc more) all n are =
@@ -182,6 +193,7 @@ shown_spelled all n are = within_spelled (suc MOST_TREE_DEPTH) all n are
 
 -- Places of windows.
 
+-- a place below a bound, or none, is a number up to it
 place_below : (most : ℕ) (at : Option ℕ) → ((i : ℕ) → at ≡ Some i → i < most) → unwrap_or at 0 ≤ most
 place_below most None h = omega arith
 place_below most (Some i) h = let lt = h i refl in omega (arith, lt)

@@ -27,6 +27,7 @@ keeps_outs budget = record {
 pub handled_outs : (budget most : ℕ) (s : State) (i : Input) → IsState budget s → IsWellSpelledInput i → AreOuts ((machine_of (reactor budget) most).handle s i).outputs
 handled_outs budget most s i is good = machine_outputs_ok (keeps_outs budget) most s i is good
 
+-- a run from a valid state
 run_outs_from : (budget : ℕ) (s : State) (is : List Input) → IsState budget s → All IsWellSpelledInput is → All AreOuts (plain_from (browser budget) s is)
 run_outs_from budget s [] valid good = All-nil AreOuts
 run_outs_from budget s (i ∷ is) valid good =

@@ -90,10 +90,12 @@ record Begins (s : Stores) (step : Stepped Out Stores) : Type 0 where
   pub jar : step.after.jar ≡ s.jar
   pub nodes : step.after.nodes ≡ s.nodes
 
+-- one of two steps begins a script
 one_begins : (s : Stores) (b : Bool) (x y : Stepped Out Stores) → Begins s x → Begins s y → Begins s (cond b x y)
 one_begins s true x y g h = g
 one_begins s false x y g h = h
 
+-- a script that is asked for at an address
 fetched_begins : (s : Stores) (page : PageId) (u : Url) → IsJar s.jar → IsWellSpelled u → Begins s (stores.fetched_from s page u)
 fetched_begins s page url.Blank jar is = record { spelled = none_spelled; jar = refl; nodes = refl }
 fetched_begins s page (url.At domain uri) jar is =
@@ -103,6 +105,7 @@ fetched_begins s page (url.At domain uri) jar is =
     (record { spelled = both_spelled asks.outputs [] (sent_spelled s domain uri [] to jar is.0 is.1 IsUtf8-nil) none_spelled; jar = refl; nodes = refl })
     (record { spelled = none_spelled; jar = refl; nodes = refl })
 
+-- a script of a shape
 begun_begins : (s : Stores) (page : PageId) (x : Shape) → IsJar s.jar → ((u : Url) → url_of x ≡ Some u → IsWellSpelled u) → Begins s (stores.begun s page x)
 begun_begins s page (shape.Src x started u) jar is = fetched_begins s page u jar (is u refl)
 begun_begins s page other jar is = record { spelled = none_spelled; jar = refl; nodes = refl }
@@ -117,6 +120,7 @@ addresses_spelled all are n =
     at_any (λ (node : Node). (u : Url) → url_of node.shape ≡ Some u → IsWellSpelled u) all n.0 no_node
     (All-weaker IsNode (λ (node : Node). (u : Url) → url_of node.shape ≡ Some u → IsWellSpelled u) (λ node h u e. shape_url node.shape u h.shape e) all are) no_url
 
+-- a script that counts as started keeps its address
 started_address : (x : Shape) → url_of (as_started x) ≡ url_of x
 started_address (shape.Script x started body) = refl
 started_address (shape.Src x started u) = refl
@@ -127,6 +131,7 @@ pub address_kept : (all : List Node) (n : NodeId) (node : Node) → url_of node.
 address_kept all n node same have m =
     at_set (λ j (x : Node). (u : Url) → url_of x.shape ≡ Some u → IsWellSpelled u) all n.0 m.0 node no_node (λ u e. have n u (sym same ∙ e)) (have m)
 
+-- scripts that start one after another
 start_each_spelled : (page : PageId) (ns : List NodeId) (s : Stores) → IsJar s.jar → HaveAddresses s.nodes → AreOuts (stores.start_each page ns s).outputs
 start_each_spelled page [] s jar have = none_spelled
 start_each_spelled page (n ∷ ns) s jar have =
@@ -170,10 +175,12 @@ go_spelled s w (url.At domain uri) valid is = send_spelled s domain uri [] (dst.
 
 -- Windows, joining and settling.
 
+-- a step that is made, or nothing
 or_nothing_spelled : (s : Stores) (step : Option (Stepped Out Stores)) → OutsIfMade step → AreOuts (stores.or_nothing s step).outputs
 or_nothing_spelled s None h = none_spelled
 or_nothing_spelled s (Some step) h = h
 
+-- what a window that was opened asks for
 send_first_spelled : (u : Url) (w : WinId) (s : Stores) → IsJar s.jar → IsWellSpelled u → AreOuts (stores.send_first u w s).outputs
 send_first_spelled url.Blank w s jar is = none_spelled
 send_first_spelled (url.At domain uri) w s jar is =
@@ -192,6 +199,7 @@ opens_spelled s u jar is = by (stores.has_window_room s) where
 pub closed_spelled : (s : Stores) (w : WinId) → IsStores s → AreOuts (stores.close_window s w).outputs
 closed_spelled s w valid = one_spelled (out.Closed (stores.place s w)) (record { spelled = place_fits s w valid; ordered = tt })
 
+-- scripts that start where the page is live
 start_in_spelled : (page : Option PageId) (n : NodeId) (s : Stores) → IsJar s.jar → HaveAddresses s.nodes → AreOuts (stores.start_in page n s).outputs
 start_in_spelled None n s jar have = none_spelled
 start_in_spelled (Some page) n s jar have = by (is_live s.windows page) where
@@ -210,10 +218,12 @@ insert_spelled s p c place valid =
     start_in_spelled (nodes.page_root_of s.nodes p) c (record s { nodes = nodes.joined s.nodes p c place; touched = stores.touched_at s p }) valid.jar
     (λ m. at_set (λ j (x : Node). (u : Url) → url_of x.shape ≡ Some u → IsWellSpelled u) under p.0 m.0 _ no_node (have p) (first m))
 
+-- an output before others, or the others alone
 one_or_none : (b : Bool) (o : Out) (rest : List Out) → IsOut o → AreOuts rest → AreOuts (cond b (o ∷ rest) rest)
 one_or_none true o rest is h = first_spelled o rest is h
 one_or_none false o rest is h = h
 
+-- what is seen of the windows that were changed
 updates_spelled : (s : Stores) (at : ℕ) (ws : List WinId) → All IsNode s.nodes → at + length ws ≤ MOST_WINDOWS → AreOuts (stores.updates_from s at ws)
 updates_spelled s at [] are few = none_spelled
 updates_spelled s at (w ∷ ws) are few =

@@ -52,12 +52,14 @@ use Rattle.ff_laws.proofs.OutputsOperators.{red_spelled}
 
 -- Turns.
 
+-- a task that goes on as its reduction answers
 worked_spelled : (s : Stores) (task : Task) (o : Option Val) (red : Result Moved Fault) → IsStores s → (o ≡ None → OutsIfMoved red)
     → AreOuts (go_on s task (as_reduction s task.running o red) (as_reduction s task.running o red).answer).outputs
 worked_spelled s task (Some v) red valid h = none_spelled
 worked_spelled s task None (Ok moved) valid h = h refl
 worked_spelled s task None (Err f) valid h = let w = (page_at s.windows task.page).win in one_spelled (out.Error (stores.place s w) f) (record { spelled = place_fits s w valid; ordered = tt })
 
+-- one of two works
 one_worked : (b : Bool) (x y : Worked) → AreOuts x.outputs → AreOuts y.outputs → AreOuts (cond b x y).outputs
 one_worked true x y g h = g
 one_worked false x y g h = h
@@ -77,18 +79,22 @@ abbrev WorkSpelled : Stores → Option (State → Step) → Type 0
 WorkSpelled s None = ⊤
 WorkSpelled s (Some f) = (t : State) → t.stores ≡ s → AreOuts (f t).outputs
 
+-- a script that is taken out puts nothing
 script_spelled : (s : Stores) (script : Option ((PageId × Expr) × Stores)) → WorkSpelled s (script_work script)
 script_spelled s None = tt
 script_spelled s (Some taken) = λ t e. none_spelled
 
+-- the first task, or a script
 work_of_spelled : (s : Stores) (tasks : List Task) (script : Option ((PageId × Expr) × Stores)) → IsStores s → All (IsTask s) tasks → WorkSpelled s (work_of tasks script)
 work_of_spelled s [] script valid are = script_spelled s script
 work_of_spelled s (task ∷ tasks) script valid are = λ t e. subst (λ (x : Stores). AreOuts (work x task).outputs) (sym e) (work_spelled s task valid (All-head (IsTask s) task tasks are))
 
+-- one fuel that is spent, or the stop without any
 spend_spelled : (s : State) (fuel : ℕ) (f : State → Step) → IsStores s.stores → ((t : State) → t.stores ≡ s.stores → AreOuts (f t).outputs) → AreOuts (spend s fuel f).outputs
 spend_spelled s zero f valid h = first_spelled out.Stopped (stores.settle s.stores).outputs (record { spelled = tt; ordered = tt }) (settle_spelled s.stores valid)
 spend_spelled s (suc fuel) f valid h = h (record s { fuel = fuel }) refl
 
+-- what is done, or the settling
 turn_of_spelled : (s : State) (f : Option (State → Step)) → IsStores s.stores → WorkSpelled s.stores f → AreOuts (turn_of s f).outputs
 turn_of_spelled s None valid h = settle_spelled s.stores valid
 turn_of_spelled s (Some f) valid h = spend_spelled s s.fuel f valid h
@@ -100,18 +106,22 @@ turn_spelled s valid are = turn_of_spelled s (next_work s) valid (work_of_spelle
 
 -- Inputs.
 
+-- a step that is made where there is room
 room_spelled : (s : State) (step : Option (Stepped Out Stores)) → OutsIfMade step → AreOuts (if_room s step).outputs
 room_spelled s None h = none_spelled
 room_spelled s (Some step) h = h
 
+-- what follows where there is something
 given_spelled : {X : Type 0} (s : State) (x : Option X) (f : X → Step) → ((y : X) → x ≡ Some y → AreOuts (f y).outputs) → AreOuts (given s x f).outputs
 given_spelled s None f h = none_spelled
 given_spelled s (Some x) f h = h x refl
 
+-- one of two steps
 one_step : (b : Bool) (x y : Step) → (b ≡ true → AreOuts x.outputs) → AreOuts y.outputs → AreOuts (cond b x y).outputs
 one_step true x y g h = g refl
 one_step false x y g h = h
 
+-- a reply that loads a page
 loads : (s : State) (w : WinId) (u : Url) (reply : Option Resp) → IsStores s.stores → IsWellSpelled u → IsReply reply → AreOuts (load_reply s w u reply).outputs
 loads s w u (Some (resp.Page cookies docs)) valid spelled is =
     let deep = is.shallow in
@@ -119,11 +129,13 @@ loads s w u (Some (resp.Page cookies docs)) valid spelled is =
     (λ shown. room_spelled s (stores.load s.stores w u docs) (load_spelled s.stores w u docs valid spelled (docs_spelled docs is.spelled.1 (omega (arith, deep))))) none_spelled
 loads s w u other valid spelled is = none_spelled
 
+-- a reply that comes to its destination
 delivers : (s : State) (u : Url) (reply : Option Resp) (d : Dst) → IsStores s.stores → IsWellSpelled u → IsReply reply → AreOuts (deliver_to s u reply d).outputs
 delivers s u reply (dst.Window w) valid spelled is = loads s w u reply valid spelled is
 delivers s u reply (dst.Slot page slot) valid spelled is = one_step (is_live s.stores.windows page) _ (nothing s) (λ live. none_spelled) none_spelled
 delivers s u reply (dst.Call page code) valid spelled is = one_step (is_live s.stores.windows page) _ (nothing s) (λ live. none_spelled) none_spelled
 
+-- a reply that is received
 receives : (s : State) (domain : List ℕ) (r : Resp) (pending : Pending) → IsStores s.stores → IsDomain domain → IsWellSpelledResp r → IsPending pending → AreOuts (receive s domain r pending).outputs
 receives s domain r pending valid is_domain is asked_is =
     let from = url.At domain pending.uri in
@@ -136,6 +148,7 @@ receives s domain r pending valid is_domain is asked_is =
     delivers t from (Some r) pending.dst second.stores (is_domain, asked_is.uri) is)
     (delivers s from None pending.dst valid (is_domain, asked_is.uri) tt)
 
+-- a reply to a pending request
 replied : (s : State) (domain : List ℕ) (k : ℕ) (r : Resp) (o : Option Pending) → slice_get (asked s.stores.requests domain) k ≡ o → IsStores s.stores → IsDomain domain → IsWellSpelledResp r
     → AreOuts (given s (stores.taken_out s.stores domain k o) (λ t. receive (with_stores s t.1) domain r t.0)).outputs
 replied s domain k r None e valid is_domain is = none_spelled
