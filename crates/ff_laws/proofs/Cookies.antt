@@ -30,7 +30,7 @@ use Rattle.ff_laws.proofs.Sums.{if_so, count_put, count_where}
 use Rattle.ff_laws.proofs.Removing.{others, entries-removed}
 
 -- the order of cookies is total
-cookie_total : IsTotalOrder cookie_cmp
+pub cookie_total : IsTotalOrder cookie_cmp
 cookie_total = then_total (on_total (λ (s : List ℕ × List ℕ). s.0) nat_list_cmp_total) (on_total (λ (s : List ℕ × List ℕ). s.1) nat_list_cmp_total)
 
 -- only equal keys tie

@@ -76,15 +76,18 @@ one_step_keeps s false x y g h = h
 
 -- What is read off valid stores.
 
-shape_url : (x : Shape) (u : Url) → IsShape x → url_of x ≡ Some u → IsWellSpelled u
+-- the address of a valid shape is well spelled
+pub shape_url : (x : Shape) (u : Url) → IsShape x → url_of x ≡ Some u → IsWellSpelled u
 shape_url (shape.Link x at text) u is e = let same : at ≡ u = cc in subst IsWellSpelled same is.1
 shape_url (shape.Src x started at) u is e = let same : at ≡ u = cc in subst IsWellSpelled same is.1
 shape_url other u is e = cc
 
-no_url : (u : Url) → url_of (shape.Div []) ≡ Some u → IsWellSpelled u
+-- and so is that of no node, which has none
+pub no_url : (u : Url) → url_of (shape.Div []) ≡ Some u → IsWellSpelled u
 no_url u e = cc
 
-docs_spelled : (docs : List Doc) → AllByRecursion IsSpelledDoc docs → most (map doc_depth docs) ≤ MOST_DEPTH → AllByRecursion IsWellSpelledDoc docs
+-- the documents of a well spelled reply are well spelled
+pub docs_spelled : (docs : List Doc) → AllByRecursion IsSpelledDoc docs → most (map doc_depth docs) ≤ MOST_DEPTH → AllByRecursion IsWellSpelledDoc docs
 docs_spelled [] is deep = tt
 docs_spelled (d ∷ ds) is deep = (record { spelled = is.0; shallow = omega (arith, deep) }, docs_spelled ds is.1 (omega (arith, deep)))
 

@@ -39,3 +39,8 @@ pub mod TasksPlacing
 pub mod TasksWorking
 pub mod TasksBeginning
 pub mod States
+pub mod OutputsRead
+pub mod OutputsSteps
+pub mod OutputsOperators
+pub mod OutputsTurns
+pub mod OutputsRuns

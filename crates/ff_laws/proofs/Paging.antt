@@ -53,11 +53,13 @@ no_queue : IsQueue 0 []
 unfolding IsDistinct
 no_queue = record { entries = All-nil (IsEntry 0); differ = tt }
 
-all_spelled : (docs : List Doc) → AllByRecursion IsWellSpelledDoc docs → AllByRecursion IsSpelledDoc docs
+-- well spelled documents are spelled
+pub all_spelled : (docs : List Doc) → AllByRecursion IsWellSpelledDoc docs → AllByRecursion IsSpelledDoc docs
 all_spelled [] is = tt
 all_spelled (d ∷ ds) is = (is.0.spelled, all_spelled ds is.1)
 
-all_shallow : (docs : List Doc) → AllByRecursion IsWellSpelledDoc docs → most (map doc_depth docs) ≤ MOST_DEPTH
+-- and not too deep
+pub all_shallow : (docs : List Doc) → AllByRecursion IsWellSpelledDoc docs → most (map doc_depth docs) ≤ MOST_DEPTH
 all_shallow [] is = omega arith
 all_shallow (d ∷ ds) is = let one = is.0.shallow in let rest = all_shallow ds is.1 in omega (arith, one, rest)
 

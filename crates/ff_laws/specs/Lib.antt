@@ -1,3 +1,4 @@
 pub mod Keeps
 pub mod Later
+pub mod Puts
 pub mod Reduced

@@ -21,13 +21,18 @@
 //!   valid (`Working`).
 //! - Tasks stay valid: a reduction leaves calls around the redex, a thousand at most (`TasksDepth`,
 //!   `TasksPlacing`), and a turn and an input leave valid tasks (`TasksWorking`, `TasksBeginning`).
-//!   So states stay valid, over whole runs (`States`). Of outputs nothing is said.
+//!   So states stay valid, over whole runs (`States`).
+//! - `specs/Puts`: an output that is well spelled, with the cookies of a request in order. From valid
+//!   stores each output is one: what is read off stores (`OutputsRead`), the steps that put
+//!   (`OutputsSteps`), operators and one reduction (`OutputsOperators`), turns and inputs
+//!   (`OutputsTurns`). So is each output of a run over well spelled inputs (`OutputsRuns`).
 //! - A walk of a valid tree comes to each node once at most (`Walks`), so the scripts of a tree each
 //!   start once. That trees which are made or joined leave valid nodes is cited from `ff_machine`.
 #![tactic(auto)]
 
 mod keeping;
 mod law;
+mod putting;
 
 pub use keeping::{
     a_reduction_keeps_stores_valid, counts_only_grow, inputs_and_turns_keep_stores_valid,
@@ -38,3 +43,4 @@ pub use law::{
     a_page_that_is_not_live_never_runs, an_input_ends_at_rest, nothing_that_has_gone_comes_back,
     tags_change_nothing, what_was_made_stays,
 };
+pub use putting::{what_a_run_puts_is_well_spelled, what_is_put_is_well_spelled};
