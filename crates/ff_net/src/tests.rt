@@ -156,6 +156,106 @@ fn first_answered<C: Ledger>(
     Ok((answer.is_some(), requests.len(to), fork.len(to)))
 }
 
+// Whether a cookie that was put is got.
+fn is_got<C: Ledger>(alloc: Global, blank: Blank, of: &Domain) -> Result<bool, NoMemory>
+    requires name { blank.name ≡ C.name }
+    requires parts { blank.parts ≡ C.parts }
+    requires some { 0 < blank.parts }
+{
+    let mut copies = Steps::<C>::new(blank);
+    let mut jar = Jar::new(alloc);
+    put_done(alloc, &mut jar, of, 3, &mut copies)?;
+    match jar.get(of, b"ad") {
+        Some(value) => Ok(value.as_str() == "ad"),
+        None => Ok(false),
+    }
+}
+
+// What a put without a key answers.
+fn put_without_a_key<C: Ledger>(
+    alloc: Global,
+    blank: Blank,
+    of: &Domain,
+) -> Result<Result<(), Fail>, NoMemory>
+    requires name { blank.name ≡ C.name }
+    requires parts { blank.parts ≡ C.parts }
+    requires some { 0 < blank.parts }
+{
+    let mut copies = Steps::<C>::new(blank);
+    let mut jar = Jar::new(alloc);
+    let none = Text::of_str(alloc, "")?;
+    Ok(jar.put(of, &none, &none, &mut copies))
+}
+
+fn ask<C: Ledger>(
+    alloc: Global,
+    requests: &mut Requests,
+    to: &Domain,
+    number: u32,
+    copies: &mut Steps<C>,
+) -> Result<(), NoMemory> {
+    let uri = text(alloc, number)?;
+    if requests.room(to) {
+        requests.ask(to, &uri, Dst::Window(WinId(0)), copies)?;
+    }
+    Ok(())
+}
+
+// Appends the request text that is answered at a place, and a dash where there is none.
+fn tell<C: Ledger>(
+    requests: &mut Requests,
+    to: &Domain,
+    k: u32,
+    told: &mut Vec<u8>,
+    copies: &mut Steps<C>,
+) -> Result<(), NoMemory> {
+    match requests.answer(to, k, copies)? {
+        Some(pending) => told.extend_from_slice(pending.uri.as_bytes())?,
+        None => told.push(b'-')?,
+    }
+    Ok(())
+}
+
+// What is answered of two requests at the places 1, 1 and 0.
+fn answers<C: Ledger>(alloc: Global, blank: Blank, to: &Domain) -> Result<Vec<u8>, NoMemory>
+    requires name { blank.name ≡ C.name }
+    requires parts { blank.parts ≡ C.parts }
+    requires some { 0 < blank.parts }
+{
+    let mut copies = Steps::<C>::new(blank);
+    let mut requests = Requests::new(alloc);
+    ask(alloc, &mut requests, to, 0, &mut copies)?;
+    ask(alloc, &mut requests, to, 1, &mut copies)?;
+    let mut told = Vec::new(alloc);
+    tell(&mut requests, to, 1, &mut told, &mut copies)?;
+    tell(&mut requests, to, 1, &mut told, &mut copies)?;
+    tell(&mut requests, to, 0, &mut told, &mut copies)?;
+    Ok(told)
+}
+
+#[test]
+fn a_cookie_that_was_put_is_got(rt: HostRuntime) -> Result<(), NoMemory> {
+    let of = domain(rt.alloc(), 0)?;
+    assert!(rt; is_got::<Brand>(rt.alloc(), Blank::new(1), &of)?);
+    Ok(())
+}
+
+#[test]
+fn an_empty_key_is_out_of_range(rt: HostRuntime) -> Result<(), NoMemory> {
+    let of = domain(rt.alloc(), 0)?;
+    let put = put_without_a_key::<Brand>(rt.alloc(), Blank::new(1), &of)?;
+    assert!(rt; matches!(put, Err(Fail::Fault(Fault::Range))));
+    Ok(())
+}
+
+#[test]
+fn requests_are_answered_by_their_places(rt: HostRuntime) -> Result<(), NoMemory> {
+    let to = domain(rt.alloc(), 0)?;
+    let told = answers::<Brand>(rt.alloc(), Blank::new(1), &to)?;
+    assert_eq!(rt; told, b"ab-aa".to_vec(rt.alloc())?);
+    Ok(())
+}
+
 #[test]
 fn a_cookie_taken_out_is_gone(rt: HostRuntime) -> Result<(), NoMemory> {
     let of = domain(rt.alloc(), 0)?;
