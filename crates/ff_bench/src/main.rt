@@ -1,6 +1,6 @@
-//! Times parts of the browser. For the word `list` it times a shared list, for `text` the reader of items, for `operators` the
-//! pure operators: a line for each thing that is timed, with its name and the nanoseconds that one takes. With any other words
-//! it says how to call it.
+//! Times parts of the browser. For the word `list` it times a shared list, for `text` the reader of
+//! items, for `operators` the pure operators: a line for each thing that is timed, with its name
+//! and the nanoseconds that one takes. With any other words it says how to call it.
 #![tactic(auto)]
 
 mod list;

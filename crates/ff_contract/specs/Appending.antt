@@ -8,7 +8,8 @@ pub record AppendsFront {A : Type 0} (old new items : List A) : Type 0 where
   pub cut : items ≡ front ++ rest
   pub appended : new ≡ old ++ front
 
--- the new items are the old ones and then exactly these, or after a refusal the old ones and then a front of these
+-- the new items are the old ones and then exactly these, or after a refusal the old ones and then a
+-- front of these
 abbrev pub Appends : {X E A : Type 0} → Result X E → (old new items : List A) → Type 0
 Appends (Ok done) old new items = new ≡ old ++ items
 Appends (Err refused) old new items = AppendsFront old new items

@@ -23,7 +23,8 @@ IsOpening other = ⊥
 abbrev pub IsBuilt : Input → Type 0
 IsBuilt i = IsOpening i.act
 
--- an output of a kind that is built: a window was opened, or a request without cookies and with an empty body is sent
+-- an output of a kind that is built: a window was opened, or a request without cookies and with an
+-- empty body is sent
 abbrev pub IsOutput : Out → Type 0
 IsOutput Opened = ⊤
 IsOutput (Send domain uri cookies body) = IsDomain domain × IsRequest uri × (cookies ≡ []) × (body ≡ [])

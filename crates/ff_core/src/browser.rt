@@ -34,8 +34,8 @@ pub struct Pending {
     pub window: WinId,
 }
 
-/// A browser: its open windows in order of opening, the requests that wait for their replies, the oldest first, and
-/// whether it is quiet.
+/// A browser: its open windows in order of opening, the requests that wait for their replies, the
+/// oldest first, and whether it is quiet.
 #[derive(Debug, Drop)]
 pub struct Browser {
     alloc: Global,
@@ -76,8 +76,9 @@ impl Browser {
         self.quiet
     }
 
-    /// Takes an input, which may put outputs. The browser is then not quiet. Where memory is refused, `outs` has gained
-    /// some of the outputs from the front, and what the browser holds isn't stated.
+    /// Takes an input, which may put outputs. The browser is then not quiet. Where memory is
+    /// refused, `outs` has gained some of the outputs from the front, and what the browser holds
+    /// isn't stated.
     #[tactic(auto, unfolding(crate::specs::Machine::begin))]
     pub fn accept(&mut self, input: &Input, outs: &mut Vec<Out>) -> Result<(), NoMemory>
         requires quiet { IsTrue self.old.quiet }
@@ -93,7 +94,8 @@ impl Browser {
         }
     }
 
-    /// One turn. There are no scripts at this stage, so it settles the browser: nothing is put, and it is quiet.
+    /// One turn. There are no scripts at this stage, so it settles the browser: nothing is put, and
+    /// it is quiet.
     #[tactic(auto, unfolding(crate::specs::Machine::turn))]
     pub fn turn<L: Ledger>(&mut self, turns: &mut Steps<L>)
         requires { self.old.quiet ≡ false }

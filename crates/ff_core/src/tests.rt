@@ -9,8 +9,8 @@ use std::marker::Brand;
 use std::sync::ledger::{Blank, Ledger};
 use std::test::Fail;
 
-/// What a browser puts when it opens a window at the address and makes one turn. It takes the input only where it is
-/// quiet, and makes the turn only where it isn't.
+/// What a browser puts when it opens a window at the address and makes one turn. It takes the input
+/// only where it is quiet, and makes the turn only where it isn't.
 fn open<L: Ledger>(
     alloc: Global,
     browser: &mut Browser,
@@ -28,7 +28,8 @@ fn open<L: Ledger>(
     Ok(outs)
 }
 
-/// Whether the outputs are of a window that opens, and of the request that is asked for next, if any.
+/// Whether the outputs are of a window that opens, and of the request that is asked for next, if
+/// any.
 fn are_of_a_window(outs: &[Out], asked: Option<(&str, &str)>) -> bool {
     match outs {
         [opened] => is_opened(opened) && asked.is_none(),

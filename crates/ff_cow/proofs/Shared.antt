@@ -1,4 +1,5 @@
--- The nodes below a branch as its code holds them: a list of handles, each seen as the node behind it.
+-- The nodes below a branch as its code holds them: a list of handles, each seen as the node behind
+-- it.
 use Rattle.std.proofs.Common.{◌≡◌, ℕ, suc, ◌+◌, ◌*◌, ◌/◌, ◌%◌, ◌<◌, ◌≤◌, List, [], ◌∷◌, ◌++◌, map, length, get_or, set, ap, sym, refl, add-one, ◌∙◌, arith}
 use Rattle.std.specs.Prelude.{Result, Ok, Err, OnOk, OnErr}
 use Rattle.std.specs.List.{slice_get, AllZip}

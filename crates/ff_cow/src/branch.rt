@@ -144,7 +144,8 @@ where
     own.set(i, room, value, alloc, copies)
 }
 
-// Puts a cell behind the `count` cells of a node, into a node of its own where another list shares it.
+// Puts a cell behind the `count` cells of a node, into a node of its own where another list shares
+// it.
 fn push_in<V, T: Writable<V>, C: Ledger>(
     kid: &mut Rc<T>,
     count: usize,

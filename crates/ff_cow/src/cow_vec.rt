@@ -79,8 +79,9 @@ impl<V> CowVec<V> {
         }
     }
 
-    /// Puts a cell at the end. It is refused as `Full` exactly where the list has [`MOST_CELLS`] cells,
-    /// and else only for want of memory. A refusal gives the value back and leaves the list as it was.
+    /// Puts a cell at the end. It is refused as `Full` exactly where the list has [`MOST_CELLS`]
+    /// cells, and else only for want of memory. A refusal gives the value back and leaves the list
+    /// as it was.
     pub fn push<C: Ledger>(&mut self, value: V, copies: &mut Steps<C>) -> Result<(), PushFail<V>>
     where
         V: Cell<C>,
@@ -103,8 +104,8 @@ impl<V> CowVec<V> {
         Ok(())
     }
 
-    /// Writes the cell at place `i`, counted from 0. It is refused only for want of memory, and then gives
-    /// the value back and leaves the list as it was.
+    /// Writes the cell at place `i`, counted from 0. It is refused only for want of memory, and
+    /// then gives the value back and leaves the list as it was.
     pub fn set<C: Ledger>(&mut self, i: u32, value: V, copies: &mut Steps<C>) -> Result<(), V>
     where
         V: Cell<C>,
@@ -119,8 +120,8 @@ impl<V> CowVec<V> {
         self.root.set(i as usize, room, value, self.alloc, copies)
     }
 
-    /// An equal list that shares its nodes with this one. No cell is copied, and no later write to one of
-    /// the two lists is seen in the other. It is refused only for want of memory.
+    /// An equal list that shares its nodes with this one. No cell is copied, and no later write to
+    /// one of the two lists is seen in the other. It is refused only for want of memory.
     pub fn fork<C: Ledger>(&self, copies: &mut Steps<C>) -> Result<CowVec<V>, NoMemory>
     where
         V: Cell<C>,

@@ -9,8 +9,8 @@ use std::sync::ledger::Ledger;
 /// How many cells a leaf has room for, and how many nodes a branch has room for.
 pub(crate) const WIDTH: usize = 16;
 
-/// A node that can be read. `capacity` is how many cells a full node of this layer has; a caller passes it
-/// down as `room`.
+/// A node that can be read. `capacity` is how many cells a full node of this layer has; a caller
+/// passes it down as `room`.
 pub(crate) trait Layer<V>: Sized {
     ghost capacity: { ℕ };
 
@@ -45,7 +45,8 @@ pub(crate) trait Writable<V>: Layer<V> + Drop {
         ensures later { copies.old ≤ copies.new }
         ensures copies { copies.new ≤ copies.old + copied (Self.cells self.now) };
 
-    /// Writes the cell at `i`. Want of memory gives the value back and leaves the cells as they were.
+    /// Writes the cell at `i`. Want of memory gives the value back and leaves the cells as they
+    /// were.
     fn set<C: Ledger>(
         &mut self,
         i: usize,
@@ -66,8 +67,8 @@ pub(crate) trait Writable<V>: Layer<V> + Drop {
         ensures later { copies.old ≤ copies.new }
         ensures copies { copies.new + copied (Self.cells self.old) ≤ copies.old + 16 };
 
-    /// Puts a cell behind the `count` cells that the node has. Want of memory gives the value back and
-    /// leaves the cells as they were.
+    /// Puts a cell behind the `count` cells that the node has. Want of memory gives the value back
+    /// and leaves the cells as they were.
     fn push<C: Ledger>(
         &mut self,
         count: usize,

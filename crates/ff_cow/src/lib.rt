@@ -1,16 +1,17 @@
 //! A list that is shared between forks, and copied only where one of them writes.
 //!
-//! A [`CowVec`] is a list in contracts. It is held as a tree of `Rc` nodes, sixteen to a node and five
-//! layers high, so it has at most [`MOST_CELLS`] cells. A fork shares the nodes with the list that it
-//! came from: it copies no cell. A write copies only the shared nodes between the root and its cell, and
-//! with them the cells of at most one leaf. A counter of type `Steps` says how many cells were copied.
+//! A [`CowVec`] is a list in contracts. It is held as a tree of `Rc` nodes, sixteen to a node and
+//! five layers high, so it has at most [`MOST_CELLS`] cells. A fork shares the nodes with the list
+//! that it came from: it copies no cell. A write copies only the shared nodes between the root and
+//! its cell, and with them the cells of at most one leaf. A counter of type `Steps` says how many
+//! cells were copied.
 //!
-//! A read or a write goes down one node of each layer: the root, three branches and a leaf. After a shared
-//! node was copied it has one owner, which no clause of `Rc` can tell: the arm for a second owner does not
-//! come, and answers want of memory.
+//! A read or a write goes down one node of each layer: the root, three branches and a leaf. After a
+//! shared node was copied it has one owner, which no clause of `Rc` can tell: the arm for a second
+//! owner does not come, and answers want of memory.
 //!
-//! The function for which a caller picks the counter's ledger names the type of its cells: with a bound
-//! `V: Cell<C>` of its own no ledger can be picked for it.
+//! The function for which a caller picks the counter's ledger names the type of its cells: with a
+//! bound `V: Cell<C>` of its own no ledger can be picked for it.
 #![tactic(auto)]
 
 mod branch;

@@ -1,5 +1,5 @@
-// Lists of two kinds of cells: plain numbers, and words, which have a model of their own. What a counter
-// does is a clause of the functions below; the tests compare what the lists hold.
+// Lists of two kinds of cells: plain numbers, and words, which have a model of their own. What a
+// counter does is a clause of the functions below; the tests compare what the lists hold.
 ghost use Rattle.std.specs.Prelude.{◌≡◌, ℕ, ◌+◌, ◌*◌, ◌<◌, ◌≤◌, length, vec_len, All, IfOk, slice_set};
 
 use super::*;

@@ -1,4 +1,5 @@
--- The item that stands for a value, with no places: what is printed for a value is the canonical spelling of its item.
+-- The item that stands for a value, with no places: what is printed for a value is the canonical
+-- spelling of its item.
 use Rattle.std.specs.Prelude.{ℕ, true, false, List, [], ◌∷◌, map, codes}
 use Rattle.ff_number.specs.Decimal.{num_text}
 use Rattle.ff_name.specs.Address.{printed}

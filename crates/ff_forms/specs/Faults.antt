@@ -1,5 +1,5 @@
--- The first fault of an item that is to be of some sort: a fault of the item itself, or the first fault of one of its parts, where
--- every part before that one is well spelled.
+-- The first fault of an item that is to be of some sort: a fault of the item itself, or the first
+-- fault of one of its parts, where every part before that one is well spelled.
 use Rattle.std.specs.Prelude.{◌≡◌, ◌≢◌, ℕ, ℤ, Bool, true, false, List, [], ◌∷◌, ◌++◌, length, FitsSigned}
 use Rattle.std.specs.Int.{w64}
 use Rattle.std.specs.List.{list_any}
@@ -145,7 +145,8 @@ pub data FirstFault : Sort → Sexp → SyntaxFault → Type 0 where
   no_variable : (at : Span) (word : List ℕ) → (IsVar word → ⊥) → FirstFault sort.a_variable (Word at word) (fault.Name at.from)
   no_parameter : (at : Span) (word : List ℕ) → (IsVar word → ⊥) → FirstFault sort.a_parameter (Word at word) (fault.Name at.from)
   no_address : (at : Span) (word : List ℕ) → ((url : Url) → Spells word url → ⊥) → FirstFault sort.an_address (Word at word) (fault.Url at.from)
-  -- a word where an expression is wanted: one that begins as a number does has to be one, any other a name
+  -- a word where an expression is wanted: one that begins as a number does has to be one, any other
+  -- a name
   no_number : (at : Span) (word : List ℕ) → looks_like_number word ≡ true → ((n : ℤ) → FitsSigned w64 n → word ≢ num_text n) → FirstFault sort.an_expression (Word at word) (fault.Number at.from)
   no_word : (at : Span) (word : List ℕ) → looks_like_number word ≡ false → (IsName word → ⊥) → FirstFault sort.an_expression (Word at word) (fault.Name at.from)
   -- a list that begins with no word, or with a word of no form
@@ -156,7 +157,8 @@ pub data FirstFault : Sort → Sexp → SyntaxFault → Type 0 where
   -- a form with a number of parts that it may not have
   a_wrong_count : (which : Sort) (at h : Span) (word : List ℕ) (sorts : List Sort) (more : Further) (parts : List Sexp) → HasForm which word sorts more → may_have sorts more (length parts) ≡ false
       → FirstFault which (Parens at (Word h word ∷ parts)) (fault.Count at.from)
-  -- a form with a number of parts that it may have: one of them is at fault, and all before it are spelled
+  -- a form with a number of parts that it may have: one of them is at fault, and all before it are
+  -- spelled
   a_wrong_part : (which : Sort) (at h : Span) (word : List ℕ) (sorts : List Sort) (more : Further) (parts : List Sexp) (wanted : Sort) (part : Sexp) (found : SyntaxFault)
       → HasForm which word sorts more → may_have sorts more (length parts) ≡ true → Reached sorts more parts wanted part → FirstFault wanted part found
       → FirstFault which (Parens at (Word h word ∷ parts)) found

@@ -1,5 +1,5 @@
--- Which items are documents, expressions and responses, what they stand for, and which fault is met first: tables of the
--- forms that lists may have.
+-- Which items are documents, expressions and responses, what they stand for, and which fault is met
+-- first: tables of the forms that lists may have.
 use Rattle.std.specs.Prelude.{ℕ, ◌-◌, Bool, true, false, ◌&&◌, ◌==◌, nat_le, if◌then◌else◌, ok_or, Result, Ok, Err, List, [], ◌∷◌, ◌++◌, length, codes}
 use Rattle.std.specs.List.{list_any}
 use Rattle.std.specs.Str.{bytes_eq}
@@ -83,7 +83,8 @@ Value one_parameter = List ℕ
 Value a_parameter = Placed
 Value a_head = Placed
 
--- how many further parts a form has after those of fixed sorts, and of which sort: none, or a number that passes a test
+-- how many further parts a form has after those of fixed sorts, and of which sort: none, or a
+-- number that passes a test
 pub data Further : Type 0 where
   nothing : Further
   further : (so_many : ℕ → Bool) (sort : Sort) → Further

@@ -4,11 +4,12 @@ ghost use Rattle.std.specs.Prelude.{◌≡◌};
 use std::alloc::{AllocError, AllocFailed};
 use thiserror::Error;
 
-/// Why an item is no document, expression or response. Each holds the place of the first byte of the item at fault, in bytes
-/// from 0.
+/// Why an item is no document, expression or response. Each holds the place of the first byte of
+/// the item at fault, in bytes from 0.
 #[derive(Clone, Copy, Debug, PartialEq, Eq, Error)]
 pub enum SyntaxFault {
-    /// A list is empty, or its first item is no word that may head a list here: the place of the list, or of that item.
+    /// A list is empty, or its first item is no word that may head a list here: the place of the
+    /// list, or of that item.
     #[error("syntax head at {0}")]
     Head(u32),
     /// The list has a wrong number of parts.

@@ -52,7 +52,8 @@ impl Worded for DocHead {
     }
 }
 
-/// The words that head an expression: those of the language's own forms, and those of the operators.
+/// The words that head an expression: those of the language's own forms, and those of the
+/// operators.
 #[derive(Clone, Copy, Debug, PartialEq, Eq)]
 pub enum ExprHead {
     Let,

@@ -1,8 +1,8 @@
 //! The reductions of small programs, one by one.
 //!
 //! A reduction is written as one letter, that of its redex: `l` where no store decides, `y` for a
-//! test that holds and `n` for another, `v` for a variable, `c` for a call, `o` for any other. Where
-//! a call stands around the redex it is a capital.
+//! test that holds and `n` for another, `v` for a variable, `c` for a call, `o` for any other.
+//! Where a call stands around the redex it is a capital.
 ghost use Rattle.std.specs.Prelude.{◌≡◌, false};
 ghost use Rattle.ff_term.specs.Running.{is_value, redex as the_redex};
 ghost use Rattle.ff_term.specs.Redexes.{IsRedexOf};
@@ -39,8 +39,8 @@ fn is_num(value: Option<&Val>, n: i64) -> bool {
     }
 }
 
-/// Reduces the redex: an `if` by its test, a call by its body in activation 1; all else that a store
-/// decides becomes 7.
+/// Reduces the redex: an `if` by its test, a call by its body in activation 1; all else that a
+/// store decides becomes 7.
 fn reduce(alloc: Global, control: &mut Control, redex: &Redex) -> Result<(), NoMemory>
     requires unfinished { is_value control.old.expr ≡ false }
     requires is { IsRedexOf redex.now (the_redex control.old.expr) }

@@ -25,14 +25,14 @@ line_size bytes = length (content bytes) + cond (has_newline bytes) 1 0
 abbrev pub HasLine : Bool → List ℕ → Type 0
 HasLine ended bytes = (has_newline bytes ≡ true) ⊎ ((ended ≡ true) × (0 < length bytes))
 
--- A line of `size` bytes that begins after `start` bytes of the trace has more bytes than a line may
--- have, and its first byte too many is one that the trace may have.
+-- A line of `size` bytes that begins after `start` bytes of the trace has more bytes than a line
+-- may have, and its first byte too many is one that the trace may have.
 pub record IsTooLong (start size : ℕ) : Type 0 where
   pub over : MOST_LINE_BYTES < size
   pub first : start + MOST_LINE_BYTES < MOST_TRACE_BYTES
 
--- The trace has more bytes than it may have, counted to the end of this line, its newline among them;
--- and it isn't so that the line is too long by an earlier byte.
+-- The trace has more bytes than it may have, counted to the end of this line, its newline among
+-- them; and it isn't so that the line is too long by an earlier byte.
 pub record IsTooMuch (start size end : ℕ) : Type 0 where
   pub over : MOST_TRACE_BYTES < end
   pub first : ¬ IsTooLong start size

@@ -22,7 +22,8 @@ bad_fetches_of shelf = shelf.bad_fetches.items
 abbrev pub fetches_of : MemShelf → ℕ
 fetches_of shelf = shelf.fetches
 
--- how many fetches failed that count for a name: one count for the names that are there, and one for the others
+-- how many fetches failed that count for a name: one count for the names that are there, and one
+-- for the others
 abbrev pub shelf_faults : MemShelf → List ℕ → ℕ
 shelf_faults shelf name = if is_some (shelf_files shelf name) then shelf.faults else shelf.missing_faults
 

@@ -1,4 +1,5 @@
--- What passes through a port: the pieces got from it and the pieces put to it, in the order of the calls.
+-- What passes through a port: the pieces got from it and the pieces put to it, in the order of the
+-- calls.
 use Rattle.std.specs.Prelude.{Bool, true, false, ◌||◌, ℕ, List, [], ◌∷◌, ◌++◌, ⊤, length, ◌<◌}
 
 -- The bytes of one read, none at the end, or of one write.

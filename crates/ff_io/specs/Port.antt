@@ -4,8 +4,8 @@ use Rattle.std.specs.Io.KnownBytes.{IsAtEnd}
 use Rattle.ff_io.specs.Pieces.{Piece, got_of, has_end}
 use Rattle.ff_io.specs.Pieces.Piece.{Got, Put}
 
--- What a port tells: the pieces got and put so far and the bytes still to come, each where they are told, and how many reads
--- and how many writes failed.
+-- What a port tells: the pieces got and put so far and the bytes still to come, each where they are
+-- told, and how many reads and how many writes failed.
 pub record Told : Type 0 where
   pub log : Option (List Piece)
   pub rest : Option (List ℕ)

@@ -5,7 +5,8 @@ use Rattle.std.specs.Prelude.{◌≡◌, ℕ, ◌≤◌, Option, Some, None, Res
 abbrev pub Files : Type 0
 Files = List ℕ → Option (List ℕ)
 
--- What a shelf tells: the files, where they are told, and how many fetches failed that count for a name.
+-- What a shelf tells: the files, where they are told, and how many fetches failed that count for a
+-- name.
 pub record ShelfTold : Type 0 where
   pub files : Option Files
   pub faults : List ℕ → ℕ

@@ -1,4 +1,5 @@
--- The pieces that passed through a port in memory, as it keeps them: the bytes of each side joined, and where they were cut.
+-- The pieces that passed through a port in memory, as it keeps them: the bytes of each side joined,
+-- and where they were cut.
 use Rattle.std.specs.Prelude.{◌≡◌, ℕ, ◌+◌, List, [], ◌∷◌, take, drop, length}
 use Rattle.ff_io.specs.Pieces.{Piece}
 use Rattle.ff_io.specs.Pieces.Piece.{Got, Put}

@@ -39,12 +39,13 @@ impl From<AllocError> for FetchFail {
 /// How many bytes one fetch asks for at most.
 const MOST_FETCH_BYTES: usize = 4_096;
 
-/// Fetches the first `limit` bytes of the named file, or all of them where it has fewer. `limit` is at
-/// least 1. Bytes after these don't count: the answer is the same whatever they are.
+/// Fetches the first `limit` bytes of the named file, or all of them where it has fewer. `limit` is
+/// at least 1. Bytes after these don't count: the answer is the same whatever they are.
 ///
 /// # Errors
 ///
-/// `Fetch` where a fetch failed, as where the file isn't there; `NoMemory` where there is none for the bytes.
+/// `Fetch` where a fetch failed, as where the file isn't there; `NoMemory` where there is none for
+/// the bytes.
 #[tactic(auto, using(crate::proofs::Fetching::fetching_start, crate::proofs::Fetching::fetching_more, crate::proofs::Fetching::fetched_all))]
 pub fn fetch_front<S: Shelf>(
     alloc: Global,

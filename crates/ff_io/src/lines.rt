@@ -118,8 +118,8 @@ impl Lines {
         self.failed
     }
 
-    /// Gives the next line. It reads only while the bytes got hold no further whole line and fit, and
-    /// asks for [`MOST_READ_BYTES`](crate::MOST_READ_BYTES) bytes each time.
+    /// Gives the next line. It reads only while the bytes got hold no further whole line and fit,
+    /// and asks for [`MOST_READ_BYTES`](crate::MOST_READ_BYTES) bytes each time.
     ///
     /// # Errors
     ///

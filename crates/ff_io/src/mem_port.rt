@@ -164,7 +164,8 @@ impl Port for MemPort {
     }
 }
 
-// Gives bytes of the first piece and keeps them on the tape. Where there is no memory for them, nothing changes.
+// Gives bytes of the first piece and keeps them on the tape. Where there is no memory for them,
+// nothing changes.
 fn get_piece(source: &mut Source, tape: &mut Tape, into: &mut [u8]) -> Result<usize, AllocError>
     requires { 0 < length into.old }
     ensures size { IfOk result (λ n. n ≡ min (length into.old) (length (front_piece source.old))) }

@@ -44,7 +44,8 @@ pub trait Port {
         ensures cause { HasCause (read_faults self.old) (read_faults self.new) result }
         ensures others { write_faults self.new ≡ write_faults self.old };
 
-    /// Puts some bytes of the front of `piece`, which isn't empty, and answers how many: at least one.
+    /// Puts some bytes of the front of `piece`, which isn't empty, and answers how many: at least
+    /// one.
     ///
     /// # Errors
     ///
@@ -73,7 +74,8 @@ pub trait Sink {
     // Both.
     ghost told: { Self → SinkTold };
 
-    /// Puts some bytes of the front of `piece`, which isn't empty, and answers how many: at least one.
+    /// Puts some bytes of the front of `piece`, which isn't empty, and answers how many: at least
+    /// one.
     ///
     /// # Errors
     ///

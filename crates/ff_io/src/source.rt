@@ -44,7 +44,8 @@ impl Source {
         }
     }
 
-    /// Goes past the first `n` bytes of the first piece, and past that piece where none is left of it.
+    /// Goes past the first `n` bytes of the first piece, and past that piece where none is left of
+    /// it.
     pub fn advance(&mut self, n: usize)
         requires { n ≤ length (front_piece self.old) }
         ensures { self.new ≡ without_front n self.old }

@@ -1,4 +1,5 @@
--- What callers cite of a lattice: how its names are spelled, when two are equal, and what lies above a join.
+-- What callers cite of a lattice: how its names are spelled, when two are equal, and what lies
+-- above a join.
 use Rattle.std.proofs.Common.{◌≡◌, ℕ, ◌<◌, ◌≤◌, inl, inr, zero, suc, true, ◌&&◌, List, [], ◌∷◌, sym, ◌∙◌, ap, subst, arith, length, get_or}
 use Rattle.std.specs.List.{list_all}
 use Rattle.std.specs.Char.{is_ascii_alphabetic}

@@ -1,4 +1,5 @@
--- Chains of a relation, bounds of two levels, what a lattice is, and the first place or pair that shows something.
+-- Chains of a relation, bounds of two levels, what a lattice is, and the first place or pair that
+-- shows something.
 use Rattle.std.specs.Prelude.{◌≡◌, ℕ, ◌<◌}
 
 -- b is reached from a by steps of the relation, or by none

@@ -1,4 +1,5 @@
--- The names of levels and the pairs between them, the order that these give, and the faults that keep it from being a lattice.
+-- The names of levels and the pairs between them, the order that these give, and the faults that
+-- keep it from being a lattice.
 use Rattle.std.specs.Prelude.{◌≡◌, ℕ, ◌<◌, ◌≤◌, ◌⊎◌, ◌↔◌, true, false, List, [], length, get_or}
 use Rattle.ff_lattice.specs.declared.fault.LatticeFault.{LatticeFault}
 use Rattle.ff_lattice.specs.declared.fault.LatticeFault.TheVariants.{NoLevels, TooMany, BadName, Repeated, Unknown, Cycle, NoJoin, NoMeet, NoMemory}
@@ -35,7 +36,8 @@ IsAmongFirst count below low high = (k : ℕ) × (k < count) × ((pair_at below 
 abbrev pub IsGiven : List Pair → List ℕ → List ℕ → Type 0
 IsGiven below low high = IsAmongFirst (length below) below low high
 
--- a chain of pairs leads from the level a to the level b: the least reflexive and transitive order that holds the pairs
+-- a chain of pairs leads from the level a to the level b: the least reflexive and transitive order
+-- that holds the pairs
 abbrev pub Reaches : List (List ℕ) → List Pair → ℕ → ℕ → Type 0
 Reaches names below a b = Chain (IsGiven below) (nth names a) (nth names b)
 

@@ -1,4 +1,5 @@
--- The order of the levels as a value: their names, and for each level the set of those at or above it.
+-- The order of the levels as a value: their names, and for each level the set of those at or above
+-- it.
 use Rattle.std.specs.Prelude.{◌≡◌, ℕ, ◌<◌, ◌≤◌, zero, suc, Bool, true, false, not, ◌&&◌, ◌||◌, List, [], ◌∷◌, length, get_or, nat_lt, codes, bytes_eq, Option, Some, None, option_map, if◌then◌else◌}
 use Rattle.std.specs.List.{list_all, position_from}
 use Rattle.std.specs.Char.{is_ascii_alphabetic}
@@ -70,7 +71,8 @@ bottom order = pick (λ l. list_all (leq order l) (below (size order))) (size or
 unfoldable pub top : Order → ℕ
 top order = pick (λ l. list_all (λ m. leq order m l) (below (size order))) (size order)
 
--- a level's name: a letter, and then letters, digits, `_` and `-`, in at most MOST_LEVEL_NAME_BYTES bytes
+-- a level's name: a letter, and then letters, digits, `_` and `-`, in at most MOST_LEVEL_NAME_BYTES
+-- bytes
 abbrev pub is_level_name : List ℕ → Bool
 is_level_name [] = false
 is_level_name (first ∷ rest) = is_ascii_alphabetic first && list_all stands_in_name rest && nat_lt (length rest) MOST_LEVEL_NAME_BYTES

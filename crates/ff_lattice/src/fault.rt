@@ -14,7 +14,8 @@ pub enum LatticeFault {
     /// There are more than 16 names.
     #[error("too many levels")]
     TooMany,
-    /// The first place, from 0, whose name isn't a letter followed by at most 31 letters, digits, `_` or `-`.
+    /// The first place, from 0, whose name isn't a letter followed by at most 31 letters, digits,
+    /// `_` or `-`.
     #[error("bad level name {0}")]
     BadName(u32),
     /// The first name that stands before, too.

@@ -14,7 +14,8 @@ use indexmap::IndexSet;
 use std::alloc::Global;
 use std::marker::Model;
 
-/// The levels with their names and their order, which is a lattice. A level's number is its place among the names.
+/// The levels with their names and their order, which is a lattice. A level's number is its place
+/// among the names.
 #[derive(Debug, Drop)]
 pub struct Lattice {
     names: IndexSet<Text>,
@@ -49,11 +50,12 @@ impl Lattice {
         })
     }
 
-    /// The lattice of these levels, in which the low level of each pair is at or below the high one: the least such order
-    /// that is reflexive and transitive. Its refusals, in their order: there are no names; more than 16; a name that isn't a
-    /// letter followed by at most 31 letters, digits, `_` or `-`; a name that stands before; a pair of a name that is no
-    /// level; two levels that are each at or below the other; two with no join; two with no meet. Want of memory may come in
-    /// place of any of these.
+    /// The lattice of these levels, in which the low level of each pair is at or below the high
+    /// one: the least such order that is reflexive and transitive. Its refusals, in their order:
+    /// there are no names; more than 16; a name that isn't a letter followed by at most 31 letters,
+    /// digits, `_` or `-`; a name that stands before; a pair of a name that is no level; two levels
+    /// that are each at or below the other; two with no join; two with no meet. Want of memory may
+    /// come in place of any of these.
     pub fn build(alloc: Global, names: &[Text], below: &[Pair]) -> Result<Lattice, LatticeFault>
         ensures found { IfOk result (IsLatticeOf names.now below.now) }
         ensures fault { IfErr result (λ fault. fault ≢ LatticeFault.NoMemory → IsFault names.now below.now fault) }

@@ -23,7 +23,8 @@ use Rattle.ff_machine.specs.Operators.{Outcome, operate}
 use Rattle.ff_machine.specs.Reduction.{Became, Moved, Red, put_back, reduced, of_outcome, choose, call, entered, enter_fault, or_fault, variable, declare, assign, make_tree}
 use Rattle.ff_laws.proofs.TasksDepth.{no_more_calls, local_no_more, branch_no_more}
 
--- what stands in the place of a redex inside so many calls: with its own calls there are not too many
+-- what stands in the place of a redex inside so many calls: with its own calls there are not too
+-- many
 record IsPlaced (calls : ℕ) (e part : Running) : Type 0 where
   pub around : CallsStandAround part
   pub few : calls + insides part ≤ MOST_CALLS + insides e

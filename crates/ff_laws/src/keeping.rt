@@ -99,8 +99,8 @@ pub fn inputs_and_turns_keep_stores_valid()
 {}
 
 /// Valid states stay valid, their tasks too: when a well spelled input is taken, at each turn, and
-/// when an input is handled in however many turns. After a run over well spelled inputs the state is
-/// valid, and nothing is left to do, to show or to spend.
+/// when an input is handled in however many turns. After a run over well spelled inputs the state
+/// is valid, and nothing is left to do, to show or to spend.
 pub fn states_stay_valid()
     ensures begin { (budget : ℕ) (s : State) (i : Input) → IsState budget s → IsWellSpelledInput i → IsState budget (begin s i).after }
     ensures turn { (budget : ℕ) (s : State) → IsState budget s → IsState budget (turn s).after }

@@ -22,12 +22,13 @@
 //! - Tasks stay valid: a reduction leaves calls around the redex, a thousand at most (`TasksDepth`,
 //!   `TasksPlacing`), and a turn and an input leave valid tasks (`TasksWorking`, `TasksBeginning`).
 //!   So states stay valid, over whole runs (`States`).
-//! - `specs/Puts`: an output that is well spelled, with the cookies of a request in order. From valid
-//!   stores each output is one: what is read off stores (`OutputsRead`), the steps that put
+//! - `specs/Puts`: an output that is well spelled, with the cookies of a request in order. From
+//!   valid stores each output is one: what is read off stores (`OutputsRead`), the steps that put
 //!   (`OutputsSteps`), operators and one reduction (`OutputsOperators`), turns and inputs
 //!   (`OutputsTurns`). So is each output of a run over well spelled inputs (`OutputsRuns`).
-//! - A walk of a valid tree comes to each node once at most (`Walks`), so the scripts of a tree each
-//!   start once. That trees which are made or joined leave valid nodes is cited from `ff_machine`.
+//! - A walk of a valid tree comes to each node once at most (`Walks`), so the scripts of a tree
+//!   each start once. That trees which are made or joined leave valid nodes is cited from
+//!   `ff_machine`.
 #![tactic(auto)]
 
 mod keeping;

@@ -19,8 +19,8 @@ ghost use Rattle.ff_machine.specs.Valid.{IsVal, IsRunning, IsStores, IsTask, IsS
 ghost use Rattle.ff_laws.specs.Puts.{IsOut, AreOuts, OutsUnlessFault, OutsIfMoved};
 
 /// From valid stores each output is well spelled, with the cookies of a request in byte order of
-/// their keys: what taking a well spelled input puts, a turn whose tasks are valid, an operator with
-/// valid operands, and one reduction of a valid evaluation.
+/// their keys: what taking a well spelled input puts, a turn whose tasks are valid, an operator
+/// with valid operands, and one reduction of a valid evaluation.
 pub fn what_is_put_is_well_spelled()
     ensures begin { (s : State) (i : Input) → IsStores s.stores → IsWellSpelledInput i → AreOuts (begin s i).outputs }
     ensures turn { (s : State) → IsStores s.stores → All (IsTask s.stores) s.tasks → AreOuts (turn s).outputs }
@@ -28,8 +28,8 @@ pub fn what_is_put_is_well_spelled()
     ensures reduction { (s : Stores) (page : PageId) (t : Evaluation) → IsStores s → IsRunning (made s) t.expr → is_value t.expr ≡ false → OutsIfMoved (Red s page t) }
 {}
 
-/// From valid states and well spelled inputs the browser puts such outputs alone: at each step, in all
-/// that an input brings about, however many turns that may take, and in a whole run.
+/// From valid states and well spelled inputs the browser puts such outputs alone: at each step, in
+/// all that an input brings about, however many turns that may take, and in a whole run.
 pub fn what_a_run_puts_is_well_spelled()
     ensures reactor { (budget : ℕ) → KeepsOk (reactor budget) IsWellSpelledInput (IsState budget) IsOut }
     ensures handled { (budget most : ℕ) (s : State) (i : Input) → IsState budget s → IsWellSpelledInput i → AreOuts ((machine_of (reactor budget) most).handle s i).outputs }

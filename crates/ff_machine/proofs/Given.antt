@@ -116,7 +116,7 @@ settling fuel = machine_of (reactor fuel) (suc fuel)
 pub runs_alike : (fuel : ℕ) (trace : Trace) → plain (settling fuel) trace.inputs ≡ trace.outputs → plain (browser fuel) trace.inputs ≡ trace.outputs
 runs_alike fuel trace run = let e : fuel + 1 ≡ suc fuel = omega arith in ap (λ most. plain (machine_of (reactor fuel) most) trace.inputs) e ∙ run
 
--- a trace that is run with so much fuel and any number more is run with any fuel that is at least so
--- much
+-- a trace that is run with so much fuel and any number more is run with any fuel that is at least
+-- so much
 pub runs_from : (k : ℕ) (trace : Trace) → ((n : ℕ) → plain (settling (more k n)) trace.inputs ≡ trace.outputs) → (fuel : ℕ) → k ≤ fuel → plain (browser fuel) trace.inputs ≡ trace.outputs
 runs_from k trace run fuel enough = runs_alike fuel trace (at_least (λ f. plain (settling f) trace.inputs ≡ trace.outputs) k run fuel enough)

@@ -179,8 +179,8 @@ waiting_slot = record {
   outputs = opened a_com ∷ (loaded a_com (seen.Text (codes "zero") ∷ []) ∷ send_to a_com (codes "/s") [] ∷ []) ∷ (updated (seen.Text (codes "two") ∷ []) ∷ []) ∷ [];
 }
 
--- A queue that is left: with one fuel for each input a script is begun and stopped, and the next one
--- waits for the next input's fuel.
+-- A queue that is left: with one fuel for each input a script is begun and stopped, and the next
+-- one waits for the next input's fuel.
 
 -- `(script a 1) (script b 2)`
 abbrev pub numbers : List Doc

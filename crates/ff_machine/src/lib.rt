@@ -35,8 +35,8 @@
 //! `Traces` has small inputs, and what one copy of the browser puts for each of them: a page load,
 //! whose reply is then given twice; a click whose script sends what was typed, and the same click
 //! where nothing was typed; a fault in a script; a slot that waits for its script; a queue that is
-//! left for want of fuel. The laws of `traces` say that the definitions give these outputs, whatever
-//! fuel an input brings, if it is enough.
+//! left for want of fuel. The laws of `traces` say that the definitions give these outputs,
+//! whatever fuel an input brings, if it is enough.
 //!
 //! # Laws
 //!

@@ -6,8 +6,8 @@ use std::marker::Model;
 /// The most digits of a number of 64 bits, and with its sign where it is signed.
 const MOST_DIGITS: usize = 20;
 
-/// The digits of a number of 64 bits in decimal, and its sign, in a buffer of its own that takes no memory. It is seen as
-/// the list of their bytes.
+/// The digits of a number of 64 bits in decimal, and its sign, in a buffer of its own that takes no
+/// memory. It is seen as the list of their bytes.
 #[derive(Drop)]
 pub struct Digits {
     /// The digits are the last ones.

@@ -11,7 +11,8 @@ pub fn print_nat(n: u64, out: &mut Vec<u8>) -> Result<(), NoMemory>
     out.extend_from_slice(Digits::of(n).as_slice())
 }
 
-/// Appends the number in decimal, a negative one after a minus. After `NoMemory` a front of it was appended.
+/// Appends the number in decimal, a negative one after a minus. After `NoMemory` a front of it was
+/// appended.
 pub fn print_num(n: i64, out: &mut Vec<u8>) -> Result<(), NoMemory>
     ensures { Appends result out.old.items out.new.items (num_text n) }
 {

@@ -6,7 +6,8 @@ ghost use Rattle.ff_number.specs.Decimal.{nat_text, num_text};
 ghost use Rattle.ff_number.specs.Decimal as spelling;
 ghost use Rattle.ff_number.specs.Numbers as numbers;
 
-/// The number that these bytes spell: `0`, or digits that begin with 1 to 9. `None` where they spell none below 2^64.
+/// The number that these bytes spell: `0`, or digits that begin with 1 to 9. `None` where they
+/// spell none below 2^64.
 pub fn read_nat(bytes: &[u8]) -> Option<u64>
     ensures spelled { (n : ℕ) → n < 2 ^ 64 → (result ≡ Some n) ↔ (bytes.now ≡ nat_text n) }
     ensures within { IfSome result (λ n. n < 2 ^ 64) }
@@ -20,8 +21,8 @@ pub fn read_nat(bytes: &[u8]) -> Option<u64>
     }
 }
 
-/// The number that these bytes spell: `0`, or digits that begin with 1 to 9, after a minus where it is negative. `None`
-/// where they spell none from -2^63 to 2^63 - 1.
+/// The number that these bytes spell: `0`, or digits that begin with 1 to 9, after a minus where it
+/// is negative. `None` where they spell none from -2^63 to 2^63 - 1.
 pub fn read_num(bytes: &[u8]) -> Option<i64>
     ensures spelled { (n : ℤ) → FitsSigned w64 n → (result ≡ Some n) ↔ (bytes.now ≡ num_text n) }
     ensures within { IfSome result (λ n. FitsSigned w64 n) }

@@ -13,7 +13,8 @@ Gives (Err f) (Ok y) = ⊥
 Gives (Err f) (Err (fail.Fault g)) = g ≡ f
 Gives (Err f) (Err fail.NoMemory) = ⊤
 
--- the answer is the fault that there is, or that there is none; want of memory may stand in its place
+-- the answer is the fault that there is, or that there is none; want of memory may stand in its
+-- place
 abbrev pub Answers : {X : Type 0} → Option Fault → Result X Fail → Type 0
 Answers why (Ok x) = why ≡ None
 Answers why (Err (fail.Fault f)) = why ≡ Some f

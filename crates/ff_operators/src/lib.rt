@@ -1,7 +1,8 @@
-//! The pure operators of the script language: those on numbers, truth values and texts, which read and change no store.
+//! The pure operators of the script language: those on numbers, truth values and texts, which read
+//! and change no store.
 //!
-//! [`apply`] gives what an operator makes of its operands, or why it fails. Operands are lent, and memory is taken for
-//! made texts alone.
+//! [`apply`] gives what an operator makes of its operands, or why it fails. Operands are lent, and
+//! memory is taken for made texts alone.
 #![tactic(auto)]
 
 mod answer;

@@ -6,8 +6,9 @@ use crate::{arithmetic, comparisons, texts};
 use ff_value::{Fault, Op, Vals};
 use std::alloc::Global;
 
-/// What a pure operator gives for its operands and the mass, or its fault. Operands of other kinds or in another number are
-/// a kind fault, and so are all operands of an operator that isn't pure. Memory is taken for a made text alone.
+/// What a pure operator gives for its operands and the mass, or its fault. Operands of other kinds
+/// or in another number are a kind fault, and so are all operands of an operator that isn't pure.
+/// Memory is taken for a made text alone.
 pub fn apply(alloc: Global, op: Op, args: &Vals, mass: u64) -> Result<Applied, Fail>
     ensures { Gives (pure.apply op args.now mass) result }
 {

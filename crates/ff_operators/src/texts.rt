@@ -80,7 +80,8 @@ pub(crate) fn cut(alloc: Global, args: &Vals, mass: u64) -> Result<Applied, Fail
     }
 }
 
-/// The part of a text from the first place to before the second, or `None` where these aren't places in order.
+/// The part of a text from the first place to before the second, or `None` where these aren't
+/// places in order.
 fn part_of(text: &[u8], from: i64, to: i64) -> Option<&[u8]>
     requires { IsUtf8 text.now }
     ensures value { option_copied result ≡ pure.part_of text.now from to }
@@ -95,7 +96,8 @@ fn part_of(text: &[u8], from: i64, to: i64) -> Option<&[u8]>
     }
 }
 
-/// The place that the number is, in the text or its end. `None` where it is none or a character goes over it.
+/// The place that the number is, in the text or its end. `None` where it is none or a character
+/// goes over it.
 fn place_of(text: &[u8], at: i64) -> Option<usize>
     ensures { SomeIff result (IsTrue (pure.is_place text.now at)) (nat_abs at) }
 {

@@ -1,8 +1,9 @@
 //! Runs pure operators on the lines of its input and prints what each gives.
 //!
-//! A line is `MASS OPERATOR OPERAND..`, separated by single blanks. An operand is a number, `null`, `true`, `false`, `'` and
-//! then a text without blanks, `*N` for a text of N times the letter `a`, `w` and then the number of a window, `n` and then
-//! the number of a node, or `fn` for a function. The answer is a value, spelled so, and the mass after it, or a fault.
+//! A line is `MASS OPERATOR OPERAND..`, separated by single blanks. An operand is a number, `null`,
+//! `true`, `false`, `'` and then a text without blanks, `*N` for a text of N times the letter `a`,
+//! `w` and then the number of a window, `n` and then the number of a node, or `fn` for a function.
+//! The answer is a value, spelled so, and the mass after it, or a fault.
 #![tactic(auto)]
 
 mod lines;

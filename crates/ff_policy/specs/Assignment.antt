@@ -1,5 +1,5 @@
--- A policy as a value: the levels with their order, the level of each kind of input, of each domain and of the user interface,
--- and the fuel of an input.
+-- A policy as a value: the levels with their order, the level of each kind of input, of each domain
+-- and of the user interface, and the fuel of an input.
 use Rattle.std.specs.Prelude.{◌≡◌, ◌≢◌, ◌⊎◌, ◌<◌, ◌≤◌, ℕ, Bool, eqb, ◌==◌, ◌&&◌, true, false, nat_le, List, [], ◌∷◌, length, get_or, Option, Some, None, bytes_eq, if◌then◌else◌}
 use Rattle.std.specs.List.{find, ends_with}
 use Rattle.ff_name.specs.declared.levels.Level.{Level}
@@ -26,8 +26,8 @@ pub record Key : Type 0 where
   pub key : List ℕ
   pub level : ℕ
 
--- the levels and their order, the level of the user interface, the level of domains that no key stands for, the keys in byte
--- order, the levels of the kinds, and the fuel of an input
+-- the levels and their order, the level of the user interface, the level of domains that no key
+-- stands for, the keys in byte order, the levels of the kinds, and the fuel of an input
 pub record Assignment : Type 0 where
   pub order : Order
   pub ui : ℕ
@@ -67,7 +67,8 @@ abbrev pub level_or : Option Key → ℕ → ℕ
 level_or None level = level
 level_or (Some key) level = key.level
 
--- the level of a domain: that of its own key, else of the longest key that covers it, else that of all other domains
+-- the level of a domain: that of its own key, else of the longest key that covers it, else that of
+-- all other domains
 unfoldable pub domain_level : Assignment → List ℕ → ℕ
 domain_level policy domain = level_or (find (λ k. bytes_eq k.key domain) policy.domains) (level_or (longest domain policy.domains) policy.other)
 

@@ -1,5 +1,5 @@
--- The JSON value of a policy: which members it has, what shape each of them has, and the fault where one is missing, is none of
--- a policy's or has another shape.
+-- The JSON value of a policy: which members it has, what shape each of them has, and the fault
+-- where one is missing, is none of a policy's or has another shape.
 use Rattle.std.specs.Prelude.{ℕ, Bool, false, not, ◌==◌, List, [], ◌∷◌, ◌++◌, codes, bytes_eq, map, Option, Some, None, option_map, option_and_then, Result, Ok, Err, if◌then◌else◌}
 use Rattle.std.specs.List.{find, list_any}
 use Rattle.std.specs.Option.{ok_or}
@@ -17,8 +17,8 @@ pub record Named : Type 0 where
   pub key : List ℕ
   pub level : List ℕ
 
--- what the members say: the names of the levels and the pairs between them, the names of the levels of the user interface, of
--- the domains and of the kinds of input, and the fuel
+-- what the members say: the names of the levels and the pairs between them, the names of the levels
+-- of the user interface, of the domains and of the kinds of input, and the fuel
 pub record Plan : Type 0 where
   pub levels : List (List ℕ)
   pub below : List Pair
@@ -146,6 +146,7 @@ shaped value =
     optional USUAL_FUEL whole (codes "fuel") value >>= (λ fuel.
     Ok (record { levels = levels; below = below; ui = ui; other = other; domains = domains; kinds = kinds; fuel = fuel }))))))))
 
--- what a value says as a policy: it is an object of version 1, no other member stands in it, and each has its shape
+-- what a value says as a policy: it is an object of version 1, no other member stands in it, and
+-- each has its shape
 unfoldable pub plan_in : Data → Result Plan PolicyFault
 plan_in value = if is_version_one value then known value >>= (λ _. shaped value) else Err BadVersion

@@ -54,7 +54,8 @@ pub record IsKnown (value : Data) : Type 0 where
   pub members : first_other member_names value ≡ None
   pub kinds : other_kind value ≡ None
 
--- the fault in the members: the version comes first, then members that no policy has, then kinds that no user makes, then shapes
+-- the fault in the members: the version comes first, then members that no policy has, then kinds
+-- that no user makes, then shapes
 pub data IsMemberFault (value : Data) : PolicyFault → Type 0 where
   bad_version : is_version_one value ≡ false → IsMemberFault value BadVersion
   no_member : (name : List ℕ) → is_version_one value ≡ true → first_other member_names value ≡ Some name → IsMemberFault value (UnknownField name)

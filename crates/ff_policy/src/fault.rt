@@ -21,7 +21,8 @@ pub enum PolicyFault {
     /// The least other member in byte order, or `kinds.` and the least unknown kind.
     #[error("unknown field")]
     UnknownField(Text),
-    /// The first member, in the order of the table, that is required and absent or has another shape.
+    /// The first member, in the order of the table, that is required and absent or has another
+    /// shape.
     #[error("bad shape")]
     BadShape(Text),
     /// The levels and the pairs are no lattice.

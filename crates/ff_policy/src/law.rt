@@ -18,15 +18,16 @@ pub fn bytes_read_as_one_policy_or_fault()
     ensures { (bytes : List ℕ) (r s : Result Assignment PolicyFault) → Reads bytes r → Reads bytes s → r ≡ s }
 {}
 
-/// A value is no plan of a policy exactly where its members have a fault, which is the first one in the order of their table.
+/// A value is no plan of a policy exactly where its members have a fault, which is the first one in
+/// the order of their table.
 #[tactic(auto, using(crate::proofs::MemberFaults::member_fault, crate::proofs::MemberFaults::fault_member))]
 pub fn the_first_fault_of_the_members_decides()
     ensures found { (value : Data) (fault : PolicyFault) → plan_in value ≡ Err fault → IsMemberFault value fault }
     ensures exact { (value : Data) (fault : PolicyFault) → IsMemberFault value fault → plan_in value ≡ Err fault }
 {}
 
-/// The key that stands for a domain, where it has none of its own, covers it, and each key that does is at most as long. Where
-/// there is no such key, none covers it.
+/// The key that stands for a domain, where it has none of its own, covers it, and each key that
+/// does is at most as long. Where there is no such key, none covers it.
 #[tactic(auto, using(crate::proofs::Longest::longest_is, crate::proofs::Longest::none_covers))]
 pub fn the_longest_key_is_taken()
     ensures found { (domain : List ℕ) (keys : List Key) (key : Key) → longest domain keys ≡ Some key → IsLongest domain keys key }

@@ -1,4 +1,5 @@
-//! Policies: which levels there are, and which level each kind of input, each domain and the user interface has.
+//! Policies: which levels there are, and which level each kind of input, each domain and the user
+//! interface has.
 #![tactic(auto)]
 
 mod checks;

@@ -22,7 +22,8 @@ use serde_json::Value;
 use std::alloc::Global;
 use std::marker::Model;
 
-/// Which levels there are, and which level each kind of input, each domain and the user interface has.
+/// Which levels there are, and which level each kind of input, each domain and the user interface
+/// has.
 #[derive(Debug, Drop)]
 pub struct Policy {
     lattice: Lattice,
@@ -44,8 +45,9 @@ impl Model for Policy {
 }
 
 impl Policy {
-    /// The levels `L` and `H` with `L` below `H`. The user interface is at `H`, every domain and every kind of input at `L`,
-    /// and an input has a fuel of 10,000. Its one refusal is want of memory.
+    /// The levels `L` and `H` with `L` below `H`. The user interface is at `H`, every domain and
+    /// every kind of input at `L`, and an input has a fuel of 10,000. Its one refusal is want of
+    /// memory.
     pub fn builtin(alloc: Global) -> Result<Policy, NoMemory>
         ensures { IfOk result (λ policy. policy ≡ builtin) }
     {
@@ -60,10 +62,11 @@ impl Policy {
         })
     }
 
-    /// The policy that these bytes give as JSON. Its refusals, in their order: over 65,536 bytes; no JSON; no object of version
-    /// 1; another member, or another kind of input; a member that is missing or has another shape; levels that are no lattice;
-    /// a name that is no level's; a key that is neither a domain nor a dot followed by one; a fuel of 0 or over 1,000,000. Want
-    /// of memory may come in place of any of these.
+    /// The policy that these bytes give as JSON. Its refusals, in their order: over 65,536 bytes;
+    /// no JSON; no object of version 1; another member, or another kind of input; a member that is
+    /// missing or has another shape; levels that are no lattice; a name that is no level's; a key
+    /// that is neither a domain nor a dot followed by one; a fuel of 0 or over 1,000,000. Want of
+    /// memory may come in place of any of these.
     pub fn read(alloc: Global, bytes: &[u8]) -> Result<Policy, PolicyFault>
         ensures found { IfOk result (IsPolicyOf bytes.now) }
         ensures fault { IfErr result (λ fault. fault ≢ PolicyFault.NoMemory → IsFault bytes.now fault) }
@@ -154,8 +157,8 @@ impl Policy {
         self.fuel
     }
 
-    /// The level of a domain: that of its own key, else of the longest key that begins with a dot and that the domain ends
-    /// with, else that of all other domains.
+    /// The level of a domain: that of its own key, else of the longest key that begins with a dot
+    /// and that the domain ends with, else that of all other domains.
     #[tactic(auto, using(crate::proofs::Within::domain_level_within))]
     pub fn domain_level(&self, domain: &Domain) -> Level
         ensures value { result.0 ≡ spec.domain_level self.now domain.now }

@@ -1,4 +1,5 @@
--- One layer of the item that stands for a document, an expression, a handler or what the user is shown.
+-- One layer of the item that stands for a document, an expression, a handler or what the user is
+-- shown.
 use Rattle.std.proofs.Common.{◌≡◌, ℕ, List, [], ◌∷◌, map}
 use Rattle.std.specs.Prelude.{codes}
 use denote.Hole.Carrier

@@ -19,8 +19,8 @@ abbrev pub ending : List Sexp → List ℕ
 ending [] = 41 ∷ []
 ending (part ∷ parts) = after_blank part ++ ending parts
 
--- a printer that was to append these bytes did so, or ran out of memory after a front of them; one that had run out before
--- did nothing
+-- a printer that was to append these bytes did so, or ran out of memory after a front of them; one
+-- that had run out before did nothing
 pub data Prints (old new : Printer) (bytes : List ℕ) : Type 0 where
   whole : old.failed ≡ false → new.failed ≡ false → new.bytes.items ≡ old.bytes.items ++ bytes → Prints old new bytes
   cut_off : old.failed ≡ false → new.failed ≡ true → AppendsFront old.bytes.items new.bytes.items bytes → Prints old new bytes

@@ -47,8 +47,8 @@ pub fn print_resp(resp: &Resp, out: &mut Vec<u8>) -> Result<(), NoMemory>
     printer.end(out)
 }
 
-/// Appends the canonical spelling of a page as the user is shown it. After `NoMemory` a front of it was
-/// appended.
+/// Appends the canonical spelling of a page as the user is shown it. After `NoMemory` a front of it
+/// was appended.
 pub fn print_shown(shown: &Shown, out: &mut Vec<u8>) -> Result<(), NoMemory>
     ensures appends { Appends result out.old.items out.new.items (spelled (shown_item shown.now)) }
     // It stands in one line.

@@ -8,7 +8,8 @@ use Rattle.ff_reactive.proofs.Own.{only_is, copy_is_plain}
 use Rattle.ff_reactive.proofs.View.{low_entry, view_is}
 
 module _ {I O S : Type 0} {m : Machine I O S} {v : Levels I O} {InputOk : I → Type 0} {StateOk : S → Type 0} {OutputOk : O → Type 0} (law : IsLawful m v InputOk StateOk OutputOk) where
-  -- each level's own lines are those of the plain machine's outputs at that level, on the inputs that it sees
+  -- each level's own lines are those of the plain machine's outputs at that level, on the inputs
+  -- that it sees
   pub projection : (l : ℕ) (is : List I) → l < v.count → All InputOk is → only v l (text_out v (multi m v is)) ≡ text_of v (at_level v l (joined (plain m (seen v l is))))
   projection l is lt ok = only_is law l is lt ok ∙ ap (text_of v) (copy_is_plain m v l is)
 
@@ -20,7 +21,8 @@ module _ {I O S : Type 0} {m : Machine I O S} {v : Levels I O} {InputOk : I → 
       low : List I → List (List O)
       low xs = entries (low_entry m v l) [] xs
 
-  -- where the plain machine's outputs at a level don't depend on what the level doesn't see, its own lines are the plain ones
+  -- where the plain machine's outputs at a level don't depend on what the level doesn't see, its
+  -- own lines are the plain ones
   pub precision : (l : ℕ) (is : List I) → l < v.count → All InputOk is
       → at_level v l (joined (plain m is)) ≡ at_level v l (joined (plain m (seen v l is)))
       → only v l (text_out v (multi m v is)) ≡ text_of v (at_level v l (joined (plain m is)))

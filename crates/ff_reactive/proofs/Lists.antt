@@ -86,8 +86,8 @@ filter_map_push h (y ∷ ys) x = ap (cons_option (h y)) (filter_map_push h ys x)
     onto None = refl
     onto (Some z) = refl
 
--- A list begins with itself, and with what a list that it begins with begins with; so do both behind the same list, and
--- the longer one with more behind it.
+-- A list begins with itself, and with what a list that it begins with begins with; so do both
+-- behind the same list, and the longer one with more behind it.
 pub BeginsWith-refl : {X : Type 0} (xs : List X) → BeginsWith xs xs
 BeginsWith-refl xs = ([], sym (append-nil xs))
 

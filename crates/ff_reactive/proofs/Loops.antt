@@ -1,4 +1,5 @@
--- What a loop over inputs, and within it over levels, keeps true: the text so far, and where the copies stand.
+-- What a loop over inputs, and within it over levels, keeps true: the text so far, and where the
+-- copies stand.
 use Rattle.std.proofs.Common.{◌≡◌, ℕ, zero, suc, ◌+◌, ◌<◌, ◌≤◌, ◌==◌, Bool, true, false, cond, take, drop, take-append-drop, None, List, [], ◌∷◌, ◌++◌, length, get_or, set, All, refl, sym, ap, subst, ◌∙◌, append_assoc, append-nil, arith, length-set, get_or-set_same, get_or-set_other}
 use Rattle.std.proofs.lemmas.Bool.{cases_eq}
 use Rattle.std.proofs.lemmas.List.{take_more}
@@ -27,7 +28,8 @@ module _ {I O : Type 0} (v : Levels I O) where
       → at_level v l (take (j + 1) os) ≡ at_level v l (take j os) ++ cond b (get_or os j d ∷ []) []
   at_level_more l os j d b lt e = filter_more (λ o. v.level_out o == l) os j d lt ∙ ap (λ t. at_level v l (take j os) ++ cond t (get_or os j d ∷ []) []) e
 
-  -- A loop that prints those outputs of a list that belong to a level: one more output, which does, and one that doesn't.
+  -- A loop that prints those outputs of a list that belong to a level: one more output, which does,
+  -- and one that doesn't.
   pub text_kept : (l : ℕ) (os : List O) (j : ℕ) (d : O) (base text : List ℕ) → j < length os → (v.level_out (get_or os j d) == l) ≡ true
       → text ≡ base ++ text_of v (at_level v l (take j os)) → text ++ line_of v (get_or os j d) ≡ base ++ text_of v (at_level v l (take (j + 1) os))
   text_kept l os j d base text lt here so_far =
@@ -70,7 +72,8 @@ module _ {I O S : Type 0} (m : Machine I O S) (v : Levels I O) where
   pub text_grows : (is js : List I) → text_out v (multi m v (is ++ js)) ≡ text_out v (multi m v is) ++ text_out v (entries (multi_entry m v) is js)
   text_grows is js = ap (text_out v) (multi-append m v is js) ∙ text_out-append v (multi m v is) (entries (multi_entry m v) is js)
 
-  -- the same text with the levels inside: before the first level, after one more, and after the last
+  -- the same text with the levels inside: before the first level, after one more, and after the
+  -- last
   pub text_below_start : (before : List I) (i : I) → text_below m v before i 0 ≡ text_out v (multi m v before)
   text_below_start before i = ap (λ bs. text_out v (multi m v before) ++ bs) (text_of_none v) ∙ append-nil (text_out v (multi m v before))
 
@@ -152,7 +155,8 @@ module _ {I O S : Type 0} (m : Machine I O S) (v : Levels I O) where
       (BeginsWith-same next (text_out v (plain m before) ++ text_of v os) part (plain_text_more before i)
       (BeginsWith-under (text_out v (plain m before)) (text_of v os) (text_of v (take j os)) (text_of_begins v os (take j os) (take_begins v j os))))
 
-  -- Where the copies stand: all at the start, the first of them as an input comes, one more, and all when it was handled.
+  -- Where the copies stand: all at the start, the first of them as an input comes, one more, and
+  -- all when it was handled.
   pub copies_start : (states : List S) → length states ≡ v.count → All (λ s. s ≡ m.start) states → AreCopies m v states [] 0 []
   copies_start states long fresh = record {
     long = long;
@@ -206,7 +210,8 @@ module _ {I O S : Type 0} (m : Machine I O S) (v : Levels I O) where
     waiting = λ k d low at_k. are.done k d at_k at_k;
   }
 
-  -- The copies and the text together: at the start, as an input comes, after one more level, and after all of them.
+  -- The copies and the text together: at the start, as an input comes, after one more level, and
+  -- after all of them.
   pub runs_start : (states : List S) (text : List ℕ) → length states ≡ v.count → All (λ s. s ≡ m.start) states → text ≡ [] → RunsSoFar m v states text []
   runs_start states text long fresh empty = record { copies = copies_start states long fresh; text_is = empty ∙ sym text_start }
 

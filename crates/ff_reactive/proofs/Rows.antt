@@ -1,4 +1,5 @@
--- A machine with two levels that is small enough to run by hand, and what the definitions make of it.
+-- A machine with two levels that is small enough to run by hand, and what the definitions make of
+-- it.
 use Rattle.std.proofs.Common.{◌≡◌, ℕ, suc, ◌+◌, ◌-◌, ◌≢◌, ◌<◌, ◌≤◌, ◌⊎◌, inl, inr, zero, Bool, true, false, ◌==◌, nat_eq, nat_le, cond, Some, None, option_and_then, List, [], ◌∷◌, get_or, codes, refl, sym, ap, subst, ◌∙◌, arith, le-leb}
 use Rattle.std.specs.Prelude.{⊤}
 use Rattle.std.proofs.lemmas.Bool.{leb-true, eqb-true, eqb-false}
@@ -17,7 +18,8 @@ record Line : Type 0 where
   level : ℕ
   number : ℕ
 
--- An input is a level, and opens a window. The state is the number of windows. Each open is told at level 0 and at level 1.
+-- An input is a level, and opens a window. The state is the number of windows. Each open is told at
+-- level 0 and at level 1.
 abbrev opens : Machine ℕ Line ℕ
 opens = record {
   start = 0;
@@ -86,7 +88,8 @@ only_by_whole_words : only two 0 (codes "LH 1\nL\n L 2\nL 3") ≡ codes "L\nL 3"
 unfolding only
 only_by_whole_words = refl
 
--- while both levels see the same, one copy works for both; from the first input on that H alone sees, each has its own
+-- while both levels see the same, one copy works for both; from the first input on that H alone
+-- sees, each has its own
 shared_work : work opens two nat_eq (0 ∷ 0 ∷ []) ≡ 2
 unfolding work after
 shared_work = refl
@@ -110,7 +113,8 @@ settles = refl
 settles_within : settle countdown 2 3 ≡ record { outputs = 3 ∷ 2 ∷ []; after = 1; turns = 2 }
 settles_within = refl
 
--- each of its turns spends one of the numbers that are left, so it is quiet after at most one turn more than it was given
+-- each of its turns spends one of the numbers that are left, so it is quiet after at most one turn
+-- more than it was given
 counts_ok : KeepsOk countdown (λ i. i ≤ 5) (λ s. ⊤) (λ o. ⊤)
 counts_ok = record {
   start_ok = tt;
@@ -129,7 +133,8 @@ counts_down = record { brings = λ s i at here. here; spends = λ s at busy. inl
 counts_to_the_end : (i : ℕ) → i ≤ 5 → ((machine_of countdown 6).handle 0 i).after ≡ 0
 counts_to_the_end i few = eqb-true ((machine_of countdown 6).handle 0 i).after 0 (handle_quiet counts_ok counts_down 0 i tt few)
 
--- The two levels fit the machine, so the laws speak of it. Inputs and outputs are those of the two levels.
+-- The two levels fit the machine, so the laws speak of it. Inputs and outputs are those of the two
+-- levels.
 at_two : (l : ℕ) → l < 2 → (l ≡ 0) ⊎ (l ≡ 1)
 at_two zero lt = inl refl
 at_two (suc zero) lt = inr refl

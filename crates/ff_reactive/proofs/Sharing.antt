@@ -85,7 +85,8 @@ module _ {I O S : Type 0} (m : Machine I O S) (v : Levels I O) (same : I → I �
       (λ l at_l. All-tail (λ j. v.sees l j ≡ Some j) i is (rest l at_l))
       ∙ ap (λ s. turns_from m s is) (after_more m before i))
 
-  -- on inputs that every level sees as they are, the work of all the copies is that of the one plain run
+  -- on inputs that every level sees as they are, the work of all the copies is that of the one
+  -- plain run
   pub work_shared : (is : List I) → ((l : ℕ) → l < v.count → SeesAll v l is) → work m v same is ≡ work_plain m is
   unfolding work work_plain after
   work_shared is all = shared_entries [] is (λ l at_l. All-nil (λ j. v.sees l j ≡ Some j)) all

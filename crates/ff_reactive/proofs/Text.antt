@@ -73,7 +73,8 @@ module _ {I O : Type 0} (v : Levels I O) where
   unfolding text_out
   text_out-append oss pss = ap (text_of v) (flat_map-append (λ os. os) oss pss) ∙ text_of-append (joined oss) (joined pss)
 
-  -- The text of the output can be read back: the name of its level is a word, and it prints on one line.
+  -- The text of the output can be read back: the name of its level is a word, and it prints on one
+  -- line.
   abbrev pub HasLine : O → Type 0
   HasLine o = IsWord (v.name (v.level_out o)) × IsOneLine (v.print o)
 

@@ -139,7 +139,8 @@ module _ {I O S : Type 0} {r : Reactor I O S} {InputOk : I → Type 0} {StateOk 
     pub settle_enough : (n : ℕ) (s : S) → StateOk s → fuel s ≤ n → r.quiet (settle r (n + 1) s).after ≡ true
     settle_enough n s ok within = ap (λ k. r.quiet (settle r k s).after) (add-one n) ∙ settle_enough_suc n s ok within
 
-    -- so the machine handles each input to its end in at most `most + 1` turns, and would do the same with more of them
+    -- so the machine handles each input to its end in at most `most + 1` turns, and would do the
+    -- same with more of them
     pub handle_quiet : (s : S) (i : I) → StateOk s → InputOk i → r.quiet ((machine_of r (most + 1)).handle s i).after ≡ true
     handle_quiet s i ok good = settle_enough most (r.begin s i).after (keeps.begin_ok s i ok good) (fuelled.brings s i ok good)
 

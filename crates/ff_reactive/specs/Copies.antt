@@ -2,8 +2,9 @@
 use Rattle.std.specs.Prelude.{ℕ, zero, suc, Bool, ◌==◌, Option, Some, None, List, [], ◌∷◌, ◌++◌, filter, filter_map, flat_map}
 use Rattle.ff_reactive.specs.Runs.{Machine, entries, last_entry, plain}
 
--- The levels are the numbers below `count`. `leq k l`: k is at or below l. `sees l i` is what l sees of the input i,
--- `level_out o` the level that the output o belongs to, `name` the word for a level, `print o` the output as text.
+-- The levels are the numbers below `count`. `leq k l`: k is at or below l. `sees l i` is what l
+-- sees of the input i, `level_out o` the level that the output o belongs to, `name` the word for a
+-- level, `print o` the output as text.
 pub record Levels (I O : Type 0) : Type 0 where
   pub count : ℕ
   pub leq : ℕ → ℕ → Bool
@@ -32,8 +33,9 @@ module _ {I O : Type 0} (v : Levels I O) where
   at_level l os = filter (λ o. v.level_out o == l) os
 
 module _ {I O S : Type 0} (m : Machine I O S) (v : Levels I O) where
-  -- What the level's copy puts out for the input i after the inputs `before`: nothing where the level doesn't see i, else the
-  -- outputs at that level of the last entry of a plain run over all that the level has seen, i included.
+  -- What the level's copy puts out for the input i after the inputs `before`: nothing where the
+  -- level doesn't see i, else the outputs at that level of the last entry of a plain run over all
+  -- that the level has seen, i included.
   unfoldable pub copy_entry : ℕ → List I → I → List O
   copy_entry l before i = if_some (v.sees l i) (at_level v l (last_entry (plain m (seen v l (before ++ i ∷ [])))))
 
@@ -41,7 +43,8 @@ module _ {I O S : Type 0} (m : Machine I O S) (v : Levels I O) where
   abbrev pub copy : ℕ → List I → List (List O)
   copy l is = entries (copy_entry l) [] is
 
-  -- What the copies at the levels below n put out for the input i after the inputs `before`, level by level.
+  -- What the copies at the levels below n put out for the input i after the inputs `before`, level
+  -- by level.
   abbrev pub entry_below : List I → I → ℕ → List O
   entry_below before i n = flat_map (λ l. copy_entry l before i) (below n)
 

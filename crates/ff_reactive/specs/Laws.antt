@@ -1,4 +1,5 @@
--- What makes levels fit a machine, and the claims on the text of a multi-executed run that then hold.
+-- What makes levels fit a machine, and the claims on the text of a multi-executed run that then
+-- hold.
 use Rattle.std.specs.Prelude.{◌≡◌, ◌≢◌, ℕ, ◌<◌, true, Some, option_and_then, List, All}
 use Rattle.ff_reactive.specs.Runs.{Machine, joined, plain}
 use Rattle.ff_reactive.specs.Copies.{Levels, seen, at_level, multi}
@@ -12,10 +13,11 @@ IsOneLine bytes = All (λ b. b ≢ 10) bytes
 abbrev pub IsWord : List ℕ → Type 0
 IsWord bytes = All (λ b. (b ≢ 32) × (b ≢ 10)) bytes
 
--- The levels fit the machine, on inputs, states and outputs that are well formed:
---   start_ok, handle_ok, outputs_ok, sees_ok      what the machine reaches and what a level sees is well formed
---   sees_below      what a lower level sees of an input is what it sees of that which a higher level sees of it
---   level_ok, print_ok, name_ok, names_differ      outputs belong to a level, and their lines can be told apart by its name
+-- The levels fit the machine, on inputs, states and outputs that are well formed: start_ok,
+-- handle_ok, outputs_ok, sees_ok      what the machine reaches and what a level sees is well formed
+-- sees_below      what a lower level sees of an input is what it sees of that which a higher level
+-- sees of it level_ok, print_ok, name_ok, names_differ      outputs belong to a level, and their
+-- lines can be told apart by its name
 pub record IsLawful {I O S : Type 0} (m : Machine I O S) (v : Levels I O) (InputOk : I → Type 0) (StateOk : S → Type 0) (OutputOk : O → Type 0) : Type 0 where
   pub start_ok : StateOk m.start
   pub handle_ok : (s : S) (i : I) → StateOk s → InputOk i → StateOk (m.handle s i).after
@@ -28,7 +30,8 @@ pub record IsLawful {I O S : Type 0} (m : Machine I O S) (v : Levels I O) (Input
   pub names_differ : (k l : ℕ) → k < v.count → l < v.count → v.name k ≡ v.name l → k ≡ l
 
 module _ {I O S : Type 0} (m : Machine I O S) (v : Levels I O) where
-  -- In the text, each level's own lines are those of the plain machine's outputs at that level, on the inputs that it sees.
+  -- In the text, each level's own lines are those of the plain machine's outputs at that level, on
+  -- the inputs that it sees.
   abbrev pub IsProjection : List I → List ℕ → Type 0
   IsProjection is text = (l : ℕ) → l < v.count → only v l text ≡ text_of v (at_level v l (joined (plain m (seen v l is))))
 
@@ -36,8 +39,8 @@ module _ {I O S : Type 0} (m : Machine I O S) (v : Levels I O) where
   abbrev pub IsSecure : (I → Type 0) → List I → List ℕ → Type 0
   IsSecure InputOk is text = (l : ℕ) (js : List I) → l < v.count → All InputOk js → seen v l js ≡ seen v l is → view v l text ≡ view v l (text_out v (multi m v js))
 
-  -- Where the plain machine's outputs at a level don't depend on what the level doesn't see, the level's own lines are those
-  -- of the plain machine on all the inputs.
+  -- Where the plain machine's outputs at a level don't depend on what the level doesn't see, the
+  -- level's own lines are those of the plain machine on all the inputs.
   abbrev pub IsPrecise : List I → List ℕ → Type 0
   IsPrecise is text = (l : ℕ) → l < v.count
       → at_level v l (joined (plain m is)) ≡ at_level v l (joined (plain m (seen v l is)))

@@ -1,7 +1,9 @@
--- Machines that take their inputs one after another, and the plain run of one over a list of inputs.
+-- Machines that take their inputs one after another, and the plain run of one over a list of
+-- inputs.
 use Rattle.std.specs.Prelude.{ℕ, ◌+◌, List, [], ◌∷◌, ◌++◌, flat_map}
 
--- What handling one input gives: the outputs in order, the state after it, and how many turns it took.
+-- What handling one input gives: the outputs in order, the state after it, and how many turns it
+-- took.
 pub record Handled (O S : Type 0) : Type 0 where
   pub outputs : List O
   pub after : S

@@ -1,4 +1,5 @@
--- The work of shared copies: copies that have seen the same of each input so far are one, and their turns are made once.
+-- The work of shared copies: copies that have seen the same of each input so far are one, and their
+-- turns are made once.
 use Rattle.std.specs.Prelude.{ℕ, Bool, cond, not, List, [], ◌∷◌, ◌++◌, sum, sum_by}
 use Rattle.std.specs.List.{list_all}
 use Rattle.std.specs.Option.{option_eq}
@@ -7,7 +8,8 @@ use Rattle.ff_reactive.specs.Copies.{Levels, below, seen}
 use Rattle.ff_reactive.specs.Loops.{handle_seen}
 
 module _ {I O S : Type 0} (m : Machine I O S) (v : Levels I O) (same : I → I → Bool) where
-  -- Whether two levels see the same of each of the inputs, where `same` tells which inputs are equal.
+  -- Whether two levels see the same of each of the inputs, where `same` tells which inputs are
+  -- equal.
   abbrev pub see_alike : ℕ → ℕ → List I → Bool
   see_alike k l is = list_all (λ i. option_eq same (v.sees k i) (v.sees l i)) is
 
@@ -15,7 +17,8 @@ module _ {I O S : Type 0} (m : Machine I O S) (v : Levels I O) (same : I → I �
   abbrev pub is_least : ℕ → List I → Bool
   is_least l is = list_all (λ k. not (see_alike k l is)) (below l)
 
-  -- The turns in which the level's copy handles the input i after the inputs `before`: none where the level doesn't see i.
+  -- The turns in which the level's copy handles the input i after the inputs `before`: none where
+  -- the level doesn't see i.
   abbrev pub copy_turns : ℕ → List I → I → ℕ
   copy_turns l before i = (handle_seen m (after m (seen v l before)) (v.sees l i)).turns
 

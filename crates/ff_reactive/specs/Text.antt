@@ -1,14 +1,17 @@
--- The text of outputs, its lines, and the lines that belong to a level or to the levels at or below it.
+-- The text of outputs, its lines, and the lines that belong to a level or to the levels at or below
+-- it.
 use Rattle.std.specs.Prelude.{◌≡◌, ℕ, Bool, cond, ◌==◌, ◌&&◌, ◌||◌, List, [], ◌∷◌, ◌++◌, filter, flat_map, bytes_eq}
 use Rattle.std.specs.List.{list_any, onto_first}
 use Rattle.ff_reactive.specs.Runs.{joined}
 use Rattle.ff_reactive.specs.Copies.{Levels, below}
 
--- One more byte before the lines of a text: a newline (10) is a line by itself, and any other byte goes onto the first line.
+-- One more byte before the lines of a text: a newline (10) is a line by itself, and any other byte
+-- goes onto the first line.
 abbrev pub onto_lines : ℕ → List (List ℕ) → List (List ℕ)
 onto_lines b more = cond (b == 10) ((b ∷ []) ∷ more) (onto_first b more)
 
--- The lines of a text, each with the newline that ends it. Bytes after the last newline are a line too.
+-- The lines of a text, each with the newline that ends it. Bytes after the last newline are a line
+-- too.
 abbrev pub lines : List ℕ → List (List ℕ)
 lines [] = []
 lines (b ∷ bs) = onto_lines b (lines bs)

@@ -1,4 +1,5 @@
--- What a reader answers is what the rules of spelling and of faults say, and well spelled where the item is.
+-- What a reader answers is what the rules of spelling and of faults say, and well spelled where the
+-- item is.
 use Rattle.std.proofs.Common.{◌≡◌, ◌⊎◌, Result, Ok, Err, IfOk, IfErr, inl, inr, subst}
 use Rattle.ff_tree.specs.Spelled.{IsWellSpelledDoc, IsWellSpelledExpr}
 use Rattle.ff_tree.specs.declared.tree.Doc.{Doc}

@@ -9,7 +9,8 @@ ghost use Rattle.ff_forms.specs.Grammar.{Sort, reading, doc_in, expr_in, resp_in
 ghost use Rattle.ff_forms.specs.Spellings.{SpellsDoc, SpellsExpr, SpellsResp};
 ghost use Rattle.ff_forms.specs.declared.fault.SyntaxFault.{SyntaxFault};
 
-/// An item is read exactly where a rule of the forms spells it, and as the value that the rule spells.
+/// An item is read exactly where a rule of the forms spells it, and as the value that the rule
+/// spells.
 pub fn what_is_spelled_is_read()
     ensures docs { (item : Sexp) (doc : Doc) → (doc_in item ≡ Ok doc) ↔ SpellsDoc item doc }
     ensures exprs { (item : Sexp) (expr : Expr) → (expr_in item ≡ Ok expr) ↔ SpellsExpr item expr }

@@ -1,4 +1,5 @@
-//! What stands in forms beside documents and expressions: names, addresses, texts, parameters and cookie entries.
+//! What stands in forms beside documents and expressions: names, addresses, texts, parameters and
+//! cookie entries.
 ghost use Rattle.std.specs.Prelude.{◌≡◌, [], map};
 ghost use Rattle.std.specs.List.{list_any};
 ghost use Rattle.std.specs.Str.{bytes_eq};

@@ -1,5 +1,5 @@
-//! Documents, expressions and responses, read from items: a list for its head, then its count, then its parts from left to
-//! right, each whole before the next.
+//! Documents, expressions and responses, read from items: a list for its head, then its count, then
+//! its parts from left to right, each whole before the next.
 ghost use Rattle.std.specs.Prelude.{map};
 ghost use Rattle.ff_forms.specs.Grammar.{Gives, reading, a_handler, an_expression, a_document, a_response, list_as, each_as, form_as, handler_as, handler_form, doc_form, expr_form, resp_form};
 ghost use Rattle.ff_forms.specs.Heads.{doc_word, expr_word, resp_word, doc_heads, expr_heads, resp_heads};

@@ -10,7 +10,8 @@ use Rattle.ff_policy.specs.Assignment.{Assignment, level_in, level_out}
 abbrev pub IsTagged : Order → Input → Type 0
 IsTagged order input = IsTag order input.tag
 
--- what a level sees of an input: all of it, the tag too, where its level is at or below that level, and nothing elsewhere
+-- what a level sees of an input: all of it, the tag too, where its level is at or below that level,
+-- and nothing elsewhere
 unfoldable pub sees : Assignment → ℕ → Input → Option Input
 sees policy l input = cond (leq policy.order (level_in policy input) l) (Some input) None
 

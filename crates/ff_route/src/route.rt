@@ -10,8 +10,9 @@ use ff_policy::Policy;
 use ff_value::{Input, Offers, Out};
 use std::alloc::Global;
 
-/// What the level sees of an input: the input, its tag too, where the input's level is at or below that level, and else
-/// nothing. Its one refusal is a count of owners that is full, where the input is seen.
+/// What the level sees of an input: the input, its tag too, where the input's level is at or below
+/// that level, and else nothing. Its one refusal is a count of owners that is full, where the input
+/// is seen.
 #[tactic(auto, unfolding(crate::specs::Route::sees))]
 pub fn sees(policy: &Policy, l: Level, input: &Input) -> Result<Option<Input>, NoMemory>
     requires level { l.0 < size policy.now.order }

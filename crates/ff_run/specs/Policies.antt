@@ -27,7 +27,8 @@ pub record NamesFault (shelf : ShelfTold) (name : List ℕ) (fault : PolicyFault
 abbrev pub IsKnown : ShelfTold → List ℕ → Type 0
 IsKnown shelf name = (name ≡ dash) ⊎ ((files : Files) × (shelf.files ≡ Some files))
 
--- This holds under the policy of this name; where it is known what the name stands for, no other has it.
+-- This holds under the policy of this name; where it is known what the name stands for, no other
+-- has it.
 pub record Under (shelf : ShelfTold) (name : List ℕ) (holds : Assignment → Type 0) : Type 0 where
   pub policy : Assignment
   pub named : NamesPolicy shelf name policy
@@ -39,7 +40,8 @@ pub record Under (shelf : ShelfTold) (name : List ℕ) (holds : Assignment → T
 abbrev pub FetchFailed : List ℕ → ShelfTold → ShelfTold → Type 0
 FetchFailed name before now = Rose (before.faults name) (now.faults name)
 
--- why there is no policy of this name: a fetch of its file failed, the file is none, or there is no memory
+-- why there is no policy of this name: a fetch of its file failed, the file is none, or there is no
+-- memory
 pub data Refuses (before now : ShelfTold) (name : List ℕ) : Status → Type 0 where
   no_file : name ≢ dash → FetchFailed name before now → Refuses before now name ShelfFault
   no_policy : (fault : PolicyFault) → NamesFault before name fault → Refuses before now name (Policy fault)

@@ -32,7 +32,8 @@ pub record IsUntouched (before now : Told) (turns_before turns_now : ℕ) : Type
   pub port : now ≡ before
   pub turns : turns_now ≡ turns_before
 
--- What a command under the policy of this name does, by the status: nothing before the policy is accepted.
+-- What a command under the policy of this name does, by the status: nothing before the policy is
+-- accepted.
 abbrev pub Obeys : Command → List ℕ → ShelfTold → ShelfTold → Told → Told → ℕ → ℕ → Status → Type 0
 Obeys command name shelf shelf_now before now turns_before turns_now Usage = ⊥
 -- the file of this name is no policy
@@ -43,7 +44,8 @@ Obeys command name shelf shelf_now before now turns_before turns_now ShelfFault 
 Obeys command name shelf shelf_now before now turns_before turns_now NoMemory = IsUntouched before now turns_before turns_now ⊎ Under shelf name (λ p. Performs command p before now turns_before turns_now NoMemory)
 Obeys command name shelf shelf_now before now turns_before turns_now status = Under shelf name (λ p. Performs command p before now turns_before turns_now status)
 
--- under the policy of this name, this claim holds of the inputs that the bytes got give a multi-executed run, and of the bytes put
+-- under the policy of this name, this claim holds of the inputs that the bytes got give a
+-- multi-executed run, and of the bytes put
 abbrev pub ClaimsUnder : ShelfTold → List ℕ → Told → Told → (Assignment → List Input → List ℕ → Type 0) → Type 0
 ClaimsUnder shelf name before now claim = Under shelf name (λ p. Claims Multi p before now (claim p))
 

@@ -22,7 +22,8 @@ pub(crate) fn check<P: Port>(alloc: Global, lattice: &Lattice, port: &mut P) -> 
     }
 }
 
-/// The text for a policy alone: a line for each level in order, with the names of the levels that it sees.
+/// The text for a policy alone: a line for each level in order, with the names of the levels that
+/// it sees.
 #[tactic(auto, using(crate::proofs::Checking::lines_start, crate::proofs::Checking::lines_more, crate::proofs::Checking::lines_done))]
 fn levels_seen(alloc: Global, lattice: &Lattice) -> Result<Vec<u8>, AllocError>
     ensures { IfOk result (λ text. text.items ≡ check_text lattice.now) }

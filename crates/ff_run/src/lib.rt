@@ -1,6 +1,7 @@
-//! The top call: `run` obeys a command. It reads a trace from a port and multi-executes it with one copy of the browser for
-//! each level (secure multi-execution: Devriese and Piessens 2010; in the form for reactive machines: Bielova and others
-//! 2011), runs one browser over it, or formats it; or it writes what the levels of a policy see.
+//! The top call: `run` obeys a command. It reads a trace from a port and multi-executes it with one
+//! copy of the browser for each level (secure multi-execution: Devriese and Piessens 2010; in the
+//! form for reactive machines: Bielova and others 2011), runs one browser over it, or formats it;
+//! or it writes what the levels of a policy see.
 #![tactic(auto)]
 
 mod check;

@@ -13,8 +13,8 @@ use std::alloc::Global;
 /// How many bytes of a policy's file count: one more than a policy may have.
 const MOST_FETCHED: usize = MOST_POLICY_BYTES + 1;
 
-/// The policy of this name: the built-in one where it is `-`, and else that of the file on the shelf. The shelf isn't called
-/// for `-`.
+/// The policy of this name: the built-in one where it is `-`, and else that of the file on the
+/// shelf. The shelf isn't called for `-`.
 ///
 /// # Errors
 ///

@@ -25,14 +25,17 @@ use std::sync::ledger::Ledger;
 
 /// Obeys the command that the words are.
 ///
-/// `multi POLICY` multi-executes the trace that the port gives, with one copy of the browser for each level, and writes the
-/// lines that are let out. `plain POLICY` runs one browser over it, and writes all its lines. `fmt POLICY` writes each input of
-/// it in its canonical form. These three write the text of the lines that were got before they read further. `check POLICY`
-/// reads no trace, and writes for each level which levels it sees. POLICY is the name of a file on the shelf, of which the
-/// first 65,537 bytes count, or `-` for the built-in policy. Every other list of words is `Usage`.
+/// `multi POLICY` multi-executes the trace that the port gives, with one copy of the browser for
+/// each level, and writes the lines that are let out. `plain POLICY` runs one browser over it, and
+/// writes all its lines. `fmt POLICY` writes each input of it in its canonical form. These three
+/// write the text of the lines that were got before they read further. `check POLICY` reads no
+/// trace, and writes for each level which levels it sees. POLICY is the name of a file on the
+/// shelf, of which the first 65,537 bytes count, or `-` for the built-in policy. Every other list
+/// of words is `Usage`.
 ///
-/// `words` doesn't hold the program's name. Each status but `Done` puts its one line on the error sink; a fault of that sink
-/// changes no status. `turns` counts the turns of all browsers. `copies` counts nothing yet: no copy shares anything.
+/// `words` doesn't hold the program's name. Each status but `Done` puts its one line on the error
+/// sink; a fault of that sink changes no status. `turns` counts the turns of all browsers. `copies`
+/// counts nothing yet: no copy shares anything.
 pub fn run<S: Shelf, P: Port, E: Sink, C: Ledger, L: Ledger>(
     alloc: Global,
     words: &[String],
@@ -42,11 +45,13 @@ pub fn run<S: Shelf, P: Port, E: Sink, C: Ledger, L: Ledger>(
     copies: &mut Steps<C>,
     turns: &mut Steps<L>,
 ) -> Status
-    // By the command and the status: what was put, promptly, for what was got, in how many turns, and why.
+    // By the command and the status: what was put, promptly, for what was got, in how many turns,
+    // and why.
     ensures obeys { (command : Command) (name : List ℕ) → Asks words.now command name
         → Obeys command name (S.told shelf.old) (S.told shelf.new) (P.told port.old) (P.told port.new) turns.old turns.new result }
 
-    // The headline of `multi`: each level's lines, the view of each level, and where precision holds, for every policy.
+    // The headline of `multi`: each level's lines, the view of each level, and where precision
+    // holds, for every policy.
     ensures projected { (name : List ℕ) → Asks words.now multi name → IsAnswered result
         → ClaimsUnder (S.told shelf.old) name (P.told port.old) (P.told port.new) (λ p is put. IsProjection machine (levels p) is put) }
     ensures secure { (name : List ℕ) → Asks words.now multi name → IsAnswered result

@@ -28,7 +28,8 @@ impl Command {
     }
 }
 
-/// The command that the words ask for and the name of its policy, or `None` where they are no command.
+/// The command that the words ask for and the name of its policy, or `None` where they are no
+/// command.
 pub(crate) fn command_of(words: &[String]) -> Option<(Command, &str)>
     ensures { MatchOption result (¬ AreCommand words.now) (λ asked. Asks words.now asked.0 asked.1.now) }
 {

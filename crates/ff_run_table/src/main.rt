@@ -1,6 +1,6 @@
-//! Prints how the top call ends over a port, a shelf and a sink in memory: the commands, bad words, bad policies, and
-//! a trace of four lines of which each read and each write fails once. The stored output holds what each run got,
-//! put and reported.
+//! Prints how the top call ends over a port, a shelf and a sink in memory: the commands, bad words,
+//! bad policies, and a trace of four lines of which each read and each write fails once. The stored
+//! output holds what each run got, put and reported.
 #![tactic(auto)]
 
 ghost use Rattle.std.specs.Prelude.{◌≡◌, ◌<◌};
@@ -166,7 +166,8 @@ fn show_refusals(rt: &HostRuntime) -> io::Result<()> {
 /// Four lines.
 const FOUR: &[u8] = b"open about:blank\n# none\n@H open about:blank\nopen http://a.com/x";
 
-/// A port that gives the four lines and takes their text byte by byte, and fails at the reads and writes with these numbers.
+/// A port that gives the four lines and takes their text byte by byte, and fails at the reads and
+/// writes with these numbers.
 fn four(alloc: Global, bad_reads: &[u64], bad_writes: &[u64]) -> Result<MemPort, AllocError> {
     let mut pieces = Vec::new(alloc);
     for byte in FOUR {

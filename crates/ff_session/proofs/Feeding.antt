@@ -44,7 +44,8 @@ turns_grow p is i l (suc n) low = from (cases_eq l (suc n)) (λ lower. turns_gro
     from (inl e) rest = let same = ap (turns_below p is i) e in omega arith
     from (inr differ) rest = let sum = turns_suc p is i n in let low_rest = rest (omega arith) in omega arith
 
--- Where the loop over the levels stands: copies that had handled some inputs have handled one more at the levels below l.
+-- Where the loop over the levels stands: copies that had handled some inputs have handled one more
+-- at the levels below l.
 pub record IsFeedingAt (p : Assignment) (text : List ℕ) (turns : ℕ) (i : Input) (states_now : List State) (text_now : List ℕ) (turns_now l : ℕ) (is : List Input) : Type 0 where
   pub copies : AreCopies machine (levels p) states_now is l (is ++ i ∷ [])
   pub text_is : text_now ≡ text ++ text_of (levels p) (entry_below machine (levels p) is i l)

@@ -33,13 +33,15 @@ turns_below p is i n = sum_by (turns_at p is i) (below n)
 abbrev pub copies_turns : Assignment → List Input → Input → ℕ
 copies_turns p is i = turns_below p is i (size p.order)
 
--- There is a copy for each level, which has taken what the level sees of these inputs, and takes the next one.
+-- There is a copy for each level, which has taken what the level sees of these inputs, and takes
+-- the next one.
 pub record AreCopiesAt (p : Assignment) (states : List State) (is : List Input) : Type 0 where
   pub count : length states ≡ size p.order
   pub quiet : All IsQuiet states
   pub copies : AreCopies machine (levels p) states is 0 is
 
--- The copies, which had taken some inputs, took one more: its text was appended, and its turns were counted.
+-- The copies, which had taken some inputs, took one more: its text was appended, and its turns were
+-- counted.
 pub record IsFedAt (p : Assignment) (text : List ℕ) (turns : ℕ) (i : Input) (states_now : List State) (text_now : List ℕ) (turns_now : ℕ) (is : List Input) : Type 0 where
   pub at : AreCopiesAt p states_now (is ++ i ∷ [])
   pub text_is : text_now ≡ text ++ copies_entry p is i

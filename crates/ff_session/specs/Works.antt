@@ -55,7 +55,8 @@ entry_turns Multi p = copies_turns p
 entry_turns Plain p = plain_turns
 entry_turns Format p = no_turns
 
--- these bytes of a trace, of which `ended` says whether they are all, give these inputs up to the first bad line
+-- these bytes of a trace, of which `ended` says whether they are all, give these inputs up to the
+-- first bad line
 abbrev pub IsTraceFor : Work → Assignment → Bool → List ℕ → List Input → Option (BadLine TraceFault) → Type 0
 IsTraceFor work p ended bytes is bad = IsTrace (Gives (built_only work) p.order) ended bytes is bad
 
@@ -77,7 +78,8 @@ status_as end.ReadFault = ReadFault
 status_as end.WriteFault = WriteFault
 status_as end.NoMemory = NoMemory
 
--- The text for the inputs of the bytes got, up to the first bad line, was put, all of it, and exactly its turns were made.
+-- The text for the inputs of the bytes got, up to the first bad line, was put, all of it, and
+-- exactly its turns were made.
 pub record IsOwed (work : Work) (p : Assignment) (pieces : List Piece) (bad : Option (BadLine TraceFault)) (turns_before turns_now : ℕ) : Type 0 where
   pub inputs : List Input
   pub read : AreInputsGot work p pieces inputs bad
@@ -118,7 +120,8 @@ pub record IsWithoutFault (status : Status) : Type 0 where
 pub record Exchanged (work : Work) (p : Assignment) (before now : Told) (turns_before turns_now : ℕ) (status : Status) : Type 0 where
   pub pieces : List Piece
   pub passed : Passes before now pieces
-  -- before each read, the end wasn't seen, the bytes got have no bad line, and the text owed for them was put
+  -- before each read, the end wasn't seen, the bytes got have no bad line, and the text owed for
+  -- them was put
   pub prompt : Prompt (Gives (built_only work) p.order) (entry_for work p) pieces
   pub written : IsWritten work p status pieces turns_before turns_now
   -- the count of turns never falls, and formatting makes none

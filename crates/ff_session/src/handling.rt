@@ -7,7 +7,8 @@ use ff_value::{Input, Out};
 use std::alloc::{AllocError, Global};
 use std::sync::ledger::Ledger;
 
-/// Lets a quiet browser take an input and make its turns until it is quiet again: the outputs in their order.
+/// Lets a quiet browser take an input and make its turns until it is quiet again: the outputs in
+/// their order.
 #[tactic(auto, using(crate::proofs::Turning::one_turn, crate::proofs::Turning::some_turns))]
 pub(crate) fn handle<L: Ledger>(
     alloc: Global,

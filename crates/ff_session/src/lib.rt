@@ -1,5 +1,5 @@
-//! What the commands make of the lines of a trace: the reader of inputs, what takes the inputs for each command, and `walk`,
-//! which does a command's work over a port line by line.
+//! What the commands make of the lines of a trace: the reader of inputs, what takes the inputs for
+//! each command, and `walk`, which does a command's work over a port line by line.
 #![tactic(auto)]
 
 mod format;

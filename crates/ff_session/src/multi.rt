@@ -62,7 +62,8 @@ impl Taker for Copies<'_> {
     }
 }
 
-/// Gives an input to each copy whose level sees it, and appends the lines that the copies let out, level by level.
+/// Gives an input to each copy whose level sees it, and appends the lines that the copies let out,
+/// level by level.
 #[tactic(auto, using(crate::proofs::Feeding::turns_within))]
 fn feed<L: Ledger>(
     alloc: Global,
@@ -86,7 +87,8 @@ fn feed<L: Ledger>(
     Ok(())
 }
 
-/// Gives an input to the copy at a level, if the level sees it, and appends the lines that the copy lets out.
+/// Gives an input to the copy at a level, if the level sees it, and appends the lines that the copy
+/// lets out.
 #[tactic(auto, using(crate::proofs::Feeding::text_unseen, ff_levels::proofs::Inputs::seen_built))]
 fn feed_level<L: Ledger>(
     alloc: Global,

@@ -33,7 +33,8 @@ fn pieces_of(alloc: Global, texts: &[&str]) -> Result<Vec<Vec<u8>>, AllocError> 
     Ok(pieces)
 }
 
-/// Does the work over these pieces, where the reads with these numbers fail: the number that it ends with, and what was put.
+/// Does the work over these pieces, where the reads with these numbers fail: the number that it
+/// ends with, and what was put.
 fn ends(
     alloc: Global,
     work: Work,

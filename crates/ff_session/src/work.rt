@@ -28,8 +28,8 @@ pub enum Work {
     Format,
 }
 
-/// Does the work over the trace that the port gives, line by line: before the port is read again, the whole text of the lines
-/// that were got is written. `turns` counts the turns of all browsers.
+/// Does the work over the trace that the port gives, line by line: before the port is read again,
+/// the whole text of the lines that were got is written. `turns` counts the turns of all browsers.
 pub fn walk<P: Port, L: Ledger>(
     alloc: Global,
     work: Work,

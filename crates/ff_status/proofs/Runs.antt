@@ -1,4 +1,5 @@
--- The value of a string, put in runs of bytes that stand for themselves, with the escapes between them.
+-- The value of a string, put in runs of bytes that stand for themselves, with the escapes between
+-- them.
 use Rattle.std.proofs.Common.{◌≡◌, ◌<◌, ◌+◌, ℕ, List, [], ◌∷◌, ◌++◌, Option, length, take, drop, get_or, refl, sym, ap, ◌∙◌, subst, arith, append_assoc, append-nil, flat_map}
 use Rattle.std.proofs.lemmas.List.{take_more, take-append-drop}
 use Rattle.std.proofs.lemmas.List.Concat.{flat_map-append}

@@ -93,8 +93,8 @@ fn put_string<E: Sink>(text: &[u8], err: &mut E) -> Result<(), Failed>
     put(b"\"", err)
 }
 
-/// Puts what stands for a string's value between its marks. Each longest run of bytes that stand for themselves is one
-/// piece, so that no character of a text is cut.
+/// Puts what stands for a string's value between its marks. Each longest run of bytes that stand
+/// for themselves is one piece, so that no character of a text is cut.
 fn put_value<E: Sink>(text: &[u8], err: &mut E) -> Result<(), Failed>
     requires { IsUtf8 text.now }
     ensures ok { OnOk result (Puts (E.put err.old) (E.put err.new) (E.faults err.old) (E.faults err.new) (flat_map spelled_byte text.now)) }
@@ -108,8 +108,8 @@ fn put_value<E: Sink>(text: &[u8], err: &mut E) -> Result<(), Failed>
     Ok(())
 }
 
-/// Puts the bytes at the front that stand for themselves, as one piece, and what stands for the byte after them, if there
-/// is one. Answers how many bytes of the value were put.
+/// Puts the bytes at the front that stand for themselves, as one piece, and what stands for the
+/// byte after them, if there is one. Answers how many bytes of the value were put.
 fn put_run<E: Sink>(text: &[u8], err: &mut E) -> Result<usize, Failed>
     requires { IsUtf8 text.now }
     ensures ok { IfOk result (λ n. Puts (E.put err.old) (E.put err.new) (E.faults err.old) (E.faults err.new) (flat_map spelled_byte (take n text.now))) }

@@ -29,7 +29,8 @@ pub enum Status {
     Usage,
     /// The bytes are no policy, and hold this fault.
     Policy(PolicyFault),
-    /// The line with this number, from 1, is the first bad one. The text of the lines before it was written.
+    /// The line with this number, from 1, is the first bad one. The text of the lines before it was
+    /// written.
     Trace(u64, TraceFault),
     /// A read failed.
     ReadFault,
@@ -58,8 +59,9 @@ impl Drop for Status {
 }
 
 impl Status {
-    /// The exit status: 0 for `Done`, 2 for `Usage`, 3 for `Policy`, 4 for `Trace`, 5 for `ReadFault`, 6 for `WriteFault`, 7
-    /// for `ShelfFault` and 8 for `NoMemory`. The number 1 is kept for a status that isn't built yet.
+    /// The exit status: 0 for `Done`, 2 for `Usage`, 3 for `Policy`, 4 for `Trace`, 5 for
+    /// `ReadFault`, 6 for `WriteFault`, 7 for `ShelfFault` and 8 for `NoMemory`. The number 1 is
+    /// kept for a status that isn't built yet.
     pub fn number(&self) -> u8
         ensures { result ≡ number_of self.now }
     {
@@ -75,8 +77,9 @@ impl Status {
         }
     }
 
-    /// Puts the line of the status to the error stream: nothing for `Done`. It takes no memory. After a failed write it
-    /// stops, and what was put is a front of the line; the failure itself is counted by the stream and answered nowhere.
+    /// Puts the line of the status to the error stream: nothing for `Done`. It takes no memory.
+    /// After a failed write it stops, and what was put is a front of the line; the failure itself
+    /// is counted by the stream and answered nowhere.
     #[tactic(auto, using(crate::proofs::Sending::reported))]
     pub fn report<E: Sink>(&self, err: &mut E)
         ensures line { Reported (E.put err.old) (E.put err.new) (E.faults err.old) (E.faults err.new) (error_line self.now) }

@@ -27,7 +27,8 @@ fn a_status_has_a_number_and_a_line(rt: HostRuntime) {
     }
 }
 
-/// How many bytes of the line are put where the write with this number fails, or `None` where they are no front of it.
+/// How many bytes of the line are put where the write with this number fails, or `None` where they
+/// are no front of it.
 fn front_of(
     alloc: Global,
     bad: u64,

@@ -1,5 +1,5 @@
-//! Prints the exit status and the error line of each way in which a run may end. The stored output holds the words of every
-//! fault.
+//! Prints the exit status and the error line of each way in which a run may end. The stored output
+//! holds the words of every fault.
 #![tactic(auto)]
 
 use ff_forms::SyntaxFault;

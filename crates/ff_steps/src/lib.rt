@@ -1,15 +1,16 @@
 //! A counter of steps that costs nothing when the program runs.
 //!
-//! A [`Steps`] is a natural number that only proofs see: a clause reads `steps.new ≡ steps.old + 1`,
-//! and the compiled program holds no byte of it. It never overflows, and only [`Steps::tick`] moves it.
-//! A call that counts takes `&mut Steps<L>`, generic in the ledger `L`, and ticks where it does what is
-//! counted: `copies: &mut Steps<C>` counts copies of cells, `turns: &mut Steps<L>` counts turns.
+//! A [`Steps`] is a natural number that only proofs see: a clause reads
+//! `steps.new ≡ steps.old + 1`, and the compiled program holds no byte of it. It never overflows,
+//! and only [`Steps::tick`] moves it. A call that counts takes `&mut Steps<L>`, generic in the
+//! ledger `L`, and ticks where it does what is counted: `copies: &mut Steps<C>` counts copies of
+//! cells, `turns: &mut Steps<L>` counts turns.
 //!
 //! # Making one
 //!
-//! A counter is made from a `Blank` of the ledger `L` that its type names, so `Steps::new` stands in a
-//! function that is generic in `L`. `main` and tests call such a function at `std::marker::Brand`, and
-//! pick the ledger at that call in their own `Invariants.antt`:
+//! A counter is made from a `Blank` of the ledger `L` that its type names, so `Steps::new` stands
+//! in a function that is generic in `L`. `main` and tests call such a function at
+//! `std::marker::Brand`, and pick the ledger at that call in their own `Invariants.antt`:
 //!
 //! ```text
 //! fn count_two<L: Ledger>(blank: Blank)
@@ -30,9 +31,9 @@
 //! ghosts-count_two a = record { name = a.blank.name; parts = a.blank.parts }
 //! ```
 //!
-//! A caller that is generic, as `main` and a test are in their runtime, writes `ghosts-count_two g a`.
-//! Where the function has two ledgers `C` and `L`, the picks are `ghosts-count_two-C-Ledger` and
-//! `ghosts-count_two-L-Ledger`.
+//! A caller that is generic, as `main` and a test are in their runtime, writes
+//! `ghosts-count_two g a`. Where the function has two ledgers `C` and `L`, the picks are
+//! `ghosts-count_two-C-Ledger` and `ghosts-count_two-L-Ledger`.
 #![tactic(auto)]
 
 ghost use Rattle.std.specs.Prelude.{◌≡◌, ◌+◌, ◌<◌};

@@ -207,7 +207,8 @@ module _ {X F : Type 0} {Gives : List ℕ → Result (Option X) F → Type 0} (o
         ended : (e : declared.End F) → e ≡ Done → IsStreamed Gives entry turns IsAt e (got_of streams.pieces) (put_of streams.pieces) (has_end streams.pieces) turns_before turns_now → has_end streams.pieces ≡ true
         ended e is held = (subst (λ f. IsStreamed Gives entry turns IsAt f (got_of streams.pieces) (put_of streams.pieces) (has_end streams.pieces) turns_before turns_now) is held).0
 
-    -- after want of memory, and after a write that failed, a front of what is owed for any reading of the bytes got was put
+    -- after want of memory, and after a write that failed, a front of what is owed for any reading
+    -- of the bytes got was put
     pub part_put : (IsPart : List ℕ → List ℕ → Type 0) → ((front whole more : List ℕ) → IsPart front whole → IsPart front (whole ++ more)) → (got put : List ℕ) (ended : Bool) → OwesMore Gives entry turns got put ended IsPart turns_before turns_now
         → (all : List X) (bad : Option (BadLine F)) → IsTrace Gives ended got all bad → IsPart put (text_of entry all) × (turns_now ≤ turns_before + turns_of turns all)
     part_put IsPart grows got put ended owes all bad reads =

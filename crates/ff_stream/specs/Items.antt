@@ -16,8 +16,8 @@ use Rattle.ff_stream.specs.declared.end.Fault.TheVariants as fault
 abbrev pub read_lines : LinesState → List Piece → LinesState
 read_lines lines pieces = record { held = lines.held ++ got_of pieces; given = lines.given; ended = lines.ended || has_end pieces; failed = false }
 
--- What the next of these lines, which has this number, gives; or how going through the trace ends with
--- what is held: nothing, an unfinished line or a bad one.
+-- What the next of these lines, which has this number, gives; or how going through the trace ends
+-- with what is held: nothing, an unfinished line or a bad one.
 abbrev pub IsItem : {X F : Type 0} → (List ℕ → Result (Option X) F → Type 0) → ℕ → LinesState → LinesState
     → Result (Option X) (End F) → Type 0
 IsItem Gives number lines now (Ok item) = (line : List ℕ) × IsGiven lines.given lines.held lines.ended line now × Gives line (Ok item)

@@ -5,8 +5,8 @@
 pub enum Fault<F> {
     /// It has more than [`MOST_LINE_BYTES`](ff_io::MOST_LINE_BYTES) bytes, without its newline.
     TooLong,
-    /// It has a byte that comes after the first [`MOST_TRACE_BYTES`](ff_io::MOST_TRACE_BYTES) of the
-    /// trace. Where one byte gives both faults, this is the fault.
+    /// It has a byte that comes after the first [`MOST_TRACE_BYTES`](ff_io::MOST_TRACE_BYTES) of
+    /// the trace. Where one byte gives both faults, this is the fault.
     TooMuch,
     /// Its size is right, and its reader refuses it.
     Line(F),

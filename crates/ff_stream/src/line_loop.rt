@@ -14,10 +14,10 @@ use ff_steps::Steps;
 use std::alloc::Global;
 use std::sync::ledger::Ledger;
 
-/// Goes through the trace that a port gives, line by line: gives the item of each line to a taker, and
-/// writes the taker's text. Before the port is read again, each whole line that was got was taken, and
-/// all of its text was written. It stops at the first bad line, and where a read, a write or memory
-/// fails; what the earlier lines gave stays taken and written.
+/// Goes through the trace that a port gives, line by line: gives the item of each line to a taker,
+/// and writes the taker's text. Before the port is read again, each whole line that was got was
+/// taken, and all of its text was written. It stops at the first bad line, and where a read, a
+/// write or memory fails; what the earlier lines gave stays taken and written.
 ///
 /// It holds the bytes of one line and of one read, and the text of one item.
 pub fn stream<R: Reader, T: Taker<Item = R::Item>, P: Port, L: Ledger>(
@@ -55,8 +55,8 @@ pub fn stream<R: Reader, T: Taker<Item = R::Item>, P: Port, L: Ledger>(
     }
 }
 
-// Reads the next line and what it gives, and counts it: `number` becomes its number. An error is how
-// the trace ends here.
+// Reads the next line and what it gives, and counts it: `number` becomes its number. An error is
+// how the trace ends here.
 fn read_item<R: Reader, P: Port>(
     alloc: Global,
     reader: &R,

@@ -8,7 +8,8 @@ use std::marker::Brand;
 use std::sync::ledger::{Blank, Ledger};
 use std::test::Fail;
 
-/// Gives the first byte of each line of at most three bytes, and refuses a longer one by its length.
+/// Gives the first byte of each line of at most three bytes, and refuses a longer one by its
+/// length.
 #[derive(Clone, Copy)]
 struct Firsts;
 

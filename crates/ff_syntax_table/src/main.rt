@@ -1,7 +1,8 @@
 //! Reads an item on each line of its input and prints what it stands for again, or its first fault.
 //!
-//! A line is `doc`, `expr` or `resp`, a blank, and the item. What is printed for it is the canonical spelling of its value, or
-//! the words of the fault with the place of the item at fault, in bytes from 0 after that blank.
+//! A line is `doc`, `expr` or `resp`, a blank, and the item. What is printed for it is the
+//! canonical spelling of its value, or the words of the fault with the place of the item at fault,
+//! in bytes from 0 after that blank.
 #![tactic(auto)]
 
 use anyhow::{Context, Result, bail};

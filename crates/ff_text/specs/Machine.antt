@@ -155,8 +155,8 @@ advance [] r = r
 advance (b ∷ bytes) (Ok r) = advance bytes (step r b)
 advance (b ∷ bytes) (Err which) = Err which
 
--- what a call answered and left is what some bytes at the front give, or it met the fault of the bytes, unless memory
--- ran out
+-- what a call answered and left is what some bytes at the front give, or it met the fault of the
+-- bytes, unless memory ran out
 abbrev pub MakesSome : Result ℕ TextFault → (old new : Reader) → List ℕ → Type 0
 MakesSome (Ok n) old new left = (0 < n) × (n ≤ length left) × (advance (take n left) (Ok old) ≡ Ok new)
 MakesSome (Err which) old new left = (which ≡ fault.NoMemory) ⊎ (advance left (Ok old) ≡ Err which)

@@ -41,8 +41,9 @@ pub data Value : List ℕ → List ℕ → Type 0 where
   plain : (body value : List ℕ) (b : ℕ) → Value body value → IsPlain b → Value (body ++ b ∷ []) (value ++ b ∷ [])
   escaped : (body value escape : List ℕ) (b : ℕ) → Value body value → Escape escape b → Value (body ++ 92 ∷ escape) (value ++ b ∷ [])
 
--- Bytes that begin at one place, inside so many open lists, end before another place, and spell items with their
--- places. The last index says whether they end in a word: between two words stands a blank.
+-- Bytes that begin at one place, inside so many open lists, end before another place, and spell
+-- items with their places. The last index says whether they end in a word: between two words stands
+-- a blank.
 pub data Spells : (deep from to : ℕ) → List ℕ → List Sexp → Bool → Type 0 where
   nothing : (deep from : ℕ) → Spells deep from from [] [] false
   blank : (deep from to : ℕ) (bytes : List ℕ) (items : List Sexp) (ended : Bool) → Spells deep from to bytes items ended → Spells deep from (to + 1) (bytes ++ 32 ∷ []) items false

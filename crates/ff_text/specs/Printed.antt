@@ -11,7 +11,8 @@ use Rattle.ff_text.specs.declared.items.Sexp.TheOpen.{Sexp-F}
 use Rattle.ff_text.specs.declared.items.Sexp.TheFolds.{fold-Sexp}
 use Rattle.ff_name.specs.declared.limits.TheConstants.{MOST_DEPTH}
 
--- a byte of a string's value: four have short escapes, the other control bytes have `\x` and two digits
+-- a byte of a string's value: four have short escapes, the other control bytes have `\x` and two
+-- digits
 abbrev pub spelled_byte : ℕ → List ℕ
 spelled_byte b =
     if b == 34 then 92 ∷ 34 ∷ []
@@ -43,8 +44,8 @@ bare_step (Sexp-F.List at parts) = sexp.List (span 0 0) parts
 abbrev pub bare : Sexp → Sexp
 bare = fold-Sexp Sexp bare_step
 
--- whether an item that stands in so many lists is well spelled: its words are words, its strings are UTF-8, and its
--- lists nest no more than so deep
+-- whether an item that stands in so many lists is well spelled: its words are words, its strings
+-- are UTF-8, and its lists nest no more than so deep
 abbrev pub is_word : List ℕ → Bool
 is_word [] = false
 is_word (b ∷ bytes) = list_all is_word_byte (b ∷ bytes)

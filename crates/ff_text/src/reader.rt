@@ -65,8 +65,8 @@ impl Reader {
         }
     }
 
-    /// Reads some bytes from the front: a word with the byte after it, a run of a string's plain bytes,
-    /// or else one byte. Answers how many.
+    /// Reads some bytes from the front: a word with the byte after it, a run of a string's plain
+    /// bytes, or else one byte. Answers how many.
     pub(crate) fn take_some(&mut self, alloc: Global, left: &[u8]) -> Result<usize, TextFault>
         requires some { 0 < length left.now }
         requires at { self.old.at + length left.now < 2 ^ 32 }

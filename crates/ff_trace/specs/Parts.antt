@@ -1,4 +1,5 @@
--- The parts of an input's line: numbers, addresses, domains, strings and responses, each of which is one item.
+-- The parts of an input's line: numbers, addresses, domains, strings and responses, each of which
+-- is one item.
 use Rattle.std.specs.Prelude.{ℕ, ◌^◌, ◌&&◌, if◌then◌else◌, nat_lt, Option, Some, None, Result, Ok, Err, List}
 use Rattle.std.specs.Str.{bytes_eq}
 use Rattle.std.specs.Str.Parse.{digits_value}

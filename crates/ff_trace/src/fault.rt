@@ -6,7 +6,8 @@ use ff_text::TextFault;
 use std::alloc::{AllocError, AllocFailed};
 use thiserror::Error;
 
-/// What is wrong with a line of a trace, in the order in which the faults come. Places are in bytes of the line, from 0.
+/// What is wrong with a line of a trace, in the order in which the faults come. Places are in bytes
+/// of the line, from 0.
 #[derive(Clone, Copy, Debug, PartialEq, Eq, Error)]
 pub enum LineFault {
     /// The line isn't a text of items.

@@ -33,8 +33,9 @@ pub fn what_is_spelled_is_a_part()
     ensures domains { (text domain : List ℕ) → (domain_of text ≡ Some domain) ↔ (IsDomain text × (domain ≡ text)) }
 {}
 
-/// The pairs that are printed are those that were given, each as often, in byte order of their keys.
-/// Those with the same key stay in the order that they had, and so do pairs that were in order.
+/// The pairs that are printed are those that were given, each as often, in byte order of their
+/// keys. Those with the same key stay in the order that they had, and so do pairs that were in
+/// order.
 pub fn pairs_are_put_in_order()
     ensures same { (pairs : List Pair) → IsPermutation pairs (in_key_order pairs) }
     ensures ordered { (pairs : List Pair) → IsSortedBy key_below (in_key_order pairs) }

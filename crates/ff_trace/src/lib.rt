@@ -1,4 +1,5 @@
-//! The lines of a trace, which are inputs, and the lines that the program writes, which are outputs.
+//! The lines of a trace, which are inputs, and the lines that the program writes, which are
+//! outputs.
 #![tactic(auto)]
 
 mod acts;

@@ -13,8 +13,8 @@ use ff_text::{Sexp, TextFault, read_items};
 use ff_value::Input;
 use std::alloc::Global;
 
-/// The input of a line of at most `ff_text::MOST_BYTES` bytes, without its newline. `None` for a line
-/// of blanks alone, and for a comment: a line whose first byte that isn't a blank is `#`. The
+/// The input of a line of at most `ff_text::MOST_BYTES` bytes, without its newline. `None` for a
+/// line of blanks alone, and for a comment: a line whose first byte that isn't a blank is `#`. The
 /// refusals, the first of which decides: the line isn't a text of items; its tag names no level of
 /// the lattice; no kind follows, or none of the seven; a wrong number of parts; a part that is no
 /// number below 2^32, no address or domain, no string or no response, the parts from left to right.

@@ -1,4 +1,5 @@
--- A document, an expression or a handler is spelled exactly where its first level is and its parts are spelled.
+-- A document, an expression or a handler is spelled exactly where its first level is and its parts
+-- are spelled.
 use Rattle.std.proofs.Common.{◌≡◌, ◌≤◌, ℕ, List, [], ◌∷◌, length, map, refl, sym, ap, ◌∙◌}
 use Rattle.std.proofs.lemmas.List.{length-map}
 use Rattle.std.specs.List.{AllByRecursion}

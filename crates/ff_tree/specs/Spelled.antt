@@ -87,7 +87,8 @@ abbrev pub most : List ℕ → ℕ
 most [] = 0
 most (n ∷ ns) = max n (most ns)
 
--- how deep the lists of a form nest, where those of its parts nest as deep as stands in their places
+-- how deep the lists of a form nest, where those of its parts nest as deep as stands in their
+-- places
 abbrev pub expr_nesting : Expr-F ℕ ℕ ℕ → ℕ
 expr_nesting (Expr-F.Lit l) = 0
 expr_nesting (Expr-F.Var x) = 0

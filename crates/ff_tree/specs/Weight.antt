@@ -1,4 +1,5 @@
--- What documents and expressions weigh: ITEM for each item of their notation, lists included, and the bytes of each string.
+-- What documents and expressions weigh: ITEM for each item of their notation, lists included, and
+-- the bytes of each string.
 use Rattle.std.specs.Prelude.{ℕ, ◌+◌, ◌*◌, ◌-◌, ◌^◌, min, List, length, sum}
 use Rattle.ff_tree.specs.declared.weigh.TheConstants.{ITEM}
 use Rattle.ff_tree.specs.declared.tree.Lit.{Lit}

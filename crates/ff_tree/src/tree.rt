@@ -87,7 +87,8 @@ pub enum Expr {
 }
 
 impl Expr {
-    /// An equal expression that shares its parts. Its one refusal is a count of owners that is full.
+    /// An equal expression that shares its parts. Its one refusal is a count of owners that is
+    /// full.
     pub fn copy(&self) -> Result<Expr, NoMemory>
         ensures { IfOk result (λ expr. expr ≡ self.now) }
     {

@@ -5,11 +5,12 @@ ghost use Rattle.ff_tree.specs.Weight as weight;
 use crate::tree::{Doc, Expr, Handler, Lit};
 use ff_name::Text;
 
-/// What each item of the notation weighs, a word, a string or a list, without the bytes of a string.
+/// What each item of the notation weighs, a word, a string or a list, without the bytes of a
+/// string.
 pub const ITEM: u64 = 16;
 
-/// What a document weighs: 16 for each item of its notation, and the bytes of each string; the greatest `u64` for any larger
-/// sum.
+/// What a document weighs: 16 for each item of its notation, and the bytes of each string; the
+/// greatest `u64` for any larger sum.
 #[cycle(weigh)]
 pub fn weight_doc(doc: &Doc) -> u64
     ensures { result ≡ capped (doc_weight doc.now) }

@@ -7,7 +7,8 @@ use std::alloc::Global;
 use std::cmp::{Eq, PartialEq};
 use std::marker::Model;
 
-/// What the user does or a server answers. A window's number is its position among the open windows, from 0.
+/// What the user does or a server answers. A window's number is its position among the open
+/// windows, from 0.
 #[derive(Debug)]
 pub enum Act {
     /// Opens a window at an address.

@@ -1,7 +1,7 @@
 //! The values that the browser's stores, scripts, inputs and outputs are made of.
 //!
-//! The texts, names and addresses of `ff_name` and the expressions and documents of `ff_tree` are exported again, so that
-//! a user of values names this crate alone.
+//! The texts, names and addresses of `ff_name` and the expressions and documents of `ff_tree` are
+//! exported again, so that a user of values names this crate alone.
 #![tactic(auto)]
 
 mod fault;

@@ -59,7 +59,8 @@ impl Drop for Resp {
 }
 
 impl Resp {
-    /// An equal response that shares its content. Its one refusal is a count of owners that is full.
+    /// An equal response that shares its content. Its one refusal is a count of owners that is
+    /// full.
     pub fn copy(&self) -> Result<Resp, NoMemory>
         ensures { IfOk result (λ resp. resp ≡ self.now) }
     {

@@ -5,8 +5,8 @@ ghost use Rattle.ff_value.specs.Weight.{cookie_weight, cookies_weight, resp_weig
 use crate::reply::{CookieOp, Resp};
 use ff_tree::{ITEM, string_weight, weight_docs, weight_expr};
 
-/// What a response weighs: 16 for each item of its notation, and the bytes of each string; the greatest `u64` for any larger
-/// sum.
+/// What a response weighs: 16 for each item of its notation, and the bytes of each string; the
+/// greatest `u64` for any larger sum.
 pub fn weight_resp(resp: &Resp) -> u64
     ensures { result ≡ capped (resp_weight resp.now) }
 {

@@ -1,6 +1,7 @@
-//! The program `ffox`: `multi POLICY`, `plain POLICY`, `check POLICY` and `fmt POLICY`, as `ff_run::run` says. A trace is read
-//! from standard input, what is written goes to standard output, what is wrong to standard error, and policies are files of
-//! the working folder. How it ended is its exit status, as `Status` says.
+//! The program `ffox`: `multi POLICY`, `plain POLICY`, `check POLICY` and `fmt POLICY`, as
+//! `ff_run::run` says. A trace is read from standard input, what is written goes to standard
+//! output, what is wrong to standard error, and policies are files of the working folder. How it
+//! ended is its exit status, as `Status` says.
 #![tactic(auto)]
 
 ghost use Rattle.std.specs.Prelude.{◌≡◌, ◌<◌};
@@ -25,7 +26,8 @@ fn main(rt: HostRuntime) -> ExitCode {
     ExitCode::from(status.number())
 }
 
-/// The words after the program's name. It fails where the runtime doesn't give them, or memory is refused.
+/// The words after the program's name. It fails where the runtime doesn't give them, or memory is
+/// refused.
 fn words<R: Env + AllocGlobal>(rt: &R) -> io::Result<Vec<String>> {
     let mut words = Vec::new(rt.alloc());
     for word in env::args(rt)?.skip(1) {
