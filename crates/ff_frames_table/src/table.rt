@@ -1,11 +1,8 @@
 //! The reductions of an expression, printed one by one.
 
-use crate::script::Script;
 use crate::spelling;
-use anyhow::{Result, bail};
-use ff_reading::read_expr;
-use ff_text::{MOST_BYTES, read};
-use ff_value::{Body, Shared};
+use anyhow::Result;
+use ff_script::{Script, read_body};
 use std::alloc::Global;
 
 /// After how many reductions the fork is made.
@@ -13,17 +10,6 @@ const FORKED_AFTER: u32 = 10;
 
 /// The most reductions that are printed.
 const MOST_PRINTED: u32 = 200;
-
-/// The expression of a line.
-pub fn read_body(alloc: Global, line: &str) -> Result<Body> {
-    let bytes = line.as_bytes();
-    if bytes.len() > MOST_BYTES {
-        bail!("a line is too long");
-    }
-    let item = read(alloc, bytes)?;
-    let expr = read_expr(alloc, &item)?;
-    Ok(Shared::new(alloc, expr)?)
-}
 
 /// Prints the expression of a line, its reductions and its value, and those of the fork.
 pub fn show<R: Print>(rt: &R, alloc: Global, line: &str) -> Result<()> {

@@ -90,7 +90,7 @@ pub(crate) fn check_order(
     requires up { AreRows (length up.now) up.now }
     requires ordered { AreOrdered up.now }
     requires down { AreTurned up.now down.now }
-    ensures ok { OnOk result (IsLattice (Related up.now) (length levels.now.keys)) }
+    ensures found { OnOk result (IsLattice (Related up.now) (length levels.now.keys)) }
     ensures fault { IfErr result (λ fault. fault ≢ LatticeFault.NoMemory → IsOrderFault levels.now.keys (Related up.now) fault) }
 {
     if let Some((a, b)) = first_cycle(up) {

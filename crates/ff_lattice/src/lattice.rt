@@ -74,7 +74,7 @@ impl Lattice {
         below: &[Pair],
     ) -> Result<Lattice, LatticeFault>
         requires { AreApart names.keys }
-        ensures ok { IfOk result (IsLatticeOf names.keys below.now) }
+        ensures found { IfOk result (IsLatticeOf names.keys below.now) }
         ensures fault { IfErr result (λ fault. fault ≢ LatticeFault.NoMemory → IsFault names.keys below.now fault) }
     {
         let mut up = given_rows(alloc, &names, below)?;

@@ -39,7 +39,7 @@ fn is_level_name(bytes: &[u8]) -> bool
 
 /// Tests how many names there are and how each is spelled.
 pub(crate) fn check_names(names: &[Text]) -> Result<(), LatticeFault>
-    ensures ok { OnOk result (AreNamed names.now) }
+    ensures found { OnOk result (AreNamed names.now) }
     ensures fault { IfErr result (λ fault. (below : List Pair) → IsFault names.now below fault) }
 {
     if names.is_empty() {
@@ -59,7 +59,7 @@ pub(crate) fn check_names(names: &[Text]) -> Result<(), LatticeFault>
 /// The names as a set in their order, where no name is repeated.
 pub(crate) fn distinct_names(alloc: Global, names: &[Text]) -> Result<IndexSet<Text>, LatticeFault>
     requires { AreNamed names.now }
-    ensures ok { IfOk result (λ levels. (levels.keys ≡ names.now) × AreApart names.now) }
+    ensures found { IfOk result (λ levels. (levels.keys ≡ names.now) × AreApart names.now) }
     ensures fault { IfErr result (λ fault. fault ≢ LatticeFault.NoMemory → (below : List Pair) → IsFault names.now below fault) }
 {
     let mut levels = IndexSet::new(alloc);
@@ -75,7 +75,7 @@ pub(crate) fn distinct_names(alloc: Global, names: &[Text]) -> Result<IndexSet<T
 /// The level of this name.
 pub(crate) fn level_named(levels: &IndexSet<Text>, name: &Text) -> Result<Level, LatticeFault>
     requires { length levels.now.keys < 256 }
-    ensures ok { IfOk result (λ l. (l.0 < length levels.now.keys) × (nth levels.now.keys l.0 ≡ name.now)) }
+    ensures found { IfOk result (λ l. (l.0 < length levels.now.keys) × (nth levels.now.keys l.0 ≡ name.now)) }
     ensures fault { IfErr result (λ fault. fault ≢ LatticeFault.NoMemory → (fault ≡ LatticeFault.Unknown name.now) × (¬ IsLevel levels.now.keys name.now)) }
 {
     match levels.get_index_of(name) {

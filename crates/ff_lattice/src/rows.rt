@@ -41,7 +41,7 @@ pub(crate) fn given_rows(
     below: &[Pair],
 ) -> Result<Vec<LevelSet>, LatticeFault>
     requires { AreApart levels.now.keys }
-    ensures ok { IfOk result (λ rows. HoldPairs (length below.now) levels.now.keys below.now rows.items) }
+    ensures found { IfOk result (λ rows. HoldPairs (length below.now) levels.now.keys below.now rows.items) }
     ensures fault { IfErr result (λ fault. fault ≢ LatticeFault.NoMemory → IsFault levels.now.keys below.now fault) }
 {
     let mut rows = equal_rows(alloc, levels.len() as u8)?;

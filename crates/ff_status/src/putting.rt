@@ -17,7 +17,7 @@ use ff_text::{Escaped, is_plain};
 /// `Failed` where a write failed; a front of the bytes was put before it.
 pub(crate) fn put<E: Sink>(bytes: &[u8], err: &mut E) -> Result<(), Failed>
     requires { IsUtf8 bytes.now }
-    ensures ok { OnOk result (Puts (E.put err.old) (E.put err.new) (E.faults err.old) (E.faults err.new) bytes.now) }
+    ensures done { OnOk result (Puts (E.put err.old) (E.put err.new) (E.faults err.old) (E.faults err.new) bytes.now) }
     ensures stopped { OnErr result (Stops (E.put err.old) (E.put err.new) (E.faults err.old) (E.faults err.new) bytes.now) }
     ensures none { length bytes.now ≡ 0 → err.new ≡ err.old }
 {
@@ -34,7 +34,7 @@ pub(crate) fn put<E: Sink>(bytes: &[u8], err: &mut E) -> Result<(), Failed>
 pub(crate) fn put_both<E: Sink>(words: &[u8], text: &[u8], err: &mut E) -> Result<(), Failed>
     requires words { IsUtf8 words.now }
     requires text { IsUtf8 text.now }
-    ensures ok { OnOk result (Puts (E.put err.old) (E.put err.new) (E.faults err.old) (E.faults err.new) (words.now ++ text.now)) }
+    ensures done { OnOk result (Puts (E.put err.old) (E.put err.new) (E.faults err.old) (E.faults err.new) (words.now ++ text.now)) }
     ensures stopped { OnErr result (Stops (E.put err.old) (E.put err.new) (E.faults err.old) (E.faults err.new) (words.now ++ text.now)) }
 {
     put(words, err)?;
@@ -44,7 +44,7 @@ pub(crate) fn put_both<E: Sink>(words: &[u8], text: &[u8], err: &mut E) -> Resul
 /// Puts words, and then a number in decimal.
 pub(crate) fn put_number<E: Sink>(words: &[u8], n: u64, err: &mut E) -> Result<(), Failed>
     requires { IsUtf8 words.now }
-    ensures ok { OnOk result (Puts (E.put err.old) (E.put err.new) (E.faults err.old) (E.faults err.new) (words.now ++ nat_text n)) }
+    ensures done { OnOk result (Puts (E.put err.old) (E.put err.new) (E.faults err.old) (E.faults err.new) (words.now ++ nat_text n)) }
     ensures stopped { OnErr result (Stops (E.put err.old) (E.put err.new) (E.faults err.old) (E.faults err.new) (words.now ++ nat_text n)) }
 {
     let digits = Digits::of(n);
@@ -62,7 +62,7 @@ pub(crate) fn put_pair<E: Sink>(
     requires words { IsUtf8 words.now }
     requires first { IsUtf8 first.now }
     requires second { IsUtf8 second.now }
-    ensures ok { OnOk result (Puts (E.put err.old) (E.put err.new) (E.faults err.old) (E.faults err.new) (words.now ++ paired first.now second.now)) }
+    ensures done { OnOk result (Puts (E.put err.old) (E.put err.new) (E.faults err.old) (E.faults err.new) (words.now ++ paired first.now second.now)) }
     ensures stopped { OnErr result (Stops (E.put err.old) (E.put err.new) (E.faults err.old) (E.faults err.new) (words.now ++ paired first.now second.now)) }
 {
     put(words, err)?;
@@ -75,7 +75,7 @@ pub(crate) fn put_pair<E: Sink>(
 pub(crate) fn put_quoted<E: Sink>(words: &[u8], text: &[u8], err: &mut E) -> Result<(), Failed>
     requires words { IsUtf8 words.now }
     requires text { IsUtf8 text.now }
-    ensures ok { OnOk result (Puts (E.put err.old) (E.put err.new) (E.faults err.old) (E.faults err.new) (words.now ++ quoted text.now)) }
+    ensures done { OnOk result (Puts (E.put err.old) (E.put err.new) (E.faults err.old) (E.faults err.new) (words.now ++ quoted text.now)) }
     ensures stopped { OnErr result (Stops (E.put err.old) (E.put err.new) (E.faults err.old) (E.faults err.new) (words.now ++ quoted text.now)) }
 {
     put(words, err)?;
@@ -85,7 +85,7 @@ pub(crate) fn put_quoted<E: Sink>(words: &[u8], text: &[u8], err: &mut E) -> Res
 #[tactic(auto, using(crate::proofs::Sending::puts_both, crate::proofs::Sending::stops_first, crate::proofs::Sending::stops_second, crate::proofs::Whole::ascii))]
 fn put_string<E: Sink>(text: &[u8], err: &mut E) -> Result<(), Failed>
     requires { IsUtf8 text.now }
-    ensures ok { OnOk result (Puts (E.put err.old) (E.put err.new) (E.faults err.old) (E.faults err.new) (quoted text.now)) }
+    ensures done { OnOk result (Puts (E.put err.old) (E.put err.new) (E.faults err.old) (E.faults err.new) (quoted text.now)) }
     ensures stopped { OnErr result (Stops (E.put err.old) (E.put err.new) (E.faults err.old) (E.faults err.new) (quoted text.now)) }
 {
     put(b"\"", err)?;
@@ -97,7 +97,7 @@ fn put_string<E: Sink>(text: &[u8], err: &mut E) -> Result<(), Failed>
 /// for themselves is one piece, so that no character of a text is cut.
 fn put_value<E: Sink>(text: &[u8], err: &mut E) -> Result<(), Failed>
     requires { IsUtf8 text.now }
-    ensures ok { OnOk result (Puts (E.put err.old) (E.put err.new) (E.faults err.old) (E.faults err.new) (flat_map spelled_byte text.now)) }
+    ensures done { OnOk result (Puts (E.put err.old) (E.put err.new) (E.faults err.old) (E.faults err.new) (flat_map spelled_byte text.now)) }
     ensures stopped { OnErr result (Stops (E.put err.old) (E.put err.new) (E.faults err.old) (E.faults err.new) (flat_map spelled_byte text.now)) }
 {
     let mut rest = text;
@@ -112,7 +112,7 @@ fn put_value<E: Sink>(text: &[u8], err: &mut E) -> Result<(), Failed>
 /// byte after them, if there is one. Answers how many bytes of the value were put.
 fn put_run<E: Sink>(text: &[u8], err: &mut E) -> Result<usize, Failed>
     requires { IsUtf8 text.now }
-    ensures ok { IfOk result (λ n. Puts (E.put err.old) (E.put err.new) (E.faults err.old) (E.faults err.new) (flat_map spelled_byte (take n text.now))) }
+    ensures done { IfOk result (λ n. Puts (E.put err.old) (E.put err.new) (E.faults err.old) (E.faults err.new) (flat_map spelled_byte (take n text.now))) }
     ensures bound { IfOk result (λ n. n ≤ length text.now) }
     ensures some { IfOk result (λ n. 0 < length text.now → 0 < n) }
     ensures whole { IfOk result (λ n. IsUtf8 (drop n text.now)) }
@@ -144,7 +144,7 @@ fn plain_front(text: &[u8]) -> usize
 /// Puts what stands for a byte of ASCII in a string's value.
 fn put_byte<E: Sink>(b: u8, err: &mut E) -> Result<(), Failed>
     requires { b < 128 }
-    ensures ok { OnOk result (Puts (E.put err.old) (E.put err.new) (E.faults err.old) (E.faults err.new) (spelled_byte b)) }
+    ensures done { OnOk result (Puts (E.put err.old) (E.put err.new) (E.faults err.old) (E.faults err.new) (spelled_byte b)) }
     ensures stopped { OnErr result (Stops (E.put err.old) (E.put err.new) (E.faults err.old) (E.faults err.new) (spelled_byte b)) }
 {
     put(Escaped::of(b).as_slice(), err)

@@ -23,7 +23,7 @@ const USAGE: &[u8] =
 /// `Failed` where a write failed; a front of the line was put before it.
 #[tactic(auto, using(crate::proofs::Whole::ascii))]
 pub(crate) fn put_line<E: Sink>(status: &Status, err: &mut E) -> Result<(), Failed>
-    ensures ok { OnOk result (Puts (E.put err.old) (E.put err.new) (E.faults err.old) (E.faults err.new) (error_line status.now)) }
+    ensures done { OnOk result (Puts (E.put err.old) (E.put err.new) (E.faults err.old) (E.faults err.new) (error_line status.now)) }
     ensures stopped { OnErr result (Stops (E.put err.old) (E.put err.new) (E.faults err.old) (E.faults err.new) (error_line status.now)) }
     ensures silent { status.now ≡ Status.Done → err.new ≡ err.old }
 {
@@ -41,7 +41,7 @@ pub(crate) fn put_line<E: Sink>(status: &Status, err: &mut E) -> Result<(), Fail
 
 #[tactic(auto, using(crate::proofs::Sending::puts_both, crate::proofs::Sending::stops_first, crate::proofs::Sending::stops_second, crate::proofs::Whole::ascii))]
 fn put_policy_line<E: Sink>(fault: &PolicyFault, err: &mut E) -> Result<(), Failed>
-    ensures ok { OnOk result (Puts (E.put err.old) (E.put err.new) (E.faults err.old) (E.faults err.new) (policy_line fault.now)) }
+    ensures done { OnOk result (Puts (E.put err.old) (E.put err.new) (E.faults err.old) (E.faults err.new) (policy_line fault.now)) }
     ensures stopped { OnErr result (Stops (E.put err.old) (E.put err.new) (E.faults err.old) (E.faults err.new) (policy_line fault.now)) }
 {
     put(b"ffox: policy: ", err)?;
@@ -51,7 +51,7 @@ fn put_policy_line<E: Sink>(fault: &PolicyFault, err: &mut E) -> Result<(), Fail
 
 #[tactic(auto, using(crate::proofs::Sending::puts_both, crate::proofs::Sending::stops_first, crate::proofs::Sending::stops_second, crate::proofs::Whole::ascii))]
 fn put_trace_line<E: Sink>(line: u64, fault: TraceFault, err: &mut E) -> Result<(), Failed>
-    ensures ok { OnOk result (Puts (E.put err.old) (E.put err.new) (E.faults err.old) (E.faults err.new) (trace_line line fault)) }
+    ensures done { OnOk result (Puts (E.put err.old) (E.put err.new) (E.faults err.old) (E.faults err.new) (trace_line line fault)) }
     ensures stopped { OnErr result (Stops (E.put err.old) (E.put err.new) (E.faults err.old) (E.faults err.new) (trace_line line fault)) }
 {
     put_number(b"ffox: line ", line, err)?;
@@ -62,7 +62,7 @@ fn put_trace_line<E: Sink>(line: u64, fault: TraceFault, err: &mut E) -> Result<
 
 #[tactic(auto, using(crate::proofs::Whole::ascii))]
 fn put_policy<E: Sink>(fault: &PolicyFault, err: &mut E) -> Result<(), Failed>
-    ensures ok { OnOk result (Puts (E.put err.old) (E.put err.new) (E.faults err.old) (E.faults err.new) (policy_words fault.now)) }
+    ensures done { OnOk result (Puts (E.put err.old) (E.put err.new) (E.faults err.old) (E.faults err.new) (policy_words fault.now)) }
     ensures stopped { OnErr result (Stops (E.put err.old) (E.put err.new) (E.faults err.old) (E.faults err.new) (policy_words fault.now)) }
 {
     match fault {
@@ -81,7 +81,7 @@ fn put_policy<E: Sink>(fault: &PolicyFault, err: &mut E) -> Result<(), Failed>
 
 #[tactic(auto, using(crate::proofs::Whole::ascii))]
 fn put_lattice<E: Sink>(fault: &LatticeFault, err: &mut E) -> Result<(), Failed>
-    ensures ok { OnOk result (Puts (E.put err.old) (E.put err.new) (E.faults err.old) (E.faults err.new) (lattice_words fault.now)) }
+    ensures done { OnOk result (Puts (E.put err.old) (E.put err.new) (E.faults err.old) (E.faults err.new) (lattice_words fault.now)) }
     ensures stopped { OnErr result (Stops (E.put err.old) (E.put err.new) (E.faults err.old) (E.faults err.new) (lattice_words fault.now)) }
 {
     match fault {
@@ -99,7 +99,7 @@ fn put_lattice<E: Sink>(fault: &LatticeFault, err: &mut E) -> Result<(), Failed>
 
 #[tactic(auto, using(crate::proofs::Whole::ascii))]
 fn put_trace<E: Sink>(fault: TraceFault, err: &mut E) -> Result<(), Failed>
-    ensures ok { OnOk result (Puts (E.put err.old) (E.put err.new) (E.faults err.old) (E.faults err.new) (trace_words fault)) }
+    ensures done { OnOk result (Puts (E.put err.old) (E.put err.new) (E.faults err.old) (E.faults err.new) (trace_words fault)) }
     ensures stopped { OnErr result (Stops (E.put err.old) (E.put err.new) (E.faults err.old) (E.faults err.new) (trace_words fault)) }
 {
     match fault {
@@ -112,7 +112,7 @@ fn put_trace<E: Sink>(fault: TraceFault, err: &mut E) -> Result<(), Failed>
 
 #[tactic(auto, using(crate::proofs::Whole::ascii))]
 fn put_line_fault<E: Sink>(fault: LineFault, err: &mut E) -> Result<(), Failed>
-    ensures ok { OnOk result (Puts (E.put err.old) (E.put err.new) (E.faults err.old) (E.faults err.new) (line_words fault)) }
+    ensures done { OnOk result (Puts (E.put err.old) (E.put err.new) (E.faults err.old) (E.faults err.new) (line_words fault)) }
     ensures stopped { OnErr result (Stops (E.put err.old) (E.put err.new) (E.faults err.old) (E.faults err.new) (line_words fault)) }
 {
     match fault {
@@ -129,7 +129,7 @@ fn put_line_fault<E: Sink>(fault: LineFault, err: &mut E) -> Result<(), Failed>
 
 #[tactic(auto, using(crate::proofs::Whole::ascii))]
 fn put_text<E: Sink>(fault: TextFault, err: &mut E) -> Result<(), Failed>
-    ensures ok { OnOk result (Puts (E.put err.old) (E.put err.new) (E.faults err.old) (E.faults err.new) (text_words fault)) }
+    ensures done { OnOk result (Puts (E.put err.old) (E.put err.new) (E.faults err.old) (E.faults err.new) (text_words fault)) }
     ensures stopped { OnErr result (Stops (E.put err.old) (E.put err.new) (E.faults err.old) (E.faults err.new) (text_words fault)) }
 {
     match fault {
@@ -146,7 +146,7 @@ fn put_text<E: Sink>(fault: TextFault, err: &mut E) -> Result<(), Failed>
 
 #[tactic(auto, using(crate::proofs::Whole::ascii))]
 fn put_syntax<E: Sink>(fault: SyntaxFault, err: &mut E) -> Result<(), Failed>
-    ensures ok { OnOk result (Puts (E.put err.old) (E.put err.new) (E.faults err.old) (E.faults err.new) (syntax_words fault)) }
+    ensures done { OnOk result (Puts (E.put err.old) (E.put err.new) (E.faults err.old) (E.faults err.new) (syntax_words fault)) }
     ensures stopped { OnErr result (Stops (E.put err.old) (E.put err.new) (E.faults err.old) (E.faults err.new) (syntax_words fault)) }
 {
     match fault {

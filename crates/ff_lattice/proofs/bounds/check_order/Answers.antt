@@ -17,7 +17,7 @@ returns-in-Some-first_without_join-2-clause-fault c = λ _. (
   },
 )
 
-pub returns-clause-ok : goal.returns-clause-ok
-returns-clause-ok c =
+pub returns-clause-found : goal.returns-clause-found
+returns-clause-found c =
     IsLattice-from_checks c.args.up.now c.args.down.now (length c.args.levels.now.keys) c.requires.size c.requires.ordered c.requires.down
     c.in_default.ensures c.in_default-first_without_join.ensures c.in_default-first_without_join-2.ensures

@@ -36,8 +36,8 @@ loop-name-preserved c =
           c.loop-name.invariant.keys value_is c.in_ok-is_new.ensures.added c.if-not-is_new.false);
     }
 
-pub returns-clause-ok : goal.returns-clause-ok
-returns-clause-ok c = (
+pub returns-clause-found : goal.returns-clause-found
+returns-clause-found c = (
   c.loop-name.invariant.keys ∙ take_all c.loop-name.name-index c.args.names.now (omega arith),
   record { named = c.requires; apart = λ l in_l. c.loop-name.invariant.apart l (omega arith) },
 )

@@ -5,8 +5,8 @@ use Rattle.ff_lattice.specs.declared.fault.LatticeFault.TheVariants.{Unknown}
 use Rattle.ff_lattice.proofs.NameLemmas.{no_level_from_any}
 use Rattle.ff_lattice.proofs.names.level_named.Goals as goal
 
-pub returns-in-Some-clause-ok : goal.returns-in-Some-clause-ok
-returns-in-Some-clause-ok c =
+pub returns-in-Some-clause-found : goal.returns-in-Some-clause-found
+returns-in-Some-clause-found c =
     (c.in-Some.ensures.within, sym (same_text _ _ (sym (position-Some _ c.args.levels.now.keys c.in-Some.place [] (sym c.in-Some.ensures.index)).1)))
 
 pub returns-in_ok-copy-in-None-clause-fault : goal.returns-in_ok-copy-in-None-clause-fault

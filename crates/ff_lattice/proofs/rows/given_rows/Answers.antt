@@ -27,7 +27,7 @@ returns-in_err-high-clause-fault c =
     let told = c.in_err-high.ensures.fault no in
     subst (λ (f : LatticeFault). IsFault c.args.levels.now.keys c.args.below.now f) (sym told.0)
     (unknown_high c.args.levels.now.keys c.args.below.now c.loop-pair.pair-index c.pair-item.result.high c.requires in_pairs c.loop-pair.invariant.known
-    (c.in_ok-low.low.0, c.in_ok-low.ensures.ok.0, c.in_ok-low.ensures.ok.1 ∙ ap (λ (p : Pair). p.low) pair_is) (ap (λ (p : Pair). p.high) pair_is) told.1))
+    (c.in_ok-low.low.0, c.in_ok-low.ensures.found.0, c.in_ok-low.ensures.found.1 ∙ ap (λ (p : Pair). p.low) pair_is) (ap (λ (p : Pair). p.high) pair_is) told.1))
 
 pub loop-pair-preserved : goal.loop-pair-preserved
 loop-pair-preserved c =
@@ -39,9 +39,9 @@ loop-pair-preserved c =
     subst (λ (table : List (List ℕ)). HoldPairs (c.loop-pair.pair-index + 1) c.args.levels.now.keys c.args.below.now table)
     (sym (take_at c.relate.new.rows (drop (length c.relate.new.rows) c.loop-pair.rows.items) c.loop-pair.rows.len long))
     (HoldPairs-more c.loop-pair.pair-index c.args.levels.now.keys c.args.below.now c.loop-pair.rows.items c.relate.new.rows c.in_ok-low.low.0 c.in_ok-high.high.0 c.requires c.loop-pair.invariant
-    c.in_ok-low.ensures.ok.0 c.in_ok-high.ensures.ok.0 (c.in_ok-low.ensures.ok.1 ∙ ap (λ (p : Pair). p.low) pair_is) (c.in_ok-high.ensures.ok.1 ∙ ap (λ (p : Pair). p.high) pair_is) relates)
+    c.in_ok-low.ensures.found.0 c.in_ok-high.ensures.found.0 (c.in_ok-low.ensures.found.1 ∙ ap (λ (p : Pair). p.low) pair_is) (c.in_ok-high.ensures.found.1 ∙ ap (λ (p : Pair). p.high) pair_is) relates)
 
-pub returns-clause-ok : goal.returns-clause-ok
-returns-clause-ok c =
+pub returns-clause-found : goal.returns-clause-found
+returns-clause-found c =
     let all : c.loop-pair.pair-index ≡ length c.args.below.now = omega arith in
     subst (λ (count : ℕ). HoldPairs count c.args.levels.now.keys c.args.below.now c.loop-pair.rows.items) all c.loop-pair.invariant

@@ -12,7 +12,7 @@ pub returns-in_err-put_byte-clause-stopped : goal.returns-in_err-put_byte-clause
 returns-in_err-put_byte-clause-stopped g c =
     failed c.from_residual-in_err-put_byte.result
     (byte_stops c.args.text.now c.plain_front-n.result 0 (omega (arith, c.if-n-text.false, c.plain_front-n.ensures.bound)) c.plain_front-n.ensures.plain
-    c.in_ok-put.ensures.ok c.in_err-put_byte.ensures.stopped)
+    c.in_ok-put.ensures.done c.in_err-put_byte.ensures.stopped)
 
 pub put-requires : goal.put-requires
 put-requires g c = front_whole c.args.text.now c.plain_front-n.result c.requires c.plain_front-n.ensures.bound c.plain_front-n.ensures.ascii

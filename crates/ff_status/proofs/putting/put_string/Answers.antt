@@ -10,13 +10,13 @@ returns-in_err-put-clause-stopped g c = failed c.from_residual.result (at_first 
 pub returns-in_err-put_value-clause-stopped : goal.returns-in_err-put_value-clause-stopped
 unfolding quoted
 returns-in_err-put_value-clause-stopped g c =
-    failed c.from_residual-in_err-put_value.result (at_second c.in_ok-put.ensures.ok (at_first (34 ∷ []) c.in_err-put_value.ensures.stopped))
+    failed c.from_residual-in_err-put_value.result (at_second c.in_ok-put.ensures.done (at_first (34 ∷ []) c.in_err-put_value.ensures.stopped))
 
-pub returns-clause-ok : goal.returns-clause-ok
+pub returns-clause-done : goal.returns-clause-done
 unfolding quoted
-returns-clause-ok g c = ok_after c.put-2.result _ _ _ c.in_ok-put.ensures.ok (ok_after c.put-2.result _ _ _ c.in_ok-put_value.ensures.ok c.put-2.ensures.ok)
+returns-clause-done g c = ok_after c.put-2.result _ _ _ c.in_ok-put.ensures.done (ok_after c.put-2.result _ _ _ c.in_ok-put_value.ensures.done c.put-2.ensures.done)
 
 pub returns-clause-stopped : goal.returns-clause-stopped
 unfolding quoted
 returns-clause-stopped g c =
-    stopped_after c.put-2.result _ _ _ c.in_ok-put.ensures.ok (stopped_after c.put-2.result _ _ _ c.in_ok-put_value.ensures.ok c.put-2.ensures.stopped)
+    stopped_after c.put-2.result _ _ _ c.in_ok-put.ensures.done (stopped_after c.put-2.result _ _ _ c.in_ok-put_value.ensures.done c.put-2.ensures.stopped)

@@ -1,5 +1,5 @@
 use Rattle.std.proofs.Common.{sym}
 use Rattle.ff_status.proofs.words.put_lattice.Goals as goal
 
-pub returns-in-Unknown-clause-ok : goal.returns-in-Unknown-clause-ok
-returns-in-Unknown-clause-ok g c = rw (c.in-Unknown.is, sym c.as_bytes-in-Unknown.ensures.value) c.put_quoted-in-Unknown.ensures.ok
+pub returns-in-Unknown-clause-done : goal.returns-in-Unknown-clause-done
+returns-in-Unknown-clause-done g c = rw (c.in-Unknown.is, sym c.as_bytes-in-Unknown.ensures.value) c.put_quoted-in-Unknown.ensures.done

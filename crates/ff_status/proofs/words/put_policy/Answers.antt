@@ -1,8 +1,8 @@
 use Rattle.std.proofs.Common.{sym}
 use Rattle.ff_status.proofs.words.put_policy.Goals as goal
 
-pub returns-in-UnknownField-clause-ok : goal.returns-in-UnknownField-clause-ok
-returns-in-UnknownField-clause-ok g c = rw (c.in-UnknownField.is, sym c.as_bytes.ensures.value) c.put_quoted.ensures.ok
+pub returns-in-UnknownField-clause-done : goal.returns-in-UnknownField-clause-done
+returns-in-UnknownField-clause-done g c = rw (c.in-UnknownField.is, sym c.as_bytes.ensures.value) c.put_quoted.ensures.done
 
-pub returns-in-UnknownLevel-clause-ok : goal.returns-in-UnknownLevel-clause-ok
-returns-in-UnknownLevel-clause-ok g c = rw (c.in-UnknownLevel.is, sym c.as_bytes-in-UnknownLevel.ensures.value) c.put_quoted-in-UnknownLevel.ensures.ok
+pub returns-in-UnknownLevel-clause-done : goal.returns-in-UnknownLevel-clause-done
+returns-in-UnknownLevel-clause-done g c = rw (c.in-UnknownLevel.is, sym c.as_bytes-in-UnknownLevel.ensures.value) c.put_quoted-in-UnknownLevel.ensures.done

@@ -9,14 +9,14 @@ returns-in_err-put_number-clause-stopped g c =
 
 pub returns-in_err-put-clause-stopped : goal.returns-in_err-put-clause-stopped
 returns-in_err-put-clause-stopped g c =
-    failed c.from_residual-in_err-put.result (at_second c.in_ok-put_number.ensures.ok (at_first (trace_words c.args.fault ++ 10 ∷ []) c.in_err-put.ensures.stopped))
+    failed c.from_residual-in_err-put.result (at_second c.in_ok-put_number.ensures.done (at_first (trace_words c.args.fault ++ 10 ∷ []) c.in_err-put.ensures.stopped))
 
 pub returns-in_err-put_trace-clause-stopped : goal.returns-in_err-put_trace-clause-stopped
 returns-in_err-put_trace-clause-stopped g c =
     failed c.from_residual-in_err-put_trace.result
-    (at_second c.in_ok-put_number.ensures.ok (at_second c.in_ok-put.ensures.ok (at_first (10 ∷ []) c.in_err-put_trace.ensures.stopped)))
+    (at_second c.in_ok-put_number.ensures.done (at_second c.in_ok-put.ensures.done (at_first (10 ∷ []) c.in_err-put_trace.ensures.stopped)))
 
 pub returns-clause-stopped : goal.returns-clause-stopped
 returns-clause-stopped g c =
-    stopped_after c.put-2.result _ _ _ c.in_ok-put_number.ensures.ok
-    (stopped_after c.put-2.result _ _ _ c.in_ok-put.ensures.ok (stopped_after c.put-2.result _ _ _ c.in_ok-put_trace.ensures.ok c.put-2.ensures.stopped))
+    stopped_after c.put-2.result _ _ _ c.in_ok-put_number.ensures.done
+    (stopped_after c.put-2.result _ _ _ c.in_ok-put.ensures.done (stopped_after c.put-2.result _ _ _ c.in_ok-put_trace.ensures.done c.put-2.ensures.stopped))

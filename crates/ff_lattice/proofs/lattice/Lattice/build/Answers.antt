@@ -38,10 +38,10 @@ returns-in_err-levels-clause-exact c =
 pub returns-clause-only : goal.returns-clause-only
 returns-clause-only c =
     accepts_from c.args.names.now c.args.below.now c.of_levels.result
-    (subst (λ (names : List (List ℕ)). IfErr c.of_levels.result (λ fault. fault ≢ NoMemory → IsFault names c.args.below.now fault)) c.in_ok-levels.ensures.ok.0 c.of_levels.ensures.fault)
+    (subst (λ (names : List (List ℕ)). IfErr c.of_levels.result (λ fault. fault ≢ NoMemory → IsFault names c.args.below.now fault)) c.in_ok-levels.ensures.found.0 c.of_levels.ensures.fault)
 
 pub returns-clause-exact : goal.returns-clause-exact
 returns-clause-exact c =
     only_from c.args.names.now c.args.below.now c.of_levels.result
-    (subst (λ (names : List (List ℕ)). IfOk c.of_levels.result (IsLatticeOf names c.args.below.now)) c.in_ok-levels.ensures.ok.0 c.of_levels.ensures.ok)
-    (subst (λ (names : List (List ℕ)). IfErr c.of_levels.result (λ fault. fault ≢ NoMemory → IsFault names c.args.below.now fault)) c.in_ok-levels.ensures.ok.0 c.of_levels.ensures.fault)
+    (subst (λ (names : List (List ℕ)). IfOk c.of_levels.result (IsLatticeOf names c.args.below.now)) c.in_ok-levels.ensures.found.0 c.of_levels.ensures.found)
+    (subst (λ (names : List (List ℕ)). IfErr c.of_levels.result (λ fault. fault ≢ NoMemory → IsFault names c.args.below.now fault)) c.in_ok-levels.ensures.found.0 c.of_levels.ensures.fault)

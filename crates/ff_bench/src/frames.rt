@@ -1,8 +1,8 @@
 //! The time of a reduction.
 
-use crate::script::Script;
-use crate::table::read_body;
+use crate::spent::print_since;
 use anyhow::Result;
+use ff_script::{Script, read_body};
 use ff_value::{Body, NoMemory};
 use std::alloc::Global;
 use std::time::{Clock, Instant};
@@ -17,7 +17,7 @@ const DEEP: &str = "(do (let f (fn (n) (if (< n 900) (+ 1 (call f (+ n 1))) 0)))
 const MOST_REDUCTIONS: u32 = 2_000_000;
 
 /// Prints for each its name and the nanoseconds of a reduction.
-pub fn run<R: Clock + Print>(rt: &R, alloc: Global) -> Result<()> {
+pub fn measure<R: Clock + Print>(rt: &R, alloc: Global) -> Result<()> {
     report(rt, alloc, "loop", COUNTING, 1)?;
     report(rt, alloc, "calls", DEEP, 100)
 }
@@ -36,9 +36,7 @@ fn report<R: Clock + Print>(
     for _time in 0..times {
         made = made.wrapping_add(reductions(alloc, &body)?);
     }
-    let nanoseconds = start.elapsed(rt)?.as_secs_f64() * 1e9 / f64::from(made);
-    println!(rt; "{name} {nanoseconds:.1}")?;
-    Ok(())
+    print_since(rt, name, start, made)
 }
 
 /// How many reductions the program takes.
