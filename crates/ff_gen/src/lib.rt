@@ -1,0 +1,11 @@
+//! Traces that are drawn from a number, for loads that anyone can make again.
+//!
+//! A linear congruential generator gives a number for each line; the upper half of the number
+//! chooses among eight lines, two of which have it in their text.
+#![tactic(auto)]
+
+mod generator;
+#[cfg(test)]
+mod tests;
+
+pub use generator::{MOST_LINES, NoMemory, workload};
