@@ -59,11 +59,15 @@ pub record IsActCell (cells : List VarCell) (a : ℕ) (act : ActCell) : Type 0 w
   pub parent : ForSome act.parent (λ p. p.0 < a)
   pub top : IsLink cells 0 act.top
 
--- cells of activations and variables: each variable is found by its activation and its name
+-- each variable is found by its activation and its name
+abbrev pub AreFound : List ActCell → List VarCell → Type 0
+AreFound acts cells = (i : ℕ) (cell : VarCell) → slice_get cells i ≡ Some cell → found (length cells) cells cell.owner cell.name (digits cell.name) (top_of acts cell.owner) ≡ Some i
+
+-- cells of activations and variables, as many as there may be
 pub record AreHeld (acts : List ActCell) (cells : List VarCell) : Type 0 where
   pub few_acts : length acts ≤ MOST_ACTS
   pub few_vars : length cells ≤ MOST_VARS
   pub counted : count_vars (seen acts cells) ≡ length cells
-  pub acts : (a : ℕ) (act : ActCell) → slice_get acts a ≡ Some act → IsActCell cells a act
+  pub each_act : (a : ℕ) (act : ActCell) → slice_get acts a ≡ Some act → IsActCell cells a act
   pub links : (i : ℕ) (cell : VarCell) → slice_get cells i ≡ Some cell → HasLinks cells i cell
-  pub vars : (i : ℕ) (cell : VarCell) → slice_get cells i ≡ Some cell → found (length cells) cells cell.owner cell.name (digits cell.name) (top_of acts cell.owner) ≡ Some i
+  pub each_var : AreFound acts cells

@@ -31,11 +31,11 @@ after_place (Left k) = suc k
 after_place (Right k) = suc k
 
 -- what stands past the last activation
-abbrev no_act_cell : ActCell
+abbrev pub no_act_cell : ActCell
 no_act_cell = record { parent = None; top = None }
 
 -- what stands past the last variable
-abbrev no_var_cell : VarCell
+abbrev pub no_var_cell : VarCell
 no_var_cell = record { owner = record { 0 = 0 }; name = []; value = val.Null; left = None; right = None }
 
 -- the link at the place is set, if it is the activation's

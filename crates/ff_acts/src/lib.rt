@@ -16,5 +16,6 @@ mod acts;
 mod cells;
 mod growing;
 mod searching;
+pub mod probe;
 
 pub use acts::Acts;
