@@ -27,6 +27,8 @@ pub(crate) struct VarCell {
 }
 
 impl VarCell {
+    ghost use Rattle.ff_acts.specs.Held.{is_var};
+
     /// A variable from which no search goes on. It shares the name and the value.
     pub(crate) fn of(owner: ActId, name: &Name, value: &Val) -> Result<VarCell, NoMemory>
         ensures { IfOk result (λ cell. cell ≡ record { owner = owner; name = name.now; value = value.now; left = None; right = None }) }
@@ -38,6 +40,13 @@ impl VarCell {
             left: None,
             right: None,
         })
+    }
+
+    /// Whether it is the activation's variable of that name.
+    pub(crate) fn is_var(&self, a: ActId, name: &Name) -> bool
+        ensures { result ≡ is_var a name.now self.now }
+    {
+        self.owner == a && self.name.as_bytes() == name.as_bytes()
     }
 
     /// The value, lent.

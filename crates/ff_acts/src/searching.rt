@@ -59,7 +59,7 @@ pub(crate) fn search(
     let mut rest = name_digits;
     while let Some(k) = link {
         let cell = cell_at(vars, k);
-        if cell.owner == a && cell.name.as_bytes() == name.as_bytes() {
+        if cell.is_var(a, name) {
             return Stop::Found(k);
         }
         if rest % 2 == 1 {
