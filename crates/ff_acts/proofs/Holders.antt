@@ -64,7 +64,7 @@ module _ (acts : List ActCell) (cells : List VarCell) (held : AreHeld acts cells
   pub parent_at : (a : ActId) (act : ActCell) → slice_get acts a.0 ≡ Some act → (act_at view a).parent ≡ act.parent
   parent_at a act at = ap (λ (is : Activation). is.parent) (seen_at acts cells a.0 act at)
 
-  low : (a p : ActId) → (act_at view a).parent ≡ Some p → p.0 < a.0
+  pub low : (a p : ActId) → (act_at view a).parent ≡ Some p → p.0 < a.0
   low a p e =
       let d : ActCell = record { parent = None; top = None } in
       ⊎_elim

@@ -24,6 +24,10 @@ pub length_seen : (acts : List ActCell) (cells : List VarCell) → length (seen 
 unfolding seen
 length_seen acts cells = length_from 0 acts cells
 
+-- an activation that is seen has a cell
+pub lives_in : (acts : List ActCell) (cells : List VarCell) (view : List Activation) (a : ℕ) → seen acts cells ≡ view → a < length view → a < length acts
+lives_in acts cells view a e h = omega (arith, h, ap length e, length_seen acts cells)
+
 -- an activation by its cell
 abbrev pub act_of : ℕ → ActCell → List VarCell → Activation
 act_of a act cells = record { parent = act.parent; vars = vars_in cells a }

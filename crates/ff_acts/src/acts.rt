@@ -166,10 +166,10 @@ impl Acts {
                     return Err(Fail::Fault(Fault::Limit));
                 }
                 let cell = VarCell::of(a, name, value)?;
-                if grow(&mut self.acts, &mut self.vars, place, cell, copies).is_err() {
+                let Ok(()) = grow(&mut self.acts, &mut self.vars, place, cell, copies) else {
                     *self = Acts::new(self.alloc);
                     return Err(Fail::NoMemory);
-                }
+                };
             }
         }
         Ok(())

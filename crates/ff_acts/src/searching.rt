@@ -88,12 +88,12 @@ pub(crate) fn nearest(
     let name_digits = digits_of(name);
     let mut at = a;
     loop {
-        if let Stop::Found(k) = search(acts, vars, at, name, name_digits) {
-            return Some(k);
-        }
-        match cell_at(acts, at.0).parent {
-            Some(parent) => at = parent,
-            None => return None,
+        match search(acts, vars, at, name, name_digits) {
+            Stop::Found(k) => return Some(k),
+            Stop::Open(_place) => match cell_at(acts, at.0).parent {
+                Some(parent) => at = parent,
+                None => return None,
+            },
         }
     }
 }
