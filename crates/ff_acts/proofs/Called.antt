@@ -1,18 +1,18 @@
 -- An activation that gets its parameters one after another.
-use Rattle.std.proofs.Common.{◌≡◌, ◌≢◌, ℕ, zero, suc, ◌+◌, ◌<◌, ◌≤◌, Bool, true, false, cond, nat_lt, nat_le, ◌&&◌, Option, Some, None, List, [], ◌∷◌, ◌++◌, length, take, set, zip, refl, sym, ap, subst, ◌∙◌, arith}
+use Rattle.std.proofs.Common.{◌≡◌, ◌≢◌, ℕ, zero, suc, ◌+◌, ◌<◌, ◌≤◌, Bool, true, false, cond, nat_lt, nat_le, ◌&&◌, Some, None, List, [], ◌∷◌, ◌++◌, length, take, set, zip, refl, sym, ap, ◌∙◌, arith}
 use Rattle.std.specs.List.{slice_get}
 use Rattle.std.specs.Ordering.{nat_cmp}
 use Rattle.std.specs.Cmp.Lexicographic.{slice_cmp, nat_list_cmp_total}
 use Rattle.std.specs.FinMap as finmap
 use Rattle.std.proofs.lemmas.Bool.Decides.{nat_tests}
-use Rattle.std.proofs.lemmas.List.{set_at, get_or_push, length_push}
+use Rattle.std.proofs.lemmas.List.{set_at, get_or_push}
 use Rattle.ff_tree.specs.Spelled.{AreParams, Differ}
 use Rattle.ff_value.specs.declared.ids.ActId.{ActId}
 use Rattle.ff_value.specs.declared.value.Val.{Val}
 use Rattle.ff_value.specs.declared.fault.Fault.TheVariants as fault
 use Rattle.ff_machine.specs.declared.limits.TheConstants.{MOST_ACTS, MOST_VARS}
 use Rattle.ff_machine.specs.Faults.{limit_unless}
-use Rattle.ff_machine.specs.Windows.{Activation, no_act, act_at, set_var, with_act, count_vars, call_fault}
+use Rattle.ff_machine.specs.Windows.{Activation, no_act, set_var, with_act, count_vars, call_fault}
 use Rattle.ff_machine.proofs.Lists.{nth_holds}
 use Rattle.ff_acts.proofs.Rows.{same, same_is, names_exact}
 

@@ -1,11 +1,10 @@
-use Rattle.std.proofs.Common.{◌≡◌, ◌+◌, ◌<◌, ◌≤◌, Some, refl, length, take, sym, ap, subst, ◌∙◌, arith}
+use Rattle.std.proofs.Common.{◌≡◌, Some, refl, length, take, sym, ap, subst, ◌∙◌, arith}
 use Rattle.std.proofs.lemmas.Option.{slice_get_read}
 use Rattle.std.proofs.lemmas.List.{length_push}
 use Rattle.std.specs.FinMap as finmap
 use Rattle.std.specs.List.{zip}
 use Rattle.ff_tree.specs.Spelled.{AreParams}
 use Rattle.ff_value.specs.declared.ids.ActId.{ActId}
-use Rattle.ff_machine.specs.declared.limits.TheConstants.{MOST_ACTS, MOST_VARS}
 use Rattle.ff_machine.specs.Windows as windows
 use Rattle.ff_acts.proofs.Called.{called_more, full_of_acts, full_of_vars, has_room}
 use Rattle.ff_acts.proofs.Seen.{length_seen}
