@@ -1,0 +1,10 @@
+pub mod Ahead
+pub mod Called
+pub mod Grown
+pub mod Holders
+pub mod Paths
+pub mod Places
+pub mod Pushed
+pub mod Rewritten
+pub mod Rows
+pub mod Seen
