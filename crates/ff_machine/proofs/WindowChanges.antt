@@ -1,6 +1,5 @@
 -- Changes of windows, pages and activations keep them valid by themselves.
-use Rattle.std.proofs.Common.{◌≡◌, ℕ, zero, suc, ◌+◌, ◌<◌, ◌≤◌, ⊎_elim, Bool, true, false, cond, not, eqb, ltb-true, Option, Some, None, List, [], ◌∷◌, ◌++◌, length, get_or, filter, map, slice_set, sum_by, All, arith, refl, sym, subst, ap, ◌∙◌, length-set, length-append}
-use Rattle.std.specs.Prelude.{nat_eq}
+use Rattle.std.proofs.Common.{◌≡◌, ℕ, ◌+◌, ◌<◌, ◌≤◌, ⊎_elim, true, not, eqb, ltb-true, Option, List, [], ◌∷◌, ◌++◌, length, get_or, map, slice_set, sum_by, All, arith, refl, sym, subst, ap, ◌∙◌, length-set, length-append}
 use Rattle.std.specs.List.{list_any}
 use Rattle.std.specs.Option.{ForSome}
 use Rattle.std.specs.Str.{IsUtf8}
@@ -8,21 +7,18 @@ use Rattle.std.proofs.lemmas.Bool.{and_parts, cases_lt, eq-eqb}
 use Rattle.std.proofs.lemmas.List.{get_or_append_left, get_or_push, get_or-map, length-map}
 use Rattle.std.proofs.lemmas.List.Folds.{list_any_at}
 use Rattle.std.proofs.lemmas.Map.Steps.{le-length_from_below}
-use Rattle.std.proofs.lemmas.List.Elements.{All-nil, All-set, All-push, All-weaker}
+use Rattle.std.proofs.lemmas.List.Elements.{All-set, All-push, All-weaker}
 use Rattle.std.proofs.lemmas.List.Sums.{sum_by-set, sum_by_push}
 use Rattle.ff_name.specs.Address.{IsWellSpelled}
 use Rattle.ff_name.specs.declared.urls.Url.{Url}
-use Rattle.ff_value.specs.declared.ids.ActId.{ActId}
 use Rattle.ff_value.specs.declared.ids.NodeId.{NodeId}
 use Rattle.ff_value.specs.declared.ids.PageId.{PageId}
 use Rattle.ff_value.specs.declared.ids.WinId.{WinId}
-use Rattle.ff_tree.specs.declared.tree.Expr.{Expr}
-use Rattle.ff_tree.specs.Spelled.{IsWellSpelledExpr}
 use Rattle.ff_machine.specs.declared.limits.TheConstants.{MOST_WINDOWS, MOST_PAGES, MOST_ACTS, MOST_ENTRIES, MOST_SLOTS}
 use Rattle.ff_machine.specs.declared.records.Entry.{Entry}
 use Rattle.ff_machine.specs.Windows as windows
 use Rattle.ff_machine.specs.Windows.{Windows, Window, Page, Activation, no_window, no_page, no_act, nth_window, nth_page, window_at, page_at, new_page, is_win, is_slot, fill_entry}
-use Rattle.ff_machine.specs.Alone.{IsWindow, IsPage, IsQueue, ArePages, AreOpen, AreOwn, AreActs, AreWindows}
+use Rattle.ff_machine.specs.Alone.{IsWindow, IsPage, IsQueue, AreOpen, AreOwn, AreActs, AreWindows}
 use Rattle.ff_machine.proofs.Lists.{at_set}
 use Rattle.ff_machine.proofs.Queues.{no_queue}
 use Rattle.ff_machine.proofs.Opened.{one_opened, some_opened}
@@ -91,7 +87,7 @@ queue_set w p next queue valid lives is slots entries =
 pub page_pushed : (w : Windows) (new : Page) (wins : List Window) (opened : List WinId) → AreWindows w → windows.has_page_room w ≡ true → IsPage (length w.acts + 1) new → new.queue ≡ []
     → All (IsWindow (length wins) (length (w.pages ++ new ∷ []))) wins → AreOpen (length wins) opened → AreOwn wins (w.pages ++ new ∷ [])
     → AreWindows (record { windows = wins; opened = opened; pages = w.pages ++ new ∷ []; acts = w.acts ++ no_act ∷ [] })
-page_pushed w new wins opened valid room is none are open own =
+page_pushed w new wins opened valid room is none are some own =
     let rooms = and_parts _ _ room in
     let few_pages : length w.pages < MOST_PAGES = ltb-true (length w.pages) MOST_PAGES rooms.0 in
     let few_acts : length w.acts < MOST_ACTS = ltb-true (length w.acts) MOST_ACTS rooms.1 in
@@ -99,7 +95,7 @@ page_pushed w new wins opened valid room is none are open own =
     let more : length (w.acts ++ no_act ∷ []) ≡ length w.acts + 1 = length-append w.acts (no_act ∷ []) in
     record {
       windows = are;
-      opened = open;
+      opened = some;
       pages = record {
         each = subst (λ (n : ℕ). All (IsPage n) (w.pages ++ new ∷ [])) (sym more) (All-push (IsPage (length w.acts + 1)) w.pages new
             (All-weaker (IsPage (length w.acts)) (IsPage (length w.acts + 1)) (page_grows (length w.acts) (length w.acts + 1) (omega arith)) w.pages valid.pages.each) is);
@@ -132,7 +128,8 @@ page_added w u win root valid room spelled =
 abbrev nth_win : ℕ → WinId
 nth_win n = record { 0 = n }
 
-at_own : (ws : List Window) (v : WinId) (win_of : Window → WinId) (opening : Window) → v.0 < length ws + 1 → (v.0 < length ws → win_of (nth_window ws v) ≡ v) → win_of opening ≡ nth_win (length ws)
+-- each window shows a page of its own where a window more does
+pub at_own : (ws : List Window) (v : WinId) (win_of : Window → WinId) (opening : Window) → v.0 < length ws + 1 → (v.0 < length ws → win_of (nth_window ws v) ≡ v) → win_of opening ≡ nth_win (length ws)
     → win_of (nth_window (ws ++ opening ∷ []) v) ≡ v
 at_own ws v win_of opening lt old new =
     ⊎_elim
