@@ -14,14 +14,6 @@ use ff_value::{ActId, Names, Val, Vals};
 use std::sync::ledger::Ledger;
 
 impl Windows {
-    /// The value of the nearest variable of a name, from an activation that there is outwards, lent.
-    pub fn lookup(&self, a: ActId, x: &Name) -> Option<&Val>
-        requires { a.0 < length self.now.acts }
-        ensures { option_copied result ≡ w.lookup self.now.acts a x.now }
-    {
-        self.acts().lookup(a, x)
-    }
-
     /// Gives a variable of an activation that there is a well spelled value, and declares it there
     /// if it is new. It is refused with `Limit` exactly where it is new and 1,048,576 variables were
     /// declared, and then nothing has changed.
@@ -98,7 +90,7 @@ impl Windows {
         ensures answer { Answers (w.call_fault self.old.acts (length params.now)) result }
         ensures kept { OnFault result (self.new ≡ self.old) }
         ensures later { copies.old ≤ copies.new }
-        ensures copies { copies.new ≤ copies.old + 15 + 64 * length params.now }
+        ensures copies { copies.new ≤ copies.old + 64 * (length params.now + 1) }
     {
         match self.acts.new_act(parent, params, args, copies) {
             Ok(a) => Ok(a),

@@ -1,5 +1,5 @@
 //! A page as a cell of a list.
-ghost use Rattle.std.specs.Prelude.{◌≡◌, ◌+◌, ◌<◌, ◌≤◌, suc, [], ◌∷◌, ◌++◌, map, drop, length, filter_map, nat_eq, IfOk, OnOk};
+ghost use Rattle.std.specs.Prelude.{◌≡◌, ◌+◌, ◌<◌, ◌≤◌, suc, [], ◌∷◌, ◌++◌, map, drop, length, filter_map, nat_eq, is_some, IfOk, OnOk};
 ghost use Rattle.std.specs.List.{IsDistinct, list_any};
 ghost use Rattle.std.specs.Option.{option_copied};
 ghost use Rattle.ff_machine.specs.Alone.{waiting};
@@ -98,6 +98,13 @@ impl PageCell {
             Some(Entry::Ready(body)) => Some(body),
             _ => None,
         }
+    }
+
+    /// Whether the queue begins with a script.
+    pub(crate) fn is_ready(&self) -> bool
+        ensures { result ≡ is_some (first_ready self.now.queue) }
+    {
+        self.first_ready().is_some()
     }
 
     /// Puts a script at the end of the queue. It is refused only for want of memory.

@@ -158,8 +158,9 @@ impl Queue {
         requires { 0 < length self.old }
         ensures { self.new ≡ drop 1 self.old }
     {
+        let count = self.front.len();
         self.first += 1;
-        if self.first == self.front.len() {
+        if self.first == count {
             self.front = mem::replace(&mut self.back, CowVec::new(self.alloc));
             self.first = 0;
         }

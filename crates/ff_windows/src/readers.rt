@@ -56,7 +56,7 @@ impl Windows {
     {
         let opened = self.opened();
         for (i, m) in opened.iter().enumerate() {
-            if m.0 == n.0 {
+            if n.0 == m.0 {
                 return Some(i as u32);
             }
         }
@@ -69,7 +69,7 @@ impl Windows {
     {
         let opened = self.opened();
         for m in opened {
-            if m.0 == n.0 {
+            if n.0 == m.0 {
                 return true;
             }
         }
@@ -126,7 +126,7 @@ impl Windows {
         let opened = self.opened();
         for n in opened {
             let page = self.window(*n).page();
-            if self.page_of(page).first_ready().is_some() {
+            if self.page_of(page).is_ready() {
                 return Some(page);
             }
         }

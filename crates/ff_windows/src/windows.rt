@@ -72,7 +72,9 @@ impl Windows {
         })
     }
 
-    pub(crate) fn alloc(&self) -> Global {
+    pub(crate) fn alloc(&self) -> Global
+        ensures { AreWindows self.now }
+    {
         self.alloc
     }
 
@@ -214,6 +216,6 @@ impl Windows {
         requires { AreWindows (w.closed self.old n) }
         ensures { self.new ≡ w.closed self.old n }
     {
-        self.opened.retain(|m| m.0 != n.0);
+        self.opened.retain(|m| n.0 != m.0);
     }
 }
