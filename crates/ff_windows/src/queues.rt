@@ -1,9 +1,10 @@
 //! The queues of scripts.
-ghost use Rattle.std.specs.Prelude.{◌≡◌, ◌+◌, ◌<◌, ◌≤◌, false, length, sum_by, MatchOption, IfOk, OnOk};
+ghost use Rattle.std.specs.Prelude.{◌≡◌, ◌+◌, ◌<◌, ◌≤◌, false, length, MatchOption, IfOk, OnOk};
 ghost use Rattle.ff_machine.specs.Windows as w;
 ghost use Rattle.ff_machine.specs.Windows.{first_ready};
 ghost use Rattle.ff_machine.specs.declared.records.Entry.TheVariants.{Ready};
 ghost use Rattle.ff_tree.specs.Spelled.{IsWellSpelledExpr};
+ghost use Rattle.ff_windows.specs.Queues.{count_entries};
 
 use crate::windows::Windows;
 use ff_cow::Cell;
@@ -23,7 +24,7 @@ impl Windows {
         copies: &mut Steps<C>,
     ) -> Result<(), NoMemory>
         requires lives { page.0 < length self.old.pages }
-        requires room { sum_by (λ p. length p.queue) self.old.pages < MOST_ENTRIES }
+        requires room { count_entries self.old < MOST_ENTRIES }
         requires spelled { IsWellSpelledExpr body.now }
         ensures done { OnOk result (self.new ≡ w.with_entry self.old page (Ready body.now)) }
         ensures later { copies.old ≤ copies.new }
@@ -43,7 +44,7 @@ impl Windows {
         copies: &mut Steps<C>,
     ) -> Result<u32, NoMemory>
         requires lives { page.0 < length self.old.pages }
-        requires room { sum_by (λ p. length p.queue) self.old.pages < MOST_ENTRIES }
+        requires room { count_entries self.old < MOST_ENTRIES }
         requires slots { (w.page_at self.old page).next < MOST_SLOTS }
         ensures done { OnOk result (self.new ≡ w.with_slot self.old page) }
         ensures number { IfOk result (λ slot. slot ≡ (w.page_at self.old page).next) }
