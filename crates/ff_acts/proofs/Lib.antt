@@ -1,0 +1,9 @@
+pub mod Ahead
+pub mod Grown
+pub mod Holders
+pub mod Paths
+pub mod Places
+pub mod Pushed
+pub mod Rewritten
+pub mod Rows
+pub mod Seen

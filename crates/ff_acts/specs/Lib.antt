@@ -1,0 +1,4 @@
+pub mod Codes
+pub mod Digits
+pub mod Held
+pub mod Stops

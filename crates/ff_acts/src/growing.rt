@@ -1,0 +1,104 @@
+//! Writing a variable, and linking a new one.
+ghost use Rattle.std.specs.Prelude.{◌≡◌, ◌+◌, ◌<◌, ◌≤◌, Some, [], ◌∷◌, ◌++◌, OnOk, OnErr, length, slice_get, slice_set};
+ghost use Rattle.ff_acts.specs.declared.cells.VarCell.{VarCell as Variable};
+ghost use Rattle.ff_acts.specs.Stops.{LivesAt, put_top, put_link};
+
+use crate::cells::{ActCell, VarCell, cell_at};
+use crate::searching::Place;
+use ff_cow::CowVec;
+use ff_name::NoMemory;
+use ff_steps::Steps;
+use ff_value::{ActId, Val};
+use std::alloc::AllocError;
+use std::sync::ledger::Ledger;
+
+/// Gives the variable at a place another value. A refusal, for want of memory, leaves the list as
+/// it was.
+pub(crate) fn write<C: Ledger>(
+    vars: &mut CowVec<VarCell>,
+    k: u32,
+    value: &Val,
+    copies: &mut Steps<C>,
+) -> Result<(), NoMemory>
+    requires { k < length vars.old }
+    ensures ok { (cell : Variable) → slice_get vars.old k ≡ Some cell → OnOk result (vars.new ≡ slice_set vars.old k (record cell { value = value.now })) }
+    ensures err { OnErr result (vars.new ≡ vars.old) }
+    ensures later { copies.old ≤ copies.new }
+    ensures copies { copies.new ≤ copies.old + 16 }
+{
+    let cell = cell_at(vars, k).with_value(value)?;
+    let Ok(()) = vars.set(k, cell, copies) else {
+        return Err(AllocError);
+    };
+    Ok(())
+}
+
+/// Sets the link at a place of the activation. After a refusal, for want of memory, the lists are
+/// not stated.
+pub(crate) fn link<C: Ledger>(
+    acts: &mut CowVec<ActCell>,
+    vars: &mut CowVec<VarCell>,
+    a: ActId,
+    place: Place,
+    to: u32,
+    copies: &mut Steps<C>,
+) -> Result<(), NoMemory>
+    requires lives { a.0 < length acts.old }
+    requires place { LivesAt vars.old place }
+    ensures top { OnOk result (acts.new ≡ put_top acts.old a place to) }
+    ensures link { OnOk result (vars.new ≡ put_link vars.old place to) }
+    ensures later { copies.old ≤ copies.new }
+    ensures copies { copies.new ≤ copies.old + 16 }
+{
+    match place {
+        Place::Top => {
+            let parent = cell_at(acts, a.0).parent;
+            let cell = ActCell {
+                parent,
+                top: Some(to),
+            };
+            let Ok(()) = acts.set(a.0, cell, copies) else {
+                return Err(AllocError);
+            };
+        }
+        Place::Left(k) => {
+            let old = cell_at(vars, k);
+            let cell = old.with_links(Some(to), old.right)?;
+            let Ok(()) = vars.set(k, cell, copies) else {
+                return Err(AllocError);
+            };
+        }
+        Place::Right(k) => {
+            let old = cell_at(vars, k);
+            let cell = old.with_links(old.left, Some(to))?;
+            let Ok(()) = vars.set(k, cell, copies) else {
+                return Err(AllocError);
+            };
+        }
+    }
+    Ok(())
+}
+
+/// Puts a new variable at the end, and sets the link at a place of the activation to it. After a
+/// refusal, for want of memory, the lists are not stated.
+pub(crate) fn grow<C: Ledger>(
+    acts: &mut CowVec<ActCell>,
+    vars: &mut CowVec<VarCell>,
+    place: Place,
+    cell: VarCell,
+    copies: &mut Steps<C>,
+) -> Result<(), NoMemory>
+    requires lives { cell.owner.0 < length acts.old }
+    requires place { LivesAt vars.old place }
+    ensures top { OnOk result (acts.new ≡ put_top acts.old cell.owner place (length vars.old)) }
+    ensures link { OnOk result (vars.new ≡ put_link vars.old place (length vars.old) ++ cell ∷ []) }
+    ensures later { copies.old ≤ copies.new }
+    ensures copies { copies.new ≤ copies.old + 31 }
+{
+    let number = vars.len();
+    link(acts, vars, cell.owner, place, number, copies)?;
+    let Ok(()) = vars.push(cell, copies) else {
+        return Err(AllocError);
+    };
+    Ok(())
+}

@@ -1,0 +1,21 @@
+//! Activations with their variables, of one copy of the browser.
+//!
+//! [`Acts`] is seen as the list of all activations ever made, each with its parent and its finite
+//! map of variables. It holds two lists that forks share until one of them writes: a cell for each
+//! activation, and a cell for each variable of whatever activation, in order of declaration. So a
+//! fork copies no cell, and a declaration or an assignment a few.
+//!
+//! The variables of one activation are linked to a digital search tree. A search begins at the
+//! activation's first cell with the digits of the name, a number that is spread well over the
+//! names: at each cell of another name it goes right where that number is odd, left where it is
+//! even, and halves it. A new variable is linked where the search for it found no cell. Links lead
+//! to later cells only, and none is ever changed or taken away. Names of equal digits make a chain.
+#![tactic(auto)]
+
+mod acts;
+mod cells;
+mod growing;
+mod searching;
+pub mod probe;
+
+pub use acts::Acts;
