@@ -14,6 +14,14 @@ use ff_value::{ActId, Names, Val, Vals};
 use std::sync::ledger::Ledger;
 
 impl Windows {
+    /// The value of the nearest variable of a name, from an activation that there is outwards, lent.
+    pub fn lookup(&self, a: ActId, x: &Name) -> Option<&Val>
+        requires { a.0 < length self.now.acts }
+        ensures { option_copied result ≡ w.lookup self.now.acts a x.now }
+    {
+        self.acts().lookup(a, x)
+    }
+
     /// Gives a variable of an activation that there is a well spelled value, and declares it there
     /// if it is new. It is refused with `Limit` exactly where it is new and 1,048,576 variables were
     /// declared, and then nothing has changed.
