@@ -1,5 +1,5 @@
 -- A search on its way: what it may still come to, and where it ends.
-use Rattle.std.proofs.Common.{◌≡◌, ℕ, zero, suc, ◌+◌, ◌-◌, ◌/◌, ◌%◌, ◌<◌, ◌≤◌, Bool, true, false, cond, ◌==◌, Option, Some, None, List, length, option_and_then, refl, sym, ap, subst, ◌∙◌, arith}
+use Rattle.std.proofs.Common.{◌≡◌, ℕ, zero, suc, ◌+◌, ◌-◌, ◌/◌, ◌%◌, ◌<◌, Bool, true, false, cond, ◌==◌, Option, Some, None, List, length, option_and_then, refl, sym, ap, subst, ◌∙◌, arith}
 use Rattle.std.specs.List.{slice_get}
 use Rattle.ff_value.specs.declared.ids.ActId.{ActId}
 use Rattle.ff_acts.specs.declared.cells.VarCell.{VarCell}
@@ -46,7 +46,7 @@ low_link cells k rest cell has true = has.right
 low_link cells k rest cell has false = has.left
 
 module _ (top : Option ℕ) (cells : List VarCell) (a : ActId) (x : List ℕ) (place : Place) (link : Option ℕ) (rest : ℕ) (h : IsAhead top cells a x place link rest)
-  (k : ℕ) (cell : VarCell) (e : link ≡ Some k) (is : slice_get cells k ≡ Some cell) (other : is_var a x cell ≡ false) (has : HasLinks cells k cell) where
+    (k : ℕ) (cell : VarCell) (e : link ≡ Some k) (is : slice_get cells k ≡ Some cell) (other : is_var a x cell ≡ false) (has : HasLinks cells k cell) where
   further : (next : Place) → after_place next ≡ suc k → LivesAt cells next → ((first : Option ℕ) (new : List VarCell) (u : VarCell) → slice_get new k ≡ Some u → link_at first new next ≡ link_of u rest)
       → IsAhead top cells a x next (link_of cell rest) (rest / 2)
   further next after lives at = record {

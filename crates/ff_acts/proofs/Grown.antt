@@ -1,5 +1,5 @@
 -- A variable more: the cells with it are held, and the activations have it.
-use Rattle.std.proofs.Common.{◌≡◌, ◌≢◌, ℕ, zero, suc, ◌+◌, ◌<◌, ◌≤◌, ◌⊎◌, inl, inr, ⊎_elim, Bool, true, false, ◌==◌, ◌&&◌, Option, Some, None, is_some, List, [], ◌∷◌, ◌++◌, length, get_or, set, bytes_eq, option_and_then, refl, sym, ap, subst, ◌∙◌, arith}
+use Rattle.std.proofs.Common.{◌≡◌, ℕ, suc, ◌+◌, ◌<◌, ◌≤◌, ◌⊎◌, inl, inr, ⊎_elim, true, false, ◌&&◌, Option, Some, None, List, [], ◌∷◌, ◌++◌, length, get_or, set, bytes_eq, option_and_then, refl, sym, ap, subst, ◌∙◌, arith}
 use Rattle.std.specs.List.{slice_get}
 use Rattle.std.specs.FinMap as finmap
 use Rattle.std.proofs.lemmas.Bool.{cases_eq, eq-eqb}
@@ -15,13 +15,13 @@ use Rattle.ff_acts.specs.declared.cells.VarCell.{VarCell}
 use Rattle.ff_acts.specs.declared.searching.Place.{Place}
 use Rattle.ff_acts.specs.declared.searching.Place.TheVariants.{Top, Left, Right}
 use Rattle.ff_acts.specs.Digits.{digits}
-use Rattle.ff_acts.specs.Held.{is_var, found, top_of, seen, vars_in, IsLink, HasLinks, IsActCell, AreFound, AreHeld}
-use Rattle.ff_acts.specs.Stops.{LivesAt, link_at, after_place, put_top, put_link, no_act_cell, no_var_cell, Stays, CellStays, Extends, IsOpen}
+use Rattle.ff_acts.specs.Held.{is_var, found, top_of, seen, IsLink, HasLinks, IsActCell, AreFound, AreHeld}
+use Rattle.ff_acts.specs.Stops.{LivesAt, link_at, after_place, put_top, put_link, no_act_cell, no_var_cell, Stays, Extends, IsOpen}
 use Rattle.ff_acts.proofs.Places.{get_set_same, get_set_other, get_push_old, get_push_new, pushed, some_of}
 use Rattle.ff_acts.proofs.Holders.{absent}
 use Rattle.ff_acts.proofs.Paths.{found_within, found_extends}
-use Rattle.ff_acts.proofs.Rows.{Has, Writes, got_has, owners, sets}
-use Rattle.ff_acts.proofs.Seen.{KeepParents, seen_set, length_seen, vars_at, count_new}
+use Rattle.ff_acts.proofs.Rows.{Has, Writes, sets}
+use Rattle.ff_acts.proofs.Seen.{KeepParents, seen_set, length_seen, count_new}
 
 -- a link is the one that it was, or led nowhere and leads to this place
 abbrev LinkGrows : ℕ → Option ℕ → Option ℕ → Type 0
@@ -46,7 +46,7 @@ same_cell : (n : ℕ) (cell : VarCell) → VarGrows n cell cell
 same_cell n cell = record { owner = refl; name = refl; value = refl; left = inl refl; right = inl refl }
 
 module _ (acts : List ActCell) (cells : List VarCell) (held : AreHeld acts cells) (a : ActId) (x : List ℕ) (v : Val) (place : Place)
-  (lives : a.0 < length acts) (open_at : IsOpen (top_of acts a) cells a x place) (room : length cells < MOST_VARS) where
+    (lives : a.0 < length acts) (open_at : IsOpen (top_of acts a) cells a x place) (room : length cells < MOST_VARS) where
   abbrev n : ℕ
   n = length cells
 
@@ -101,28 +101,28 @@ module _ (acts : List ActCell) (cells : List VarCell) (held : AreHeld acts cells
       let old = get_or cells k no_var_cell in
       wrote k j d (record old { left = Some n }) e there
       (λ same.
-          let is : slice_get cells k ≡ Some d = ap (slice_get cells) (sym same) ∙ e in
-          let old_is : old ≡ d = get_or_from_slice_get cells k d no_var_cell is in
-          record {
-            owner = ap (λ (c : VarCell). c.owner) old_is;
-            name = ap (λ (c : VarCell). c.name) old_is;
-            value = ap (λ (c : VarCell). c.value) old_is;
-            left = inr (sym (ap (option_and_then (λ (c : VarCell). c.left)) is) ∙ empty, refl);
-            right = inl (ap (λ (c : VarCell). c.right) old_is);
-          })
+      let is : slice_get cells k ≡ Some d = ap (slice_get cells) (sym same) ∙ e in
+      let old_is : old ≡ d = get_or_from_slice_get cells k d no_var_cell is in
+      record {
+        owner = ap (λ (c : VarCell). c.owner) old_is;
+        name = ap (λ (c : VarCell). c.name) old_is;
+        value = ap (λ (c : VarCell). c.value) old_is;
+        left = inr (sym (ap (option_and_then (λ (c : VarCell). c.left)) is) ∙ empty, refl);
+        right = inl (ap (λ (c : VarCell). c.right) old_is);
+      })
   linked_at (Right k) empty there j d e =
       let old = get_or cells k no_var_cell in
       wrote k j d (record old { right = Some n }) e there
       (λ same.
-          let is : slice_get cells k ≡ Some d = ap (slice_get cells) (sym same) ∙ e in
-          let old_is : old ≡ d = get_or_from_slice_get cells k d no_var_cell is in
-          record {
-            owner = ap (λ (c : VarCell). c.owner) old_is;
-            name = ap (λ (c : VarCell). c.name) old_is;
-            value = ap (λ (c : VarCell). c.value) old_is;
-            left = inl (ap (λ (c : VarCell). c.left) old_is);
-            right = inr (sym (ap (option_and_then (λ (c : VarCell). c.right)) is) ∙ empty, refl);
-          })
+      let is : slice_get cells k ≡ Some d = ap (slice_get cells) (sym same) ∙ e in
+      let old_is : old ≡ d = get_or_from_slice_get cells k d no_var_cell is in
+      record {
+        owner = ap (λ (c : VarCell). c.owner) old_is;
+        name = ap (λ (c : VarCell). c.name) old_is;
+        value = ap (λ (c : VarCell). c.value) old_is;
+        left = inl (ap (λ (c : VarCell). c.left) old_is);
+        right = inr (sym (ap (option_and_then (λ (c : VarCell). c.right)) is) ∙ empty, refl);
+      })
 
   topped_at : (p : Place) → link_at (top_of acts a) cells p ≡ None → (j : ℕ) (d : ActCell) → slice_get acts j ≡ Some d → (c : ActCell) × (slice_get (put_top acts a p n) j ≡ Some c) × ActGrows n d c
   topped_at Top empty j d e =
@@ -130,12 +130,15 @@ module _ (acts : List ActCell) (cells : List VarCell) (held : AreHeld acts cells
       let written : ActCell = record old { top = Some n } in
       ⊎_elim
       (λ same.
-          let is : slice_get acts a.0 ≡ Some d = ap (slice_get acts) (sym same) ∙ e in
-          let old_is : old ≡ d = get_or_from_slice_get acts a.0 d no_act_cell is in
-          (written, ap (slice_get (set acts a.0 written)) same ∙ get_set_same acts a.0 written lives, record {
-            parent = ap (λ (c : ActCell). c.parent) old_is;
-            top = inr (sym (ap (option_and_then (λ (c : ActCell). c.top)) is) ∙ empty, refl);
-          }))
+      let is : slice_get acts a.0 ≡ Some d = ap (slice_get acts) (sym same) ∙ e in
+      let old_is : old ≡ d = get_or_from_slice_get acts a.0 d no_act_cell is in (
+        written,
+        ap (slice_get (set acts a.0 written)) same ∙ get_set_same acts a.0 written lives,
+        record {
+          parent = ap (λ (c : ActCell). c.parent) old_is;
+          top = inr (sym (ap (option_and_then (λ (c : ActCell). c.top)) is) ∙ empty, refl);
+        },
+      ))
       (λ other. (d, get_set_other acts a.0 j written other ∙ e, record { parent = refl; top = inl refl }))
       (cases_eq j a.0)
   topped_at (Left k) empty j d e = (d, e, record { parent = refl; top = inl refl })
@@ -155,13 +158,13 @@ module _ (acts : List ActCell) (cells : List VarCell) (held : AreHeld acts cells
   var_back j c e =
       ⊎_elim
       (λ h.
-          let within : j < length cells = omega (arith, slice_get_within linked j c h, len_linked) in
-          let d = get_or cells j no_var_cell in
-          let is = slice_get-get_or cells j no_var_cell within in
-          let grown = var_grows j d is in
-          let one : Some grown.0 ≡ Some c = sym grown.1 ∙ h in
-          let same : grown.0 ≡ c = cc in
-          inl (d, is, subst (VarGrows n d) same grown.2))
+      let within : j < length cells = omega (arith, slice_get_within linked j c h, len_linked) in
+      let d = get_or cells j no_var_cell in
+      let is = slice_get-get_or cells j no_var_cell within in
+      let grown = var_grows j d is in
+      let one : Some grown.0 ≡ Some c = sym grown.1 ∙ h in
+      let same : grown.0 ≡ c = cc in
+      inl (d, is, subst (VarGrows n d) same grown.2))
       (λ h. inr (h.0 ∙ len_linked, h.1))
       (pushed linked j cell c e)
 
@@ -187,13 +190,16 @@ module _ (acts : List ActCell) (cells : List VarCell) (held : AreHeld acts cells
 
   extends : Extends cells new
   extends j d e =
-      let grown = old_at j d e in
-      (grown.0, grown.1, record {
-        owner = grown.2.owner;
-        name = grown.2.name;
-        left = stays n d.left grown.0.left grown.2.left;
-        right = stays n d.right grown.0.right grown.2.right;
-      })
+      let grown = old_at j d e in (
+        grown.0,
+        grown.1,
+        record {
+          owner = grown.2.owner;
+          name = grown.2.name;
+          left = stays n d.left grown.0.left grown.2.left;
+          right = stays n d.right grown.0.right grown.2.right;
+        },
+      )
 
   top_stays : (b : ActId) → Stays (top_of acts b) (top_of later b)
   top_stays b k e =
@@ -226,15 +232,15 @@ module _ (acts : List ActCell) (cells : List VarCell) (held : AreHeld acts cells
   new_found j c e =
       ⊎_elim
       (λ h.
-          let f : ActId → List ℕ → Option ℕ = λ o y. found (length new) new o y (digits y) (top_of later o) in
-          ap (λ o. f o c.name) h.2.owner ∙ ap (f h.0.owner) h.2.name
-          ∙ found_within (length cells) (length new) new h.0.owner h.0.name (digits h.0.name) (top_of later h.0.owner) j (omega (arith, len_new))
-          (found_extends (length cells) cells new h.0.owner h.0.name (digits h.0.name) (top_of acts h.0.owner) (top_of later h.0.owner) j extends (top_stays h.0.owner) (held.each_var j h.0 h.1)))
+      let f : ActId → List ℕ → Option ℕ = λ o y. found (length new) new o y (digits y) (top_of later o) in
+      ap (λ o. f o c.name) h.2.owner ∙ ap (f h.0.owner) h.2.name
+      ∙ found_within (length cells) (length new) new h.0.owner h.0.name (digits h.0.name) (top_of later h.0.owner) j (omega (arith, len_new))
+      (found_extends (length cells) cells new h.0.owner h.0.name (digits h.0.name) (top_of acts h.0.owner) (top_of later h.0.owner) j extends (top_stays h.0.owner) (held.each_var j h.0 h.1)))
       (λ h.
-          let f : VarCell → Option ℕ = λ d. found (length new) new d.owner d.name (digits d.name) (top_of later d.owner) in
-          ap f h.1
-          ∙ found_within (suc (after_place place)) (length new) new a x (digits x) (top_of later a) n (omega (arith, low_place place open_at.lives, len_new)) (open_at.leads (top_of later a) new n cell (top_stays a) extends leads new_at mine)
-          ∙ ap Some (sym h.0))
+      let f : VarCell → Option ℕ = λ d. found (length new) new d.owner d.name (digits d.name) (top_of later d.owner) in
+      ap f h.1
+      ∙ found_within (suc (after_place place)) (length new) new a x (digits x) (top_of later a) n (omega (arith, low_place place open_at.lives, len_new)) (open_at.leads (top_of later a) new n cell (top_stays a) extends leads new_at mine)
+      ∙ ap Some (sym h.0))
       (var_back j c e)
 
   -- Links.
@@ -253,12 +259,12 @@ module _ (acts : List ActCell) (cells : List VarCell) (held : AreHeld acts cells
   new_links j c e =
       ⊎_elim
       (λ h.
-          let old = held.links j h.0 h.1 in
-          let within = slice_get_within cells j h.0 h.1 in
-          record {
-            left = link_low (suc j) h.0.left c.left old.left (omega (arith, within)) h.2.left;
-            right = link_low (suc j) h.0.right c.right old.right (omega (arith, within)) h.2.right;
-          })
+      let old = held.links j h.0 h.1 in
+      let within = slice_get_within cells j h.0 h.1 in
+      record {
+        left = link_low (suc j) h.0.left c.left old.left (omega (arith, within)) h.2.left;
+        right = link_low (suc j) h.0.right c.right old.right (omega (arith, within)) h.2.right;
+      })
       (λ h. subst (HasLinks new j) (sym h.1) (no_links j))
       (var_back j c e)
 

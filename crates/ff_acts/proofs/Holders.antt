@@ -1,5 +1,5 @@
 -- Which activation holds a variable.
-use Rattle.std.proofs.Common.{◌≡◌, ℕ, zero, suc, ◌+◌, ◌<◌, ◌≤◌, ⊎_elim, Bool, true, false, cond, Option, Some, None, is_some, List, length, get_or, option_and_then, refl, sym, ap, subst, ◌∙◌, arith}
+use Rattle.std.proofs.Common.{◌≡◌, ℕ, zero, suc, ◌<◌, ⊎_elim, true, false, cond, Option, Some, None, is_some, List, length, get_or, option_and_then, refl, sym, ap, subst, ◌∙◌, arith}
 use Rattle.std.specs.List.{slice_get}
 use Rattle.std.specs.FinMap as finmap
 use Rattle.std.proofs.lemmas.Bool.{cases_lt}
@@ -14,7 +14,7 @@ use Rattle.ff_acts.specs.Digits.{digits}
 use Rattle.ff_acts.specs.Held.{found, top_of, seen, vars_in, AreHeld}
 use Rattle.ff_acts.specs.Stops.{IsVarAt, IsNearestAt}
 use Rattle.ff_acts.proofs.Ahead.{nowhere}
-use Rattle.ff_acts.proofs.Rows.{Has, got_has, has_got, owners}
+use Rattle.ff_acts.proofs.Rows.{got_has, has_got, owners}
 use Rattle.ff_acts.proofs.Seen.{length_seen, seen_at, vars_at}
 
 bind_same : {A B : Type 0} (f g : A → Option B) (o : Option A) → ((p : A) → o ≡ Some p → f p ≡ g p) → option_and_then f o ≡ option_and_then g o
@@ -33,8 +33,8 @@ module _ (acts : List ActCell) (cells : List VarCell) (held : AreHeld acts cells
       ⊎_elim
       (λ l. l)
       (λ past.
-          let none : top_of acts cell.owner ≡ None = ap (option_and_then (λ (act : ActCell). act.top)) (slice_get_past acts cell.owner.0 past) in
-          absurd (nowhere (length cells) cells cell.owner cell.name (digits cell.name) k (subst (λ l. found (length cells) cells cell.owner cell.name (digits cell.name) l ≡ Some k) none (held.each_var k cell at))))
+      let none : top_of acts cell.owner ≡ None = ap (option_and_then (λ (act : ActCell). act.top)) (slice_get_past acts cell.owner.0 past) in
+      absurd (nowhere (length cells) cells cell.owner cell.name (digits cell.name) k (subst (λ l. found (length cells) cells cell.owner cell.name (digits cell.name) l ≡ Some k) none (held.each_var k cell at))))
       (cases_lt cell.owner.0 (length acts))
 
   -- the value of a variable, by its activation and its name
@@ -69,11 +69,11 @@ module _ (acts : List ActCell) (cells : List VarCell) (held : AreHeld acts cells
       let d : ActCell = record { parent = None; top = None } in
       ⊎_elim
       (λ l.
-          let at = slice_get-get_or acts a.0 d l in
-          (held.each_act a.0 (get_or acts a.0 d) at).parent p (sym (parent_at a (get_or acts a.0 d) at) ∙ e))
+      let at = slice_get-get_or acts a.0 d l in
+      (held.each_act a.0 (get_or acts a.0 d) at).parent p (sym (parent_at a (get_or acts a.0 d) at) ∙ e))
       (λ past.
-          let none : None ≡ Some p = sym (ap (λ (is : Activation). is.parent) (get_or_past view a.0 no_act (omega (arith, past, length_seen acts cells)))) ∙ e in
-          cc)
+      let none : None ≡ Some p = sym (ap (λ (is : Activation). is.parent) (get_or_past view a.0 no_act (omega (arith, past, length_seen acts cells)))) ∙ e in
+      cc)
       (cases_lt a.0 (length acts))
 
   same_within : (m n : ℕ) (a : ActId) (x : List ℕ) → a.0 < m → a.0 < n → holder_within m view a x ≡ holder_within n view a x

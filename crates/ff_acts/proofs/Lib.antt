@@ -1,4 +1,5 @@
 pub mod Ahead
+pub mod Called
 pub mod Grown
 pub mod Holders
 pub mod Paths

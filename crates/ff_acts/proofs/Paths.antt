@@ -1,18 +1,14 @@
 -- A search for a variable: what it comes to it comes to in more steps, and in cells that extend
 -- these.
-use Rattle.std.proofs.Common.{◌≡◌, ℕ, zero, suc, ◌+◌, ◌/◌, ◌%◌, ◌<◌, ◌≤◌, ⊎_elim, Bool, true, false, cond, ◌==◌, ◌&&◌, Option, Some, None, List, length, bytes_eq, option_and_then, refl, sym, ap, subst, ◌∙◌, arith}
+use Rattle.std.proofs.Common.{◌≡◌, ℕ, zero, suc, ◌/◌, ◌%◌, ◌≤◌, ⊎_elim, Bool, true, false, cond, ◌==◌, ◌&&◌, Option, Some, List, bytes_eq, option_and_then, refl, ap, subst, ◌∙◌, arith}
 use Rattle.std.specs.List.{slice_get}
-use Rattle.std.specs.Option.{ForSome}
 use Rattle.std.proofs.lemmas.Bool.{cases_lt}
-use Rattle.std.proofs.lemmas.Option.{slice_get_within}
 use Rattle.ff_value.specs.declared.ids.ActId.{ActId}
-use Rattle.ff_acts.specs.declared.cells.ActCell.{ActCell}
 use Rattle.ff_acts.specs.declared.cells.VarCell.{VarCell}
 use Rattle.ff_acts.specs.declared.searching.Place.{Place}
 use Rattle.ff_acts.specs.declared.searching.Place.TheVariants.{Top, Left, Right}
-use Rattle.ff_acts.specs.Digits.{digits}
-use Rattle.ff_acts.specs.Held.{is_var, link_of, found, top_of, IsLink}
-use Rattle.ff_acts.specs.Stops.{LivesAt, link_at, after_place, Stays, CellStays, Extends, IsOpen}
+use Rattle.ff_acts.specs.Held.{is_var, link_of, found}
+use Rattle.ff_acts.specs.Stops.{link_at, Stays, CellStays, Extends}
 use Rattle.ff_acts.proofs.Places.{some_of}
 
 module _ (cells : List VarCell) (a : ActId) (x : List ℕ) where

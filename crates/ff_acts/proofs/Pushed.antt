@@ -1,11 +1,10 @@
 -- No activations, and an activation more.
-use Rattle.std.proofs.Common.{◌≡◌, ℕ, zero, suc, ◌+◌, ◌<◌, ◌≤◌, ⊎_elim, Option, Some, None, List, [], ◌∷◌, ◌++◌, length, option_and_then, refl, sym, ap, subst, ◌∙◌, arith}
+use Rattle.std.proofs.Common.{◌≡◌, ℕ, suc, ◌+◌, ◌<◌, ⊎_elim, Option, Some, None, List, [], ◌∷◌, ◌++◌, length, option_and_then, refl, sym, ap, subst, ◌∙◌, arith}
 use Rattle.std.specs.List.{slice_get}
 use Rattle.std.specs.Option.{ForSome}
 use Rattle.std.specs.Ordering.{nat_cmp}
 use Rattle.std.specs.Cmp.Lexicographic.{slice_cmp, nat_list_cmp_total}
 use Rattle.std.specs.FinMap as finmap
-use Rattle.std.proofs.lemmas.Option.{slice_get_within}
 use Rattle.std.proofs.lemmas.List.{length_push}
 use Rattle.std.proofs.lemmas.List.Sums.{sum_by_push}
 use Rattle.ff_value.specs.declared.ids.ActId.{ActId}
@@ -15,7 +14,7 @@ use Rattle.ff_machine.specs.Windows.{Activation, count_vars}
 use Rattle.ff_acts.specs.declared.cells.ActCell.{ActCell}
 use Rattle.ff_acts.specs.declared.cells.VarCell.{VarCell}
 use Rattle.ff_acts.specs.Digits.{digits}
-use Rattle.ff_acts.specs.Held.{top_of, vars_in, seen_from, seen, IsActCell, AreFound, AreHeld}
+use Rattle.ff_acts.specs.Held.{top_of, vars_in, seen_from, seen, IsActCell, AreHeld}
 use Rattle.ff_acts.specs.Stops.{Stays, Extends}
 use Rattle.ff_acts.proofs.Holders.{owner_lives}
 use Rattle.ff_acts.proofs.Paths.{found_extends}

@@ -1,22 +1,21 @@
 -- Another value of a variable: the cells with it are held, and the activations have it.
-use Rattle.std.proofs.Common.{◌≡◌, ◌≢◌, ℕ, suc, ◌<◌, ◌≤◌, ◌⊎◌, inl, inr, ⊎_elim, true, Option, Some, is_some, List, length, set, refl, sym, ap, subst, ◌∙◌, arith}
+use Rattle.std.proofs.Common.{◌≡◌, ◌≢◌, ℕ, suc, ◌<◌, ◌⊎◌, inl, inr, ⊎_elim, Option, Some, is_some, List, length, set, refl, sym, ap, subst, ◌∙◌, arith}
 use Rattle.std.specs.List.{slice_get}
-use Rattle.std.specs.FinMap as finmap
 use Rattle.std.proofs.lemmas.Bool.{cases_eq}
 use Rattle.std.proofs.lemmas.Option.{slice_get_within}
 use Rattle.std.proofs.lemmas.List.{length-set}
 use Rattle.ff_value.specs.declared.ids.ActId.{ActId}
 use Rattle.ff_value.specs.declared.value.Val.{Val}
-use Rattle.ff_machine.specs.Windows.{vars_of, set_var, count_vars}
+use Rattle.ff_machine.specs.Windows.{set_var, count_vars}
 use Rattle.ff_acts.specs.declared.cells.ActCell.{ActCell}
 use Rattle.ff_acts.specs.declared.cells.VarCell.{VarCell}
 use Rattle.ff_acts.specs.Digits.{digits}
-use Rattle.ff_acts.specs.Held.{found, top_of, seen, IsLink, HasLinks, IsActCell, AreFound, AreHeld}
+use Rattle.ff_acts.specs.Held.{found, top_of, seen, IsLink, AreFound, AreHeld}
 use Rattle.ff_acts.specs.Stops.{Extends}
 use Rattle.ff_acts.proofs.Holders.{owner_lives, got_at}
 use Rattle.ff_acts.proofs.Paths.{found_extends}
 use Rattle.ff_acts.proofs.Places.{get_set_same, get_set_other, written}
-use Rattle.ff_acts.proofs.Rows.{Has, Writes, sets}
+use Rattle.ff_acts.proofs.Rows.{Writes, sets}
 use Rattle.ff_acts.proofs.Seen.{seen_set, length_seen, count_old}
 
 -- the two differ in their values at most
@@ -70,14 +69,17 @@ module _ (acts : List ActCell) (cells : List VarCell) (held : AreHeld acts cells
   extends j d e =
       ⊎_elim
       (λ same.
-          let both : Some d ≡ Some cell = sym e ∙ ap (slice_get cells) same ∙ at in
-          let is : cell ≡ d = cc in
-          (now, ap (slice_get new) same ∙ new_at, record {
-            owner = ap (λ (c : VarCell). c.owner) is;
-            name = ap (λ (c : VarCell). c.name) is;
-            left = λ i h. ap (λ (c : VarCell). c.left) is ∙ h;
-            right = λ i h. ap (λ (c : VarCell). c.right) is ∙ h;
-          }))
+      let both : Some d ≡ Some cell = sym e ∙ ap (slice_get cells) same ∙ at in
+      let is : cell ≡ d = cc in (
+        now,
+        ap (slice_get new) same ∙ new_at,
+        record {
+          owner = ap (λ (c : VarCell). c.owner) is;
+          name = ap (λ (c : VarCell). c.name) is;
+          left = λ i h. ap (λ (c : VarCell). c.left) is ∙ h;
+          right = λ i h. ap (λ (c : VarCell). c.right) is ∙ h;
+        },
+      ))
       (λ other. (d, new_other j other ∙ e, record { owner = refl; name = refl; left = λ i h. h; right = λ i h. h }))
       (cases_eq j k)
 
@@ -101,9 +103,9 @@ module _ (acts : List ActCell) (cells : List VarCell) (held : AreHeld acts cells
         (new_from h.place h.cell h.at);
     on = λ b y u h other. ⊎_elim
         (λ same.
-            let both : Some h.cell ≡ Some cell = sym h.at ∙ ap (slice_get cells) same ∙ at in
-            let is : h.cell ≡ cell = cc in
-            absurd (other (sym h.owner ∙ ap (λ (c : VarCell). c.owner.0) is) (sym h.name ∙ ap (λ (c : VarCell). c.name) is)))
+        let both : Some h.cell ≡ Some cell = sym h.at ∙ ap (slice_get cells) same ∙ at in
+        let is : h.cell ≡ cell = cc in
+        absurd (other (sym h.owner ∙ ap (λ (c : VarCell). c.owner.0) is) (sym h.name ∙ ap (λ (c : VarCell). c.name) is)))
         (λ ne. record { place = h.place; cell = h.cell; at = new_other h.place ne ∙ h.at; owner = h.owner; name = h.name; value = h.value })
         (cases_eq h.place k);
   }

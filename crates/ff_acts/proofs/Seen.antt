@@ -1,11 +1,11 @@
 -- The activations that cells stand for, by their numbers.
-use Rattle.std.proofs.Common.{◌≡◌, ◌≢◌, ℕ, zero, suc, ◌+◌, ◌<◌, ◌≤◌, ⊎_elim, true, false, cond, Option, Some, None, List, [], ◌∷◌, ◌++◌, length, get_or, set, refl, sym, ap, subst, ◌∙◌, arith}
+use Rattle.std.proofs.Common.{◌≡◌, ℕ, zero, suc, ◌+◌, ◌<◌, ⊎_elim, true, false, cond, Some, None, List, [], ◌∷◌, length, get_or, set, refl, sym, ap, ◌∙◌, arith}
 use Rattle.std.specs.List.{slice_get}
 use Rattle.std.specs.Cmp.Lexicographic.{nat_list_cmp_total}
 use Rattle.std.specs.FinMap as finmap
-use Rattle.std.proofs.lemmas.Bool.{cases_lt, cases_eq}
-use Rattle.std.proofs.lemmas.Option.{slice_get_within, slice_get-get_or}
-use Rattle.std.proofs.lemmas.List.{length-set, get_or-set_same, get_or-set_other, get_or_past, ext_get_or}
+use Rattle.std.proofs.lemmas.Bool.{cases_eq}
+use Rattle.std.proofs.lemmas.Option.{slice_get-get_or}
+use Rattle.std.proofs.lemmas.List.{length-set, get_or-set_same, get_or-set_other, ext_get_or}
 use Rattle.std.proofs.lemmas.List.Sums.{sum_by-set}
 use Rattle.ff_value.specs.declared.ids.ActId.{ActId}
 use Rattle.ff_value.specs.declared.value.Val.{Val}
@@ -58,22 +58,22 @@ seen_set acts later cells new a x v len keep sets lives =
     let long : length old ≡ length acts = length_seen acts cells in
     ext_get_or no_act (seen later new) (set old a.0 changed) (length_seen later new ∙ len ∙ sym long ∙ sym (length-set old a.0 changed))
     (λ k below.
-        let within : k < length acts = omega (arith, length_seen later new) in
-        let is = there acts k within in
-        let then = keep k is.0 is.1 in
-        let now : get_or (seen later new) k no_act ≡ act_of k is.0 new = seen_at later new k then.0 then.1 ∙ ap (λ p. let act : Activation = record { parent = p; vars = vars_in new k } in act) then.2 in
-        let was : get_or old k no_act ≡ act_of k is.0 cells = seen_at acts cells k is.0 is.1 in
-        ⊎_elim
-        (λ same.
-            now
-            ∙ ap (λ m. let act : Activation = record { parent = is.0.parent; vars = m } in act) (ap (vars_in new) same ∙ sets.here)
-            ∙ sym (ap (λ m. get_or (set old a.0 changed) m no_act) same ∙ get_or-set_same old a.0 changed no_act (omega (arith, long))
-            ∙ ap (λ (act : Activation). let more : Activation = record act { vars = finmap.insert act.vars x v } in more) (ap (λ m. get_or old m no_act) (sym same) ∙ was ∙ ap (λ m. act_of m is.0 cells) same)))
-        (λ other.
-            now
-            ∙ ap (λ m. let act : Activation = record { parent = is.0.parent; vars = m } in act) (sets.elsewhere k other)
-            ∙ sym (get_or-set_other old a.0 k changed no_act other ∙ was))
-        (cases_eq k a.0))
+    let within : k < length acts = omega (arith, length_seen later new) in
+    let is = there acts k within in
+    let then = keep k is.0 is.1 in
+    let now : get_or (seen later new) k no_act ≡ act_of k is.0 new = seen_at later new k then.0 then.1 ∙ ap (λ p. let act : Activation = record { parent = p; vars = vars_in new k } in act) then.2 in
+    let was : get_or old k no_act ≡ act_of k is.0 cells = seen_at acts cells k is.0 is.1 in
+    ⊎_elim
+    (λ same.
+    now
+    ∙ ap (λ m. let act : Activation = record { parent = is.0.parent; vars = m } in act) (ap (vars_in new) same ∙ sets.here)
+    ∙ sym (ap (λ m. get_or (set old a.0 changed) m no_act) same ∙ get_or-set_same old a.0 changed no_act (omega (arith, long))
+    ∙ ap (λ (act : Activation). let more : Activation = record act { vars = finmap.insert act.vars x v } in more) (ap (λ m. get_or old m no_act) (sym same) ∙ was ∙ ap (λ m. act_of m is.0 cells) same)))
+    (λ other.
+    now
+    ∙ ap (λ m. let act : Activation = record { parent = is.0.parent; vars = m } in act) (sets.elsewhere k other)
+    ∙ sym (get_or-set_other old a.0 k changed no_act other ∙ was))
+    (cases_eq k a.0))
   where
     there : (acts : List ActCell) (k : ℕ) → k < length acts → (act : ActCell) × (slice_get acts k ≡ Some act)
     there acts k h = (get_or acts k (record { parent = None; top = None }), slice_get-get_or acts k (record { parent = None; top = None }) h)

@@ -1,5 +1,5 @@
 -- Where a search for a variable ends, and where a new one is linked.
-use Rattle.std.specs.Prelude.{◌≡◌, ℕ, suc, ◌+◌, ◌<◌, ◌≤◌, true, Option, Some, None, List, [], length, slice_get, slice_set, slice_index_or, option_and_then}
+use Rattle.std.specs.Prelude.{◌≡◌, ℕ, suc, ◌<◌, true, Option, Some, None, List, [], length, slice_get, slice_set, slice_index_or, option_and_then}
 use Rattle.ff_value.specs.declared.ids.ActId.{ActId}
 use Rattle.ff_value.specs.declared.value.Val.TheVariants as val
 use Rattle.ff_machine.specs.Windows.{holder}
@@ -71,7 +71,7 @@ pub record IsOpen (top : Option ℕ) (cells : List VarCell) (a : ActId) (x : Lis
   pub lives : LivesAt cells place
   pub none : (steps i : ℕ) → found steps cells a x (digits x) top ≡ Some i → ⊥
   pub leads : (first : Option ℕ) (new : List VarCell) (i : ℕ) (cell : VarCell) → Stays top first → Extends cells new → link_at first new place ≡ Some i → slice_get new i ≡ Some cell → is_var a x cell ≡ true
-    → found (suc (after_place place)) new a x (digits x) first ≡ Some i
+      → found (suc (after_place place)) new a x (digits x) first ≡ Some i
 
 -- the variable of that name of the activation stands there
 pub record IsVarAt (cells : List VarCell) (a : ActId) (x : List ℕ) (k : ℕ) : Type 0 where

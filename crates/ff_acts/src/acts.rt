@@ -124,7 +124,10 @@ impl Acts {
         }
         self.push_act(Some(parent), copies)?;
         for i in 0..names.len() {
-            self.declare(ActId(number), &names[i], &values[i], copies)?;
+            // There is room for it, so that it is refused only for want of memory.
+            let Ok(()) = self.declare(ActId(number), &names[i], &values[i], copies) else {
+                return Err(Fail::NoMemory);
+            };
         }
         Ok(ActId(number))
     }

@@ -16,6 +16,5 @@ mod acts;
 mod cells;
 mod growing;
 mod searching;
-pub mod probe;
 
 pub use acts::Acts;

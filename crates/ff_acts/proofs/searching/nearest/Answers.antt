@@ -1,4 +1,4 @@
-use Rattle.std.proofs.Common.{Some, sym, ap, ◌∙◌, refl, arith}
+use Rattle.std.proofs.Common.{Some, sym, ap, ◌∙◌, arith}
 use Rattle.ff_acts.specs.Held.{top_of}
 use Rattle.ff_acts.specs.Stops.{IsOpen}
 use Rattle.ff_acts.proofs.Holders.{there, absent, low, parent_at, held_here, held_above, held_nowhere}

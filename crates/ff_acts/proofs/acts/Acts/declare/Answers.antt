@@ -1,8 +1,7 @@
-use Rattle.std.proofs.Common.{◌≡◌, ◌<◌, true, false, cond, nat_lt, Some, None, List, ◌∷◌, ◌++◌, [], length, sym, ap, subst, ◌∙◌, arith}
+use Rattle.std.proofs.Common.{◌≡◌, ◌<◌, true, false, cond, nat_lt, List, ◌∷◌, ◌++◌, [], length, sym, ap, subst, ◌∙◌, arith}
 use Rattle.std.proofs.lemmas.Bool.Decides.{nat_tests}
 use Rattle.std.proofs.lemmas.Option.{slice_get_within}
 use Rattle.std.specs.FinMap as finmap
-use Rattle.ff_value.specs.declared.fault.Fault.TheVariants as fault
 use Rattle.ff_machine.specs.declared.limits.TheConstants.{MOST_VARS}
 use Rattle.ff_machine.specs.Faults.{limit_unless}
 use Rattle.ff_machine.specs.Windows as windows
@@ -10,7 +9,7 @@ use Rattle.ff_acts.specs.declared.cells.ActCell.{ActCell}
 use Rattle.ff_acts.specs.declared.cells.VarCell.{VarCell}
 use Rattle.ff_acts.specs.Held.{top_of, seen, AreHeld}
 use Rattle.ff_acts.specs.Stops.{IsVarAt, IsOpen, put_top, put_link}
-use Rattle.ff_acts.proofs.Grown.{is_new, grown_held, grown_seen}
+use Rattle.ff_acts.proofs.Grown.{grown_held, grown_seen}
 use Rattle.ff_acts.proofs.Holders.{there, absent}
 use Rattle.ff_acts.proofs.Rewritten.{rewritten_held, rewritten_seen}
 use Rattle.ff_acts.proofs.Seen.{lives_in}
