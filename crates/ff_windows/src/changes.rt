@@ -34,7 +34,7 @@ impl Windows {
         ensures answer { Answers (w.page_fault self.old) result }
         ensures kept { OnFault result (self.new ≡ self.old) }
         ensures later { copies.old ≤ copies.new }
-        ensures copies { copies.new ≤ copies.old + 31 }
+        ensures copies { copies.new ≤ copies.old + 30 }
     {
         if !self.room() {
             return Err(Fail::Fault(Fault::Limit));

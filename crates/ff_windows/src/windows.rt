@@ -199,7 +199,7 @@ impl Windows {
         requires keeps { AreWindows (record self.old { pages = self.old.pages ++ cell ∷ []; acts = self.old.acts ++ w.no_act ∷ [] }) }
         ensures done { OnOk result (self.new ≡ record self.old { pages = self.old.pages ++ cell ∷ []; acts = self.old.acts ++ w.no_act ∷ [] }) }
         ensures later { copies.old ≤ copies.new }
-        ensures copies { copies.new ≤ copies.old + 31 }
+        ensures copies { copies.new ≤ copies.old + 30 }
     {
         let Ok(()) = self.pages.push(cell, copies) else {
             return Err(AllocError);
