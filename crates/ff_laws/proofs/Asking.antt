@@ -18,7 +18,7 @@ use Rattle.ff_machine.specs.References.{Made, made, DstRefers, RequestsRefer}
 use Rattle.ff_machine.specs.Valid.{IsStores}
 use Rattle.ff_laws.specs.Keeps.{Keeps}
 use Rattle.ff_laws.proofs.Growing.{as_many}
-use Rattle.ff_laws.proofs.Acts.{same_name}
+use Rattle.ff_machine.proofs.ActChanges.{same_name}
 use Rattle.ff_laws.proofs.Sums.{value_or, sum_values, sum_put}
 
 -- a pending request refers to what was made

@@ -135,18 +135,6 @@ module _ (m k : Made) (grows : Grows m k) where
     touched = touched_refer_grow s.touched h.touched;
   }
 
--- a page by itself is valid where there are more activations
-pub page_grows : (acts more : ℕ) → acts ≤ more → (page : Page) → IsPage acts page → IsPage more page
-page_grows acts more le page h = record { url = h.url; act = omega (arith, h.act, le); queue = h.queue; few_slots = h.few_slots }
-
-opener_grows : (wins more : ℕ) → wins ≤ more → (window : Window) → ForSome window.opener (λ w. w.0 < wins) → ForSome window.opener (λ w. w.0 < more)
-opener_grows wins more le window h = λ w e. let there : w.0 < wins = h w e in omega (arith, there, le)
-
--- a window by itself is valid where there are more windows and pages
-pub window_grows : (wins more_wins pages more_pages : ℕ) → wins ≤ more_wins → pages ≤ more_pages → (window : Window) → IsWindow wins pages window → IsWindow more_wins more_pages window
-window_grows wins more_wins pages more_pages le le_pages window h =
-    record { name = h.name; opener = opener_grows wins more_wins le window h.opener; page = omega (arith, h.page, le_pages) }
-
 -- a task is valid in stores where at least as much was made and its page has the same activation
 pub task_grows : (s t : Stores) → Grows (made s) (made t) → (task : Task) → (page_at t.windows task.page).act ≡ (page_at s.windows task.page).act → IsTask s task → IsTask t task
 task_grows s t grows task same h = record {

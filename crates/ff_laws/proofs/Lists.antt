@@ -1,22 +1,7 @@
--- Items by number in lists that were changed, and tests of some of a list.
-use Rattle.std.proofs.Common.{◌≡◌, ℕ, zero, suc, Bool, true, false, cond, List, [], ◌∷◌, ◌++◌, length, get_or, set, filter, refl}
+-- Tests of some of a list.
+use Rattle.std.proofs.Common.{◌≡◌, Bool, true, false, cond, List, [], ◌∷◌, ◌++◌, filter, refl}
 use Rattle.std.proofs.lemmas.Bool.{or_parts, or_from}
 use Rattle.std.specs.List.{list_any}
-
--- the item at a number after another item was set at any number
-pub at_set : {X : Type 0} (P : ℕ → X → Type 0) (xs : List X) (i j : ℕ) (y d : X) → P i y → P j (get_or xs j d) → P j (get_or (set xs i y) j d)
-at_set P [] i j y d new old = old
-at_set P (x ∷ xs) zero zero y d new old = new
-at_set P (x ∷ xs) zero (suc j) y d new old = old
-at_set P (x ∷ xs) (suc i) zero y d new old = old
-at_set P (x ∷ xs) (suc i) (suc j) y d new old = at_set (λ k. P (suc k)) xs i j y d new old
-
--- the item at a number after one was put last
-pub at_pushed : {X : Type 0} (P : ℕ → X → Type 0) (xs : List X) (j : ℕ) (y d : X) → P (length xs) y → P j (get_or xs j d) → P j (get_or (xs ++ y ∷ []) j d)
-at_pushed P [] zero y d new old = new
-at_pushed P [] (suc j) y d new old = old
-at_pushed P (x ∷ xs) zero y d new old = old
-at_pushed P (x ∷ xs) (suc j) y d new old = at_pushed (λ k. P (suc k)) xs j y d new old
 
 -- no item passes a test that passes less
 pub any_less : {X : Type 0} (p q : X → Bool) → ((x : X) → p x ≡ false → q x ≡ false) → (xs : List X) → list_any p xs ≡ false → list_any q xs ≡ false

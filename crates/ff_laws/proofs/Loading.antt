@@ -27,8 +27,9 @@ use Rattle.ff_machine.specs.Stores.{Stores}
 use Rattle.ff_machine.specs.Alone.{IsWindow, AreOpen}
 use Rattle.ff_machine.specs.Valid.{IsStores}
 use Rattle.ff_laws.specs.Keeps.{Keeps, KeepsIfMade}
-use Rattle.ff_laws.proofs.Growing.{window_grows}
-use Rattle.ff_laws.proofs.Lists.{at_set}
+use Rattle.ff_machine.proofs.Lists.{at_set}
+use Rattle.ff_machine.proofs.Opened.{one_opened}
+use Rattle.ff_machine.proofs.WindowChanges.{windows_grow, still_own, at_own}
 use Rattle.ff_laws.proofs.Asking.{sent_valid}
 use Rattle.ff_laws.proofs.Starting.{kept, kept_twice, start_valid}
 use Rattle.ff_laws.proofs.Paging.{page_made, old_page, next_is}
@@ -52,19 +53,12 @@ module _ (s : Stores) (u : Url) (docs : List Doc) (valid : IsStores s) (spelled 
   pages_more : length pages ≡ length s.windows.pages + 1
   pages_more = length-append s.windows.pages (new ∷ [])
 
-  -- an old window still shows a page of its own
-  still_own : (v : WinId) → v.0 < length s.windows.windows → (nth_page pages (nth_window s.windows.windows v).page).win ≡ nth_win v.0
-  still_own v lt =
-      let is : IsWindow (length s.windows.windows) (length s.windows.pages) (nth_window s.windows.windows v) = valid.windows.windows v.0 no_window lt in
-      ap (λ (x : Page). x.win) (old_page s w u docs valid spelled docs_spelled room s.windows.windows s.windows.opened (nth_window s.windows.windows v).page is.page) ∙ valid.windows.own.own v lt
-
   new_own : (nth_page pages (windows.next_page s.windows)).win ≡ w
   new_own = ap (λ (x : Page). x.win) (next_is s w u docs valid spelled docs_spelled room s.windows.windows s.windows.opened)
 
   wider : (wins : ℕ) → length s.windows.windows ≤ wins → All (IsWindow wins (length pages)) s.windows.windows
   wider wins le =
-      All-weaker (IsWindow (length s.windows.windows) (length s.windows.pages)) (IsWindow wins (length pages))
-      (window_grows (length s.windows.windows) wins (length s.windows.pages) (length pages) le (omega (arith, pages_more))) s.windows.windows valid.windows.windows
+      windows_grow (length s.windows.windows) wins (length s.windows.pages) (length pages) le (omega (arith, pages_more)) s.windows.windows valid.windows.windows
 
   -- a page that a window shows keeps stores valid
   shown_valid : w.0 < length s.windows.windows → Keeps s (stores.with_shown_page s w u docs)
@@ -79,7 +73,7 @@ module _ (s : Stores) (u : Url) (docs : List Doc) (valid : IsStores s) (spelled 
       (record { name = was.name; opener = λ o e. let there = was.opener o e in omega (arith, there, size); page = omega (arith, pages_more) }) (wider (length wins) le))
       (subst (λ (n : ℕ). AreOpen n s.windows.opened) (sym size) valid.windows.opened)
       (record {
-        own = λ v lt. at_set (λ j (x : Window). j < length s.windows.windows → (nth_page pages x.page).win ≡ nth_win j) s.windows.windows w.0 v.0 shows no_window (λ h. new_own) (λ h. still_own v h) (omega (arith, lt, size));
+        own = λ v lt. at_set (λ j (x : Window). j < length s.windows.windows → (nth_page pages x.page).win ≡ nth_win j) s.windows.windows w.0 v.0 shows no_window (λ h. new_own) (λ h. still_own s.windows new valid.windows v h) (omega (arith, lt, size));
         fewer = omega (arith, size, pages_more, valid.windows.own.fewer);
       })
 
@@ -89,24 +83,6 @@ module _ (s : Stores) (u : Url) (docs : List Doc) (valid : IsStores s) (spelled 
       let t = stores.with_shown_page s w u docs in
       let shown = shown_valid lives in
       kept_twice s t (stores.loaded s w u docs).after shown (start_valid (windows.next_page s.windows) (nodes.next_node s.nodes) t shown.stores (omega (arith, pages_more)))
-
-unused : (n : ℕ) (ws : List WinId) → All (λ w. w.0 < n) ws → list_any (nat_eq n) (map (λ w. w.0) ws) ≡ false
-unused n [] h = refl
-unused n (w ∷ ws) h =
-    let less : w.0 < n = All-head (λ v. v.0 < n) w ws h in
-    or_from (eqb n w.0) (list_any (nat_eq n) (map (λ v. v.0) ws)) (ne_eqb n w.0 (λ e. omega (arith, e, less))) (unused n ws (All-tail (λ v. v.0 < n) w ws h))
-
-numbers_pushed : (ws : List WinId) (w : WinId) → map (λ v. v.0) (ws ++ w ∷ []) ≡ map (λ v. v.0) ws ++ w.0 ∷ []
-numbers_pushed [] w = refl
-numbers_pushed (v ∷ ws) w = ap (λ (ns : List ℕ). v.0 ∷ ns) (numbers_pushed ws w)
-
-at_own : (ws : List Window) (v : WinId) (win_of : Window → WinId) (opening : Window) → v.0 < length ws + 1 → (v.0 < length ws → win_of (nth_window ws v) ≡ nth_win v.0) → win_of opening ≡ nth_win (length ws)
-    → win_of (nth_window (ws ++ opening ∷ []) v) ≡ v
-at_own ws v win_of opening lt old new =
-    ⊎_elim
-    (λ l. ap win_of (get_or_append_left ws (opening ∷ []) no_window v.0 l) ∙ old l)
-    (λ l. let here : length ws ≡ v.0 = omega (arith, l, lt) in ap win_of (get_or_push ws opening no_window v.0 here) ∙ new ∙ ap nth_win here)
-    (cases_lt v.0 (length ws))
 
 -- a window that opens with a blank page keeps stores valid
 pub opened_valid : (s : Stores) (name : Option (List ℕ)) (opener : Option WinId) → IsStores s → ForSome name IsUtf8 → ForSome opener (λ w. w.0 < length s.windows.windows) → stores.has_window_room s ≡ true
@@ -125,15 +101,10 @@ opened_valid s name opener valid named by room =
     page_made s w url.Blank [] valid tt tt rooms.1 wins (s.windows.opened ++ w ∷ []) (omega (arith, size)) le
     (All-push (IsWindow (length wins) (length all)) s.windows.windows opening (wider s url.Blank [] valid tt tt rooms.1 w (length wins) le)
     (record { name = named; opener = λ o e. let there = by o e in omega (arith, there, size); page = omega (arith, more) }))
-    (record {
-      there = All-push (λ v. v.0 < length wins) s.windows.opened w (All-weaker (λ v. v.0 < length s.windows.windows) (λ v. v.0 < length wins) (λ v h. omega (arith, h, size)) s.windows.opened valid.windows.opened.there) (omega (arith, size));
-      differ = subst (IsDistinct nat_eq) (sym (numbers_pushed s.windows.opened w))
-          (IsDistinct-push nat_eq_equiv (map (λ v. v.0) s.windows.opened) w.0 valid.windows.opened.differ (unused w.0 s.windows.opened valid.windows.opened.there));
-      few = omega (arith, few, length-append s.windows.opened (w ∷ []));
-    })
+    (one_opened (length s.windows.windows) (length wins) s.windows.opened w refl size valid.windows.opened few)
     (record {
       own = λ v lt.
-          at_own s.windows.windows v (λ (x : Window). (nth_page all x.page).win) opening (omega (arith, lt, size)) (λ h. still_own s url.Blank [] valid tt tt rooms.1 w v h) (new_own s url.Blank [] valid tt tt rooms.1 w);
+          at_own s.windows.windows v (λ (x : Window). (nth_page all x.page).win) opening (omega (arith, lt, size)) (λ h. still_own s.windows (new s url.Blank [] valid tt tt rooms.1 w) valid.windows v h) (new_own s url.Blank [] valid tt tt rooms.1 w);
       fewer = omega (arith, size, more, valid.windows.own.fewer);
     })
 

@@ -18,7 +18,7 @@ use Rattle.ff_machine.specs.References.{Made, Grows, made, ShapeRefers, NodeRefe
 use Rattle.ff_machine.specs.Valid.{IsStores, AreRooted}
 use Rattle.ff_laws.specs.Keeps.{Keeps}
 use Rattle.ff_laws.proofs.Growing as growing
-use Rattle.ff_laws.proofs.Lists.{at_set}
+use Rattle.ff_machine.proofs.Lists.{at_set}
 use Rattle.ff_laws.proofs.Sums.{if_so}
 
 -- Nodes with the same links.

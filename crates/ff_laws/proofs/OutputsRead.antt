@@ -34,7 +34,7 @@ use Rattle.ff_machine.specs.Stores as stores
 use Rattle.ff_machine.specs.Stores.{Stores}
 use Rattle.ff_machine.specs.Alone.{IsShape, IsNode, IsJar}
 use Rattle.ff_machine.specs.Valid.{IsStores}
-use Rattle.ff_laws.proofs.Acts.{same_name}
+use Rattle.ff_machine.proofs.ActChanges.{same_name}
 use Rattle.ff_laws.proofs.Cookies.{cookie_total}
 use Rattle.ff_laws.proofs.Simple.{at_any}
 

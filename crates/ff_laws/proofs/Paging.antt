@@ -33,7 +33,9 @@ use Rattle.ff_machine.specs.References.{Made, Grows, made, ShapeRefers, PageRefe
 use Rattle.ff_machine.specs.Valid.{IsStores}
 use Rattle.ff_laws.specs.Keeps.{Keeps}
 use Rattle.ff_laws.proofs.Growing as growing
-use Rattle.ff_laws.proofs.Lists.{at_pushed}
+use Rattle.ff_machine.proofs.Lists.{at_pushed}
+use Rattle.ff_machine.proofs.Queues.{no_queue}
+use Rattle.ff_machine.proofs.WindowChanges.{page_pushed}
 use Rattle.ff_machine.proofs.LaidDocs.{IsGood, HasGood, all_good, doc_good}
 use Rattle.ff_machine.proofs.MadeTrees.{page_made as page_nodes, page_refers}
 use Rattle.ff_laws.proofs.Making.{more_started, old_root, no_page_shape}
@@ -42,16 +44,9 @@ use Rattle.ff_laws.proofs.Simple.{at_any}
 none_some : {A : Type 0} {x : A} → None ≡ Some x → ⊥
 none_some e = cc
 
--- an activation without parent and variables is valid, and refers to nothing
-no_act_valid : (n : ℕ) → IsAct n no_act
-no_act_valid n = record { parent = λ p e. cc; vars = λ x v e. absurd (none_some (sym (finmap.get-empty (slice_cmp nat_cmp) x) ∙ e)) }
-
+-- an activation without parent and variables refers to nothing
 no_act_refers : (m : Made) → ActRefers m no_act
 no_act_refers m x v e = absurd (none_some (sym (finmap.get-empty (slice_cmp nat_cmp) x) ∙ e))
-
-no_queue : IsQueue 0 []
-unfolding IsDistinct
-no_queue = record { entries = All-nil (IsEntry 0); differ = tt }
 
 -- well spelled documents are spelled
 pub all_spelled : (docs : List Doc) → AllByRecursion IsWellSpelledDoc docs → AllByRecursion IsSpelledDoc docs
@@ -179,30 +174,11 @@ module _ (s : Stores) (w : WinId) (u : Url) (docs : List Doc) (valid : IsStores 
       let grows = grows_by le in
       let refer = growing.stores_refer_grow (made s) (made paged) grows s valid.refer in
       let rooms = and_parts _ _ room in
-      let page_room = and_parts _ _ rooms.0 in
-      let few_pages : length s.windows.pages < MOST_PAGES = ltb-true (length s.windows.pages) MOST_PAGES page_room.0 in
-      let few_acts : length s.windows.acts < MOST_ACTS = ltb-true (length s.windows.acts) MOST_ACTS page_room.1 in
       let more = more_started s.nodes (root ∷ rest) in
       record {
         stores = record {
           nodes = page_nodes (made paged) env env_made s.nodes valid.nodes page page_there docs (all_spelled docs docs_spelled) (all_shallow docs docs_spelled) rooms.1;
-          windows = record {
-            windows = are;
-            opened = opened_are;
-            pages = record {
-              each = subst (λ (n : ℕ). All (IsPage n) pages) (sym acts_more) (All-push (IsPage (length s.windows.acts + 1)) s.windows.pages new
-                  (All-weaker (IsPage (length s.windows.acts)) (IsPage (length s.windows.acts + 1)) (growing.page_grows (length s.windows.acts) (length s.windows.acts + 1) (omega arith)) s.windows.pages valid.windows.pages.each)
-                  (record { url = spelled; act = omega arith; queue = no_queue; few_slots = omega arith }));
-              few = omega (arith, pages_more, few_pages);
-              few_entries = omega (arith, sum_by_push (λ (x : Page). length x.queue) s.windows.pages new, valid.windows.pages.few_entries);
-            };
-            own = own;
-            acts = record {
-              each = λ a. at_pushed IsAct s.windows.acts a.0 no_act no_act (no_act_valid (length s.windows.acts)) (valid.windows.acts.each a);
-              few = omega (arith, acts_more, few_acts);
-              few_vars = omega (arith, sum_by_push (λ (act : Activation). finmap.len act.vars) s.windows.acts no_act, finmap.len-empty (slice_cmp nat_cmp) Val, valid.windows.acts.few_vars);
-            };
-          };
+          windows = page_pushed s.windows new wins opened valid.windows rooms.0 (record { url = spelled; act = omega arith; queue = no_queue; few_slots = omega arith }) refl are opened_are own;
           jar = valid.jar;
           requests = valid.requests;
           refer = record {

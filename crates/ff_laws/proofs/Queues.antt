@@ -28,7 +28,8 @@ use Rattle.ff_machine.specs.Valid.{IsStores, count_started}
 use Rattle.ff_laws.specs.Keeps.{Keeps}
 use Rattle.ff_laws.specs.Later.{IsSamePage}
 use Rattle.ff_laws.proofs.Growing as growing
-use Rattle.ff_laws.proofs.Lists.{at_set}
+use Rattle.ff_machine.proofs.Lists.{at_set}
+use Rattle.ff_machine.proofs.WindowChanges.{page_set}
 
 -- what a changed page has to keep
 pub record IsQueued (s : Stores) (p : PageId) (page : Page) : Type 0 where
@@ -60,28 +61,14 @@ page_changed s p page valid lives is =
     record {
       stores = record {
         nodes = valid.nodes;
-        windows = record {
-          windows = All-weaker (IsWindow (length s.windows.windows) (length pages)) (IsWindow (length s.windows.windows) (length (set pages p.0 page)))
-              (growing.window_grows (length s.windows.windows) (length s.windows.windows) (length pages) (length (set pages p.0 page)) (omega arith) (omega (arith, size))) s.windows.windows valid.windows.windows;
-          opened = valid.windows.opened;
-          pages = record {
-            each = All-set (IsPage (length s.windows.acts)) pages p.0 page (record {
-              url = subst IsWellSpelled (sym is.same.url) was.url;
-              act = subst (λ (a : ActId). a.0 < length s.windows.acts) (sym is.same.act) was.act;
-              queue = is.queue;
-              few_slots = omega (arith, is.slots, valid.queued.slots, few, valid.nodes.few, least);
-            }) valid.windows.pages.each;
-            few = omega (arith, size, valid.windows.pages.few);
-            few_entries = omega (arith, queues, is.entries, few, valid.nodes.few);
-          };
-          own = record {
-            own = λ w lt.
-                let shown = windows.window_at s.windows w in
-                at_set (λ j (x : Page). (get_or pages j no_page).win ≡ w → x.win ≡ w) pages p.0 shown.page.0 page no_page (λ e. is.same.win ∙ e) (λ e. e) (valid.windows.own.own w lt);
-            fewer = omega (arith, size, valid.windows.own.fewer);
-          };
-          acts = valid.windows.acts;
-        };
+        windows = page_set s.windows p page valid.windows lives (record {
+          url = subst IsWellSpelled (sym is.same.url) was.url;
+          act = subst (λ (a : ActId). a.0 < length s.windows.acts) (sym is.same.act) was.act;
+          win = is.same.win;
+          queue = is.queue;
+          few_slots = omega (arith, is.slots, valid.queued.slots, few, valid.nodes.few, least);
+          few_entries = omega (arith, is.entries, few, valid.nodes.few);
+        });
         jar = valid.jar;
         requests = valid.requests;
         refer = record {
@@ -104,40 +91,3 @@ page_changed s p page valid lives is =
     } where
       same_root : (q : PageId) → (nth_page (set s.windows.pages p.0 page) q).root ≡ (nth_page s.windows.pages q).root
       same_root q = at_set (λ j (x : Page). x.root ≡ (get_or s.windows.pages j no_page).root) s.windows.pages p.0 q.0 page no_page is.same.root refl
-
--- Queues.
-
-unused : (slot : ℕ) (queue : List Entry) → All (IsEntry slot) queue → list_any (nat_eq slot) (filter_map waiting queue) ≡ false
-unused slot [] h = refl
-unused slot (Ready body ∷ queue) h = unused slot queue (All-tail (IsEntry slot) (Ready body) queue h)
-unused slot (Wait k ∷ queue) h =
-    let less : k < slot = All-head (IsEntry slot) (Wait k) queue h in
-    or_from (eqb slot k) (list_any (nat_eq slot) (filter_map waiting queue)) (ne_eqb slot k (λ e. omega (arith, e, less))) (unused slot queue (All-tail (IsEntry slot) (Wait k) queue h))
-
-waiting_pushed : (queue : List Entry) (slot : ℕ) → filter_map waiting (queue ++ Wait slot ∷ []) ≡ filter_map waiting queue ++ slot ∷ []
-waiting_pushed [] slot = refl
-waiting_pushed (Ready body ∷ queue) slot = waiting_pushed queue slot
-waiting_pushed (Wait k ∷ queue) slot = ap (λ (ks : List ℕ). k ∷ ks) (waiting_pushed queue slot)
-
-ready_pushed : (queue : List Entry) (body : Expr) → filter_map waiting (queue ++ Ready body ∷ []) ≡ filter_map waiting queue
-ready_pushed [] body = refl
-ready_pushed (Ready b ∷ queue) body = ready_pushed queue body
-ready_pushed (Wait k ∷ queue) body = ap (λ (ks : List ℕ). k ∷ ks) (ready_pushed queue body)
-
-entry_later : (next : ℕ) (entry : Entry) → IsEntry next entry → IsEntry (suc next) entry
-entry_later next (Ready body) h = h
-entry_later next (Wait slot) h = omega (arith, h)
-
--- a script more, which may run
-pub with_ready : (next : ℕ) (queue : List Entry) (body : Expr) → IsQueue next queue → IsWellSpelledExpr body → IsQueue next (queue ++ Ready body ∷ [])
-with_ready next queue body is spelled = record {
-  entries = All-push (IsEntry next) queue (Ready body) is.entries spelled;
-  differ = subst (IsDistinct nat_eq) (sym (ready_pushed queue body)) is.differ;
-}
-
--- a waiting slot more, of the next number
-pub with_wait : (next : ℕ) (queue : List Entry) → IsQueue next queue → IsQueue (suc next) (queue ++ Wait next ∷ [])
-with_wait next queue is = record {
-  entries = All-push (IsEntry (suc next)) queue (Wait next) (All-weaker (IsEntry next) (IsEntry (suc next)) (entry_later next) queue is.entries) (omega arith);
-  differ = subst (IsDistinct nat_eq) (sym (waiting_pushed queue next)) (IsDistinct-push nat_eq_equiv (filter_map waiting queue) next is.differ (unused next queue is.entries));
-}

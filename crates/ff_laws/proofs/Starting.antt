@@ -36,11 +36,12 @@ use Rattle.ff_machine.specs.References.{made}
 use Rattle.ff_machine.specs.Valid.{IsStores, count_started}
 use Rattle.ff_laws.specs.Keeps.{Keeps}
 use Rattle.ff_laws.proofs.Growing.{as_many, grown}
-use Rattle.ff_laws.proofs.Lists.{at_set}
+use Rattle.ff_machine.proofs.Lists.{at_set}
 use Rattle.ff_laws.proofs.Sums.{if_so}
 use Rattle.ff_laws.proofs.Asking.{sent_valid}
 use Rattle.ff_laws.proofs.NodeChanges.{started_valid}
-use Rattle.ff_laws.proofs.Queues.{page_changed, with_ready, with_wait}
+use Rattle.ff_machine.proofs.Queues.{with_ready, with_wait}
+use Rattle.ff_laws.proofs.Queues.{page_changed}
 use Rattle.ff_laws.proofs.Walks.{times, scripts_once}
 
 -- stores that are kept twice

@@ -19,7 +19,7 @@ use Rattle.ff_machine.specs.Alone.{IsHandler, IsNode}
 use Rattle.ff_machine.specs.References.{made, CodeRefers, NodeRefers}
 use Rattle.ff_machine.specs.Valid.{IsCode, IsStores}
 use Rattle.ff_laws.specs.Keeps.{Keeps}
-use Rattle.ff_laws.proofs.Acts.{within}
+use Rattle.ff_machine.proofs.ActChanges.{within}
 use Rattle.ff_laws.proofs.Simple.{weighed_valid, touched_changed, touched_at_refers}
 use Rattle.ff_laws.proofs.NodeChanges.{like_itself, node_changed, text_set_valid}
 

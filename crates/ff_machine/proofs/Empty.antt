@@ -7,17 +7,17 @@ use Rattle.std.specs.Cmp.Lexicographic.{slice_cmp}
 use Rattle.std.specs.Ordering.{nat_cmp}
 use Rattle.std.specs.FinMap as finmap
 use Rattle.std.specs.FinSet as finset
-use Rattle.ff_value.specs.declared.ids.ActId.{ActId}
 use Rattle.ff_machine.specs.declared.limits.TheConstants.{MOST_COOKIES_OF_DOMAIN, MOST_ASKS}
 use Rattle.ff_machine.specs.declared.records.Pending.{Pending}
 use Rattle.ff_machine.specs.Nodes.{depth}
-use Rattle.ff_machine.specs.Windows.{no_act}
+use Rattle.ff_machine.specs.Windows as windows
 use Rattle.ff_machine.specs.Net.{cookie_cmp}
 use Rattle.ff_machine.specs.Stores as stores
 use Rattle.ff_machine.specs.State.{empty}
-use Rattle.ff_machine.specs.Alone.{AreTrees, IsNode, IsWindow, IsPage, AreOpen, IsAct, IsJar, AreRequests}
+use Rattle.ff_machine.specs.Alone.{AreTrees, IsNode, IsWindow, IsPage, AreOpen, AreWindows, IsJar, AreRequests}
 use Rattle.ff_machine.specs.References.{made, NodeRefers, PageRefers, DstRefers}
 use Rattle.ff_machine.specs.Valid.{IsStores, IsTask, IsState}
+use Rattle.ff_machine.proofs.ActChanges.{no_act_valid}
 use Rattle.ff_machine.proofs.Maps.{entries-empty, asked_none}
 
 none_some : {A : Type 0} {x : A} → None ≡ Some x → ⊥
@@ -31,9 +31,6 @@ no_trees = record {
   once = λ n p e. cc;
   ends = λ n. omega arith;
 }
-
-no_acts : (a : ActId) → IsAct a.0 no_act
-no_acts a = record { parent = λ p e. cc; vars = λ x v e. absurd (none_some (sym (finmap.get-empty (slice_cmp nat_cmp) x) ∙ e)) }
 
 none_open : AreOpen 0 []
 unfolding IsDistinct
@@ -55,17 +52,21 @@ no_requests = record {
 nothing_touched : (p : ℕ) → IsTrue (finset.contains (finset.empty {R = nat_cmp}) p) → p < 0
 nothing_touched p e = absurd (false≢true (sym (finset.contains-empty nat_cmp p) ∙ e))
 
+-- no windows, pages and activations are valid by themselves
+pub empty_windows : AreWindows windows.empty
+empty_windows = record {
+  windows = All-nil (IsWindow 0 0);
+  opened = none_open;
+  pages = record { each = All-nil (IsPage 0); few = omega arith; few_entries = omega arith };
+  own = record { own = λ w h. absurd (omega (arith, h)); fewer = omega arith };
+  acts = record { each = λ a. no_act_valid a.0; few = omega arith; few_vars = omega arith };
+}
+
 -- the empty stores are valid
 pub empty_valid : IsStores stores.empty
 empty_valid = record {
   nodes = record { each = All-nil IsNode; trees = no_trees; few = omega arith };
-  windows = record {
-    windows = All-nil (IsWindow 0 0);
-    opened = none_open;
-    pages = record { each = All-nil (IsPage 0); few = omega arith; few_entries = omega arith };
-    own = record { own = λ w h. absurd (omega (arith, h)); fewer = omega arith };
-    acts = record { each = λ a. no_acts a; few = omega arith; few_vars = omega arith };
-  };
+  windows = empty_windows;
   jar = no_cookies;
   requests = no_requests;
   refer = record {

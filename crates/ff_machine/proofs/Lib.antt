@@ -24,3 +24,7 @@ pub mod Joining
 pub mod Empty
 pub mod Stays
 pub mod Fuel
+pub mod Queues
+pub mod Opened
+pub mod ActChanges
+pub mod WindowChanges

@@ -44,14 +44,14 @@ abbrev pub coded_vars : Coded Vars
 coded_vars = finmap.code (coded_list coded_ℕ) val.the_row.coded
 
 -- of windows
-abbrev coded_window : Coded Window
+abbrev pub coded_window : Coded Window
 coded_window =
     code_by (Option (List ℕ) × (Option WinId × PageId))
     (coded× (coded_option (coded_list coded_ℕ)) (coded× (coded_option win.the_row.coded) page.the_row.coded))
     (λ w. (w.name, (w.opener, w.page))) (λ p. record { name = p.0; opener = p.1.0; page = p.1.1 }) (λ _. refl)
 
 -- of pages
-abbrev coded_page : Coded Page
+abbrev pub coded_page : Coded Page
 coded_page =
     code_by (Url × (WinId × (NodeId × (ActId × (ℕ × List Entry)))))
     (coded× url.the_row.coded (coded× win.the_row.coded (coded× node.the_row.coded (coded× act.the_row.coded (coded× coded_ℕ (coded_list entry.the_row.coded))))))
@@ -60,7 +60,7 @@ coded_page =
     (λ _. refl)
 
 -- of activations
-abbrev coded_act : Coded Activation
+abbrev pub coded_act : Coded Activation
 coded_act = code_by (Option ActId × Vars) (coded× (coded_option act.the_row.coded) coded_vars) (λ a. (a.parent, a.vars)) (λ p. record { parent = p.0; vars = p.1 }) (λ _. refl)
 
 -- of all windows, pages and activations
