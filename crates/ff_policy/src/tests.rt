@@ -46,6 +46,7 @@ fn is_answer(answer: &Result<Policy, PolicyFault>, kind: &str, word: &str) -> bo
         Err(PolicyFault::UnknownLevel(text)) => kind == "level" && is_text(text, word),
         Err(PolicyFault::BadDomain(text)) => kind == "domain" && is_text(text, word),
         Err(PolicyFault::BadFuel) => kind == "fuel",
+        Err(PolicyFault::ContentBelowPresence(text)) => kind == "below" && is_text(text, word),
         Err(PolicyFault::NoMemory) => false,
     }
 }
@@ -73,7 +74,7 @@ fn members_after_those_of_two_levels(rt: HostRuntime) {
         (r#","fuel":null}"#, "shape", "fuel"),
         (r#","fuel":0,"fuel":5}"#, "policy", ""),
         (r#","fuel":5,"fuel":0}"#, "fuel", ""),
-        (r#","version":2,"x":1}"#, "version", ""),
+        (r#","version":3,"x":1}"#, "version", ""),
         (r#","version":1.0}"#, "version", ""),
         (r#","b":1,"a":2}"#, "field", "a"),
         (r#","kinds":{"b":"L","a":"L"}}"#, "field", "kinds.a"),
@@ -270,7 +271,7 @@ fn gives_levels(policy: &Policy) -> bool
         tag: Some(Level(1)),
         act: Act::Closes(0),
     };
-    let inputs = policy.level_in(&plain) == Level(0) && policy.level_in(&tagged) == Level(1);
+    let inputs = policy.content(&plain) == Level(0) && policy.content(&tagged) == Level(1);
     inputs && policy.level_out(&Out::Opened) == Level(1) && policy.fuel() == 10_000
 }
 

@@ -2,7 +2,7 @@ use Rattle.std.proofs.Common.{◌∷◌, ◌++◌, [], List, ℕ, sym, ap, ◌�
 use Rattle.ff_policy.specs.Members.{Named}
 use Rattle.ff_policy.proofs.Apart.{named_apart}
 use Rattle.ff_policy.proofs.Arrays.{Entry, Gathers, named_shape, named_stop, named_step, named_done}
-use Rattle.ff_policy.proofs.members.named_of.Goals as goal
+use Rattle.ff_policy.proofs.shapes.named_of.Goals as goal
 
 pub returns-in-None-as_str-clause-value : goal.returns-in-None-as_str-clause-value
 returns-in-None-as_str-clause-value c =
