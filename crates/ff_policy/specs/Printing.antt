@@ -1,5 +1,5 @@
 -- The text that a policy is printed as.
-use Rattle.std.specs.Prelude.{ℕ, Bool, not, ◌==◌, ◌&&◌, List, [], ◌∷◌, codes, map, filter, flat_map}
+use Rattle.std.specs.Prelude.{ℕ, Bool, cond, not, ◌==◌, ◌&&◌, List, [], ◌∷◌, codes, map, flat_map}
 use Rattle.serde_json.specs.Data.{Data, number, string, array, object, unsigned, Members, no_members, member}
 use Rattle.serde_json.specs.View.{items_of}
 use Rattle.serde_json.specs.Written.{compact_text}
@@ -16,17 +16,24 @@ strings texts = array (items_of (map string texts))
 abbrev pub is_under : Order → ℕ → ℕ → Bool
 is_under order a b = leq order a b && not (a == b)
 
--- the names of a level and of each other level that it is at or below, in the order of these
+-- the names of a level and another that it is at or below, or nothing where that isn't so
+abbrev pub pair_if : Order → ℕ → ℕ → List Pair
+pair_if order a b = cond (is_under order a b) (record { low = name order a; high = name order b } ∷ []) []
+
+-- the names of a level and each other level that it is at or below, in the order of these
 abbrev pub pairs_from : Order → ℕ → List Pair
-pairs_from order a = map (λ b. record { low = name order a; high = name order b }) (filter (is_under order a) (below (size order)))
+pairs_from order a = flat_map (pair_if order a) (below (size order))
 
 -- those of each level, in their order
 abbrev pub pairs_in : Order → List Pair
 pairs_in order = flat_map (pairs_from order) (below (size order))
 
--- an array of arrays of two strings, low then high
+-- an array of two strings, low then high
+abbrev pub pair_data : Pair → Data
+pair_data pair = strings (pair.low ∷ pair.high ∷ [])
+
 abbrev pub pairs_data : List Pair → Data
-pairs_data pairs = array (items_of (map (λ pair. strings (pair.low ∷ pair.high ∷ [])) pairs))
+pairs_data pairs = array (items_of (map pair_data pairs))
 
 -- the keys, each with the name of its level
 abbrev pub keys_data : Order → List Key → Members

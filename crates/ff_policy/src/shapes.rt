@@ -83,7 +83,7 @@ fn pair_from(texts: &[Text]) -> Result<Option<Pair>, NoMemory>
 
 /// The keys of an object of strings, each with its string.
 pub(crate) fn named(alloc: Global, value: &Value) -> Result<Option<Vec<Named>>, NoMemory>
-    ensures value { IfOk result (λ found. option_map (λ named. named.items) found ≡ spec.named (view value.now)) }
+    ensures found { IfOk result (λ found. option_map (λ named. named.items) found ≡ spec.named (view value.now)) }
     ensures rising { IfOk result (λ found. MatchOption found (Unit {0}) (λ named. AreRising named.items)) }
 {
     match value.as_object() {
@@ -93,7 +93,7 @@ pub(crate) fn named(alloc: Global, value: &Value) -> Result<Option<Vec<Named>>, 
 }
 
 fn named_of(alloc: Global, members: &Map<String, Value>) -> Result<Option<Vec<Named>>, NoMemory>
-    ensures value { IfOk result (λ found. option_map (λ named. named.items) found ≡ spec.named_of (members_view members.now.entries)) }
+    ensures found { IfOk result (λ found. option_map (λ named. named.items) found ≡ spec.named_of (members_view members.now.entries)) }
     ensures rising { IfOk result (λ found. MatchOption found (Unit {0}) (λ named. AreRising named.items)) }
 {
     let mut named = Vec::new(alloc);
