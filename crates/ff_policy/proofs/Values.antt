@@ -91,7 +91,7 @@ module _ (order : Order) where
       let d : Key = record { key = []; level = 0 } in
       let long : length (take i keys) ≡ i = length-take-le i keys (omega arith) in
       let before : j < i = omega arith in
-      ap (λ (k : Key). slice_cmp nat_cmp k.key one.key) (get_or-take keys i j d before)
+      ap (λ (k : Key). slice_cmp nat_cmp k.key one.key) (get_or-take i keys j d before)
       ∙ ap (λ (k : Key). slice_cmp nat_cmp (key_at keys j).key k.key) (get_or_read keys i one less is d)
       ∙ are.rising j i before less
 

@@ -5,6 +5,9 @@ use Rattle.ff_policy.specs.Printing.{pair_if}
 use Rattle.ff_policy.proofs.Values.{adds_none, adds_next, adds_all}
 use Rattle.ff_policy.proofs.printing.add_pairs.Goals as goal
 
+pub loop-high-init : goal.loop-high-init
+loop-high-init c = adds_none (pair_if c.args.lattice.now c.args.low.0) (map view c.args.pairs.now.items)
+
 pub loop-high-preserved : goal.loop-high-preserved
 loop-high-preserved c = adds_next (pair_if c.args.lattice.now c.args.low.0) _ (map view c.loop-high.pairs.items) _ c.loop-high.high c.loop-high.invariant c.in_ok-add_pair.ensures
 

@@ -13,7 +13,7 @@ returns-in-None-2 c =
 pub loop-key-preserved : goal.loop-key-preserved
 loop-key-preserved c =
     let e : Entry = (c.in-Some.key.now, c.in-Some.value.now) in
-    subst (λ (kinds : List NamedKind). Gathers (kind_read c.args.version) c.args.members.now.entries kinds c.next.new.self) (sym c.in_ok-push.ensures.items)
+    subst (λ (kinds : List NamedKind). Gathers (kind_read c.args.version) c.args.members.now.entries kinds c.next.new.self) (sym c.in_ok-push-in-Some-2.ensures.items)
     (kinds_step c.args.version c.args.members.now.entries c.loop-key.kinds.items c.loop-key.key-iterator c.loop-key.invariant c.next.new.self e c.in-Some-2.kind c.in-Some.ensures.steps
     (ap (λ k. kind_shape c.args.version k (view c.in-Some.value.now)) (sym c.as_str.ensures.value) ∙ sym c.in_ok-kind_shape.ensures ∙ c.in-Some-2.is))
 

@@ -1,6 +1,6 @@
 use Rattle.serde_json.specs.View.{view}
 use Rattle.ff_policy.proofs.Reread.{text_is, written_again, written_line}
-use Rattle.ff_policy.proofs.printing.Policy.text.Goals as goal
+use Rattle.ff_policy.proofs.policy.Policy.text.Goals as goal
 
 pub returns-clause-text : goal.returns-clause-text
 returns-clause-text c = text_is c.args.self.now (view c.in_ok-value.value) c.in_ok-to_vec.field-0.items c.in_ok-value.ensures.value c.in_ok-to_vec.ensures.text
