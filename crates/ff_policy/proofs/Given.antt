@@ -110,8 +110,8 @@ module _ (order : Order) where
   pair_given a b in_a in_b under =
       let here : Has (pair_if order a b) (names_of order a b) = subst (λ (passes : Bool). Has (cond passes (names_of order a b ∷ []) []) (names_of order a b)) (sym under) (has_first (names_of order a b)) in
       let found = has_place (pairs_in order) (names_of order a b) (record { low = []; high = [] })
-          (has_flat (pairs_from order) (below (size order)) a (names_of order a b) (has_below (size order) a in_a)
-          (has_flat (pair_if order a) (below (size order)) b (names_of order a b) (has_below (size order) b in_b) here)) in
+      (has_flat (pairs_from order) (below (size order)) a (names_of order a b) (has_below (size order) a in_a)
+      (has_flat (pair_if order a) (below (size order)) b (names_of order a b) (has_below (size order) b in_b) here)) in
       (found.place, found.within, ap (λ (p : Pair). p.low) found.is, ap (λ (p : Pair). p.high) found.is)
 
 module _ (order : Order) (valid : IsOrder order) where

@@ -89,5 +89,5 @@ pub same_value : (d : Data) → HasNumbers (outline d) → read (compact_text d 
 same_value d numbers =
     let text = print-outline d in
     let same : tokens (compact_text d ++ 10 ∷ []) ≡ tokens (compact_text d) =
-        ap (λ (bytes : List ℕ). tokens (bytes ++ 10 ∷ [])) (sym text) ∙ same_tokens (json_tokens (outline d)) (ArePrintable-json_tokens (outline d) numbers) ∙ ap tokens text in
+    ap (λ (bytes : List ℕ). tokens (bytes ++ 10 ∷ [])) (sym text) ∙ same_tokens (json_tokens (outline d)) (ArePrintable-json_tokens (outline d) numbers) ∙ ap tokens text in
     ap (λ (ts : List Token). option_and_then of_json (option_and_then (λ p. json.if_last p.0 p.1) (json.value max_depth ts))) same

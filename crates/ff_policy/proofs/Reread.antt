@@ -212,9 +212,19 @@ kind_numbers order levels = (tt, (tt, tt))
 numbers : (p : Assignment) → p.fuel ≤ MOST_FUEL → HasNumbers (outline (data_of p))
 unfolding data_of
 numbers p little =
-    let kinds : HasNumbers (outline (kinds_data p.order p.kinds)) =
-        (kind_numbers p.order p.kinds.clicks, (kind_numbers p.order p.kinds.closes, (kind_numbers p.order p.kinds.goes, (kind_numbers p.order p.kinds.links,
-        (kind_numbers p.order p.kinds.opens, (kind_numbers p.order p.kinds.replies, (kind_numbers p.order p.kinds.types, tt))))))) in
+    let kinds : HasNumbers (outline (kinds_data p.order p.kinds)) = (
+      kind_numbers p.order p.kinds.clicks,
+      (
+        kind_numbers p.order p.kinds.closes,
+        (
+          kind_numbers p.order p.kinds.goes,
+          (
+            kind_numbers p.order p.kinds.links,
+            (kind_numbers p.order p.kinds.opens, (kind_numbers p.order p.kinds.replies, (kind_numbers p.order p.kinds.types, tt))),
+          ),
+        ),
+      ),
+    ) in
     (pairs_numbers (pairs_in p.order), (tt, (keys_numbers p.order p.domains, (IsNumber-decimal p.fuel (omega arith), (kinds, (strings_numbers p.order.names, (tt, (IsNumber-decimal 2 (omega arith), tt))))))))
 
 -- with a newline behind it, too

@@ -52,10 +52,7 @@ impl Draft {
         requires { IsDraft self.now }
         ensures { result ≡ first_unordered self.now }
     {
-        KINDS
-            .iter()
-            .copied()
-            .find(|kind| !self.is_ordered(*kind))
+        KINDS.iter().copied().find(|kind| !self.is_ordered(*kind))
     }
 
     /// Whether the kind's presence is at or below its content.

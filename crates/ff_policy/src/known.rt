@@ -46,11 +46,7 @@ fn numbered(number: Option<u64>) -> Option<Version>
 
 /// Tests that each member, each kind and each member of a kind is known.
 #[tactic(auto, unfolding(crate::specs::Members::known))]
-pub(crate) fn check_known(
-    alloc: Global,
-    version: Version,
-    value: &Value,
-) -> Result<(), PolicyFault>
+pub(crate) fn check_known(alloc: Global, version: Version, value: &Value) -> Result<(), PolicyFault>
     ensures done { OnOk result (known version (view value.now) ≡ Ok tt) }
     ensures fault { IfErr result (λ fault. fault ≢ PolicyFault.NoMemory → known version (view value.now) ≡ Err fault) }
 {
@@ -250,4 +246,3 @@ fn has_word(kinds: &[Kind], word: &str) -> bool
 {
     kinds.iter().any(|kind| word == kind.word())
 }
-

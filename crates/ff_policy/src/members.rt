@@ -147,11 +147,7 @@ fn domains_in(alloc: Global, value: &Value) -> Result<Vec<Named>, PolicyFault>
 }
 
 /// The kinds, each with the names of its levels.
-fn kinds_in(
-    alloc: Global,
-    version: Version,
-    value: &Value,
-) -> Result<Vec<NamedKind>, PolicyFault>
+fn kinds_in(alloc: Global, version: Version, value: &Value) -> Result<Vec<NamedKind>, PolicyFault>
     ensures found { IfOk result (λ kinds. optional [] (spec.kinds version) (codes "kinds") (view value.now) ≡ Ok kinds.items) }
     ensures fault { IfErr result (λ fault. fault ≢ PolicyFault.NoMemory → optional [] (spec.kinds version) (codes "kinds") (view value.now) ≡ Err fault) }
 {

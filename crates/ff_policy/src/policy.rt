@@ -126,10 +126,7 @@ impl Policy {
         }
         match draft.first_unordered() {
             None => Ok(Policy::whole(draft)),
-            Some(kind) => Err(PolicyFault::ContentBelowPresence(Text::of_str(
-                alloc,
-                kind.word(),
-            )?)),
+            Some(kind) => Err(PolicyFault::ContentBelowPresence(Text::of_str(alloc, kind.word())?)),
         }
     }
 

@@ -10,10 +10,10 @@ ghost use Rattle.ff_policy.specs.Printing.{data_of, printed, is_under, pair_if, 
 ghost use Rattle.ff_policy.specs.Reading.{IsPolicyOf};
 ghost use Rattle.ff_policy.specs.declared.limits.TheConstants.{MOST_POLICY_BYTES};
 
+use crate::NoMemory;
 use crate::key::Key;
 use crate::kinds::{KindLevels, Kinds};
 use crate::policy::Policy;
-use crate::NoMemory;
 use ff_lattice::Lattice;
 use ff_name::Level;
 use serde_json::{Map, Value, json};

@@ -9,7 +9,7 @@ use Rattle.ff_policy.proofs.policy.Policy.to_value.Goals as goal
 pub returns-clause-value : goal.returns-clause-value
 returns-clause-value c =
     let p : Assignment =
-        record { order = c.self.inside.lattice; ui = c.self.inside.ui.0; other = c.self.inside.other.0; domains = c.self.inside.domains.items; kinds = c.self.inside.kinds; fuel = c.self.inside.fuel } in
+    record { order = c.self.inside.lattice; ui = c.self.inside.ui.0; other = c.self.inside.other.0; domains = c.self.inside.domains.items; kinds = c.self.inside.kinds; fuel = c.self.inside.fuel } in
     members_made p c.put-8.new.map _ _ _ _ _ _ _ _ _ _ _ _ _ _ _ _ (ap members_view c.new-members.ensures.empty)
     c.in_ok-below.ensures c.in_ok-put.ensures.ok
     c.in_ok-other.ensures c.in_ok-put-2.ensures.ok
