@@ -11,3 +11,4 @@ pub mod View
 pub mod Laws
 pub mod Turns
 pub mod Sharing
+pub mod Below
