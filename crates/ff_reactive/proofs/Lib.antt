@@ -12,3 +12,5 @@ pub mod Laws
 pub mod Turns
 pub mod Sharing
 pub mod Below
+pub mod Finishing
+pub mod Classes
