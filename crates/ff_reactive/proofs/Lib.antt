@@ -14,3 +14,4 @@ pub mod Sharing
 pub mod Below
 pub mod Finishing
 pub mod Classes
+pub mod Worlds
