@@ -15,3 +15,4 @@ pub mod Below
 pub mod Finishing
 pub mod Classes
 pub mod Worlds
+pub mod Schedules

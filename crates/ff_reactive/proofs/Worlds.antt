@@ -9,7 +9,7 @@ use Rattle.std.proofs.lemmas.List.Elements.{All-get_or}
 use Rattle.ff_reactive.specs.Copies.{below}
 use Rattle.ff_reactive.specs.Turns.{Reactor, settle, machine_of}
 use Rattle.ff_reactive.specs.Loops.{handle_seen}
-use Rattle.ff_reactive.specs.Worlds.{Copy, World, leader, offer, levels, each, keep_together, new_leader, split, new_copy, copy_at, new_world, taken, turned_once, stepped, gone_on, step_copy, offered, waits, works, has_work, step_turns, emptied, world_arrive, world_turn, world_take, finish, left, world_drain, world_left, Ends, IsCopy, AreLeaders, IsWorld, OfferOk, AreOffers}
+use Rattle.ff_reactive.specs.Worlds.{Copy, World, leader, offer, levels, each, keep_together, new_leader, split, new_copy, copy_at, new_world, taken, turned_once, stepped, gone_on, step_copy, offered, waits, works, has_work, step_turns, emptied, world_arrive, world_turn, world_take, finish, left, world_drain, world_left, Ends, IsCopy, AreLeaders, IsWorld, AreAtRest, OfferOk, AreOffers}
 use Rattle.ff_reactive.proofs.Below.{length-each, get_or-each, each_agree, each_is, sum_agree_below, sum_one_below, sum_none_below}
 use Rattle.ff_reactive.proofs.Finishing.{finish_rest, left_rest, finish_step, left_step, finish_offered, left_offered, finish_alike, finish_inbox, new_copy_ok, step_copy_ok, offered_ok, emptied_ok, finish_ok}
 use Rattle.ff_reactive.proofs.Classes.{IsSame, together_parts, new_leader_within, new_leader_together, leader-split, length-split, split_leads}
@@ -285,28 +285,23 @@ module _ {I O S : Type 0} {r : Reactor I O S} {most : ℕ} {InputOk : I → Type
   works_alike w l is lt = ap₂ (λ s js. works r s js) (is.states_alike l lt) (is.inboxes_alike l lt)
 
   -- a world where no class has work is at its end
-  pub AtRest : World I O S → Type 0
-  AtRest w = (l : ℕ) → l < levels w → has_work r (copy_at r w l) ≡ false
-
-  pub rests_by_leaders : (w : World I O S) → Ok w → ((l : ℕ) → l < levels w → leader w.leaders l ≡ l → has_work r (copy_at r w l) ≡ false) → AtRest w
-  unfolding AtRest
+  pub rests_by_leaders : (w : World I O S) → Ok w → ((l : ℕ) → l < levels w → leader w.leaders l ≡ l → has_work r (copy_at r w l) ≡ false) → AreAtRest r w
   rests_by_leaders w is rests l lt = works_alike w l is lt ∙ rests (leader w.leaders l) (leader_in w is l lt) (is.led.itself l lt)
 
-  pub drain_rest : (w : World I O S) → Ok w → AtRest w → world_drain r most w ≡ w
-  unfolding world_drain AtRest
+  pub drain_rest : (w : World I O S) → Ok w → AreAtRest r w → world_drain r most w ≡ w
+  unfolding world_drain
   drain_rest w is rests = ap (λ cs. record { copies = cs; leaders = w.leaders })
       (each_agree (λ k. finish r most (copy_at r w k)) (λ k. copy_at r w k) (levels w) (λ k lt. finish_rest r most (copy_at r w k) (rests k lt)) ∙ sym (copies_are r w is.count))
 
-  pub left_at_rest : (w : World I O S) → Ok w → AtRest w → world_left r most w ≡ 0
-  unfolding world_left AtRest
+  pub left_at_rest : (w : World I O S) → Ok w → AreAtRest r w → world_left r most w ≡ 0
+  unfolding world_left
   left_at_rest w is rests = sum_none_below (class_part (left r most) w) (levels w) (λ k lt. from (leader w.leaders k == k) (left_rest r most (copy_at r w k) (rests k lt)))
     where
       from : {n : ℕ} (b : Bool) → n ≡ 0 → cond b n 0 ≡ 0
       from true e = e
       from false e = refl
 
-  pub drained_rests : (w : World I O S) → Ok w → AtRest (world_drain r most w)
-  unfolding AtRest
+  pub drained_rests : (w : World I O S) → Ok w → AreAtRest r (world_drain r most w)
   drained_rests w is l lt =
       let same = ap length (leaders-drain r most w) in
       let at : l < levels w = omega (arith, same) in
