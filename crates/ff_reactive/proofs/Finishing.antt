@@ -4,12 +4,12 @@ use Rattle.std.specs.List.{cons_option}
 use Rattle.std.proofs.lemmas.List.Elements.{All-nil, All-cons, All-head, All-tail, All-append, All-push}
 use Rattle.std.proofs.lemmas.List.Concat.{flat_map-append}
 use Rattle.ff_reactive.specs.Runs.{Handled, Machine, joined, after_from, plain_from, turns_from, after, plain}
-use Rattle.ff_reactive.specs.Turns.{Reactor, settle, machine_of}
+use Rattle.ff_reactive.specs.Turns.{Reactor, settle, machine_of, KeepsOk, IsFuelled}
 use Rattle.ff_reactive.specs.Text.{BeginsWith}
 use Rattle.ff_reactive.specs.Loops.{handle_seen}
 use Rattle.ff_reactive.specs.Worlds.{Copy, new_copy, taken, turned_once, stepped, gone_on, step_copy, offered, waits, has_work, works, step_turns, emptied, finish, left, Ends, IsCopy, OfferOk}
 use Rattle.ff_reactive.proofs.Runs.{after_from-append, plain_from-append, turns_from-append}
-use Rattle.ff_reactive.proofs.Turns.{settle_quiet, settle_turn, settle_more}
+use Rattle.ff_reactive.proofs.Turns.{settle_quiet, settle_turn, settle_more, handle_quiet}
 
 module _ {I O S : Type 0} (r : Reactor I O S) (most : ℕ) where
   -- what turns come to, after one of them
@@ -255,3 +255,14 @@ module _ {I O S : Type 0} {r : Reactor I O S} {most : ℕ} {InputOk : I → Type
         ends = ap (λ h. r.quiet h.after) (settle_quiet r most (after_from (machine_of r most) (settle r most c.state).after c.inbox) end.1) ∙ end.1;
         inbox_ok = All-nil InputOk;
       }, ap (λ b. not b || false) end.1)
+
+-- a reactor whose turns spend fuel ends each input in one turn more than it brings
+pub ends_by_fuel : {I O S : Type 0} {r : Reactor I O S} {InputOk : I → Type 0} {StateOk : S → Type 0} {OutputOk : O → Type 0} → KeepsOk r InputOk StateOk OutputOk
+    → {fuel : S → ℕ} {most : ℕ} → IsFuelled r fuel most InputOk StateOk → r.quiet r.start ≡ true → Ends r (most + 1) InputOk StateOk
+ends_by_fuel keeps fuelled is_quiet = record {
+  start_ok = keeps.start_ok;
+  start_quiet = is_quiet;
+  begin_ok = keeps.begin_ok;
+  begin_ends = handle_quiet keeps fuelled;
+  turn_ok = keeps.turn_ok;
+}

@@ -16,3 +16,4 @@ pub mod Finishing
 pub mod Classes
 pub mod Worlds
 pub mod Schedules
+pub mod Resting
