@@ -1,0 +1,111 @@
+//! Steps of classes over the parts of a pool.
+ghost use Rattle.std.specs.Prelude.{◌≡◌, ◌+◌, ◌<◌, ◌≤◌, ◌==◌, ◌++◌, ℕ, cond, length, slice_index_or, slice_set, All, OnOk};
+ghost use Rattle.ff_value.specs.Spelled.{IsWellSpelledInput};
+ghost use Rattle.ff_core.specs.Machine.{reactor};
+ghost use Rattle.ff_reactive.specs.Worlds.{leader, offer, each, step_turns, AreLeaders};
+ghost use Rattle.ff_pool.specs.Heads.{Head, step_of, step_head, offer_head, given};
+
+use crate::group::Group;
+use crate::outs::Outs;
+use ff_core::NoMemory;
+use ff_steps::Steps;
+use ff_value::{Input, Out};
+use std::alloc::Global;
+use std::sync::ledger::Ledger;
+
+/// One step of a level's class: its one browser makes it, and each level of the class gets what it
+/// puts.
+#[tactic(auto, using(crate::proofs::Gathering::head_read, crate::proofs::Gathering::spelled_read))]
+pub(crate) fn step_class<C: Ledger, L: Ledger>(
+    alloc: Global,
+    heads: &mut [Group],
+    puts: &mut [Outs],
+    leaders: &[usize],
+    l: usize,
+    copies: &mut Steps<C>,
+    turns: &mut Steps<L>,
+) -> Result<(), NoMemory>
+    requires level { l < length leaders.now }
+    requires led { leader leaders.now l < length heads.old }
+    requires count { length puts.old ≡ length leaders.now }
+    requires spelled { (d : Head) → All IsWellSpelledInput (slice_index_or heads.old (leader leaders.now l) d).inbox }
+    ensures done { OnOk result ((d : Head) → heads.new ≡ slice_set heads.old (leader leaders.now l) (step_head (slice_index_or heads.old (leader leaders.now l) d))) }
+    ensures outputs { OnOk result ((d : Head) → puts.new ≡ given puts.old leaders.now (leader leaders.now l) (step_of (slice_index_or heads.old (leader leaders.now l) d)).outputs) }
+    ensures count { OnOk result ((d : Head) → turns.new ≡ turns.old + step_turns (reactor 0) (slice_index_or heads.old (leader leaders.now l) d).state) }
+    ensures most { (d : Head) → turns.new ≤ turns.old + step_turns (reactor 0) (slice_index_or heads.old (leader leaders.now l) d).state }
+    ensures turns_later { turns.old ≤ turns.new }
+    ensures later { copies.old ≤ copies.new }
+{
+    let top = leaders[l];
+    let mut outs = Vec::new(alloc);
+    heads[top].step(&mut outs, copies, turns)?;
+    give_class(puts, leaders, top, outs.as_slice())
+}
+
+/// Puts the outputs of a class behind those of each of its levels.
+fn give_class(
+    puts: &mut [Outs],
+    leaders: &[usize],
+    top: usize,
+    outs: &[Out],
+) -> Result<(), NoMemory>
+    requires { length puts.old ≡ length leaders.now }
+    ensures { OnOk result (puts.new ≡ given puts.old leaders.now top outs.now) }
+{
+    for k in 0..leaders.len() {
+        if leaders[k] == top {
+            puts[k].append(outs)?;
+        }
+    }
+    Ok(())
+}
+
+/// Each level that leads a class now and led none before gets a fork of the browser and the inbox
+/// of its class.
+pub(crate) fn fork_heads<C: Ledger>(
+    heads: &mut [Group],
+    old: &[usize],
+    new: &[usize],
+    copies: &mut Steps<C>,
+) -> Result<(), NoMemory>
+    requires heads { length heads.old ≡ length old.now }
+    requires count { length new.now ≡ length old.now }
+    requires led { AreLeaders old.now }
+    ensures forked { OnOk result ((l : ℕ) (d : Head) → l < length old.now → leader new.now l ≡ l → slice_index_or heads.new l d ≡ slice_index_or heads.old (leader old.now l) d) }
+    ensures copies { copies.new ≡ copies.old }
+{
+    for l in 0..new.len() {
+        if new[l] == l && old[l] != l {
+            heads[l] = heads[old[l]].fork(copies)?;
+        }
+    }
+    Ok(())
+}
+
+/// Each class gets the offer of its leader.
+pub(crate) fn offer_heads(
+    heads: &mut [Group],
+    leaders: &[usize],
+    offers: &[Option<Input>],
+) -> Result<(), NoMemory>
+    requires heads { length heads.old ≡ length leaders.now }
+    requires count { length offers.now ≡ length leaders.now }
+    ensures { OnOk result ((l : ℕ) (d : Head) → l < length leaders.now → leader leaders.now l ≡ l → slice_index_or heads.new l d ≡ offer_head (slice_index_or heads.old l d) (offer offers.now l)) }
+{
+    for l in 0..leaders.len() {
+        if leaders[l] == l {
+            offer_head(&mut heads[l], &offers[l])?;
+        }
+    }
+    Ok(())
+}
+
+/// What is offered waits, where there is something.
+fn offer_head(head: &mut Group, offer: &Option<Input>) -> Result<(), NoMemory>
+    ensures { OnOk result (head.new ≡ offer_head head.old offer.now) }
+{
+    match offer {
+        Some(input) => head.offer(input.copy()?),
+        None => Ok(()),
+    }
+}
