@@ -2,9 +2,10 @@
 -- level leads which class; and the world of copies that these are.
 use Rattle.std.specs.Prelude.{◌≡◌, ◌<◌, ◌≤◌, ℕ, false, Option, List, [], length, slice_index_or, refl}
 use Rattle.std.specs.List.{cons_option}
-use Rattle.std.specs.Prelude.{◌++◌, ◌+◌, Bool}
+use Rattle.std.specs.Prelude.{◌++◌, ◌+◌, ◌==◌, ◌&&◌, nat_lt, Bool, cond}
 use Rattle.std.specs.Coded.{Coded, code_by, coded×, coded_list}
 use Rattle.ff_shared.specs.Content.{same_content}
+use Rattle.ff_lattice.specs.LevelSet.{levels_where}
 use Rattle.ff_value.specs.Spelled.{IsWellSpelledInput}
 use Rattle.ff_value.specs.declared.input.Input.{Input}
 use Rattle.ff_value.specs.declared.output.Out.{Out}
@@ -12,7 +13,7 @@ use Rattle.ff_value.specs.contracts.input.Input as input
 use Rattle.ff_core.specs.State.{State, empty, IsState}
 use Rattle.ff_core.specs.Machine.{reactor}
 use Rattle.ff_core.specs.contracts.browser.Browser as browser
-use Rattle.ff_reactive.specs.Worlds.{Copy, World, IsWorld, each, leader, stepped}
+use Rattle.ff_reactive.specs.Worlds.{Copy, World, IsWorld, each, leader, stepped, works, step_turns}
 
 -- the copy of a class: the state of its browser, and the inputs that wait
 pub record Head : Type 0 where
@@ -48,6 +49,17 @@ step_head h = record { state = (step_of h).state; inbox = (step_of h).inbox }
 abbrev pub offer_head : Head → Option Input → Head
 offer_head h o = record { state = h.state; inbox = h.inbox ++ cons_option o [] }
 
+-- whether a head has work, and the turns that one step of it counts
+abbrev pub head_works : Head → Bool
+head_works h = works (reactor h.state.budget) h.state h.inbox
+
+abbrev pub head_turns : Head → ℕ
+head_turns h = step_turns (reactor h.state.budget) h.state
+
+-- the outputs of all levels, with these behind those of one class
+unfoldable pub given : List (List Out) → List ℕ → ℕ → List Out → List (List Out)
+given puts leaders top outs = each (λ k. cond (leader leaders k == top) (outputs_at puts k ++ outs) (outputs_at puts k)) (length leaders)
+
 -- a level's copy: that of its leader, with its own outputs
 abbrev pub gathered_copy : ℕ → List Head → List (List Out) → List ℕ → ℕ → Copy Input Out State
 gathered_copy fuel heads puts leaders l = record {
@@ -66,6 +78,10 @@ gathered fuel heads puts leaders = record { copies = gathered_copies fuel heads 
 -- inputs
 abbrev pub IsWorldOf : ℕ → World Input Out State → Type 0
 IsWorldOf fuel w = IsWorld (reactor fuel) (fuel + 1) IsWellSpelledInput (IsState fuel) w
+
+-- the levels of a level's class
+unfoldable pub class_of : List ℕ → ℕ → List ℕ
+class_of leaders l = levels_where (λ k. nat_lt k (length leaders) && leader leaders k == leader leaders l)
 
 -- the parts of a pool that isn't spent
 pub record IsKept (fuel : ℕ) (heads : List Head) (puts : List (List Out)) (leaders : List ℕ) : Type 0 where

@@ -1,15 +1,17 @@
 //! How classes part: which level leads which class after an arrival.
-ghost use Rattle.std.specs.Prelude.{◌≡◌, ◌<◌, length, IfOk};
+ghost use Rattle.std.specs.Prelude.{◌≡◌, ◌<◌, ◌≤◌, length, IfOk};
 ghost use Rattle.std.specs.Option.{option_eq};
 ghost use Rattle.ff_reactive.specs.Worlds.{keep_together, new_leader, split};
-ghost use Rattle.ff_pool.specs.Heads.{same_input};
+ghost use Rattle.ff_pool.specs.Heads.{same_input, class_of};
 
 use ff_core::NoMemory;
+use ff_lattice::LevelSet;
+use ff_name::Level;
 use ff_value::Input;
 use std::alloc::Global;
 
 /// The leaders where levels with different offers part. Its one refusal is want of memory.
-#[tactic(auto, using(crate::proofs::Parting::split_start, crate::proofs::Parting::split_more, crate::proofs::Parting::split_done))]
+#[tactic(auto, using(crate::proofs::Parting::split_more))]
 pub(crate) fn split(
     alloc: Global,
     leaders: &[usize],
@@ -63,9 +65,23 @@ fn same_offer(a: &Option<Input>, b: &Option<Input>) -> bool
 }
 
 /// Whether two inputs are equal, their tags too.
-#[tactic(auto, using(crate::proofs::Parting::same_is))]
 fn same(x: &Input, y: &Input) -> bool
     ensures { result ≡ same_input x.now y.now }
 {
     *x == *y
+}
+
+/// The levels of a level's class.
+pub(crate) fn class_of(leaders: &[usize], l: usize) -> LevelSet
+    requires level { l < length leaders.now }
+    requires few { length leaders.now ≤ 16 }
+    ensures { result ≡ class_of leaders.now l }
+{
+    let mut class = LevelSet::empty();
+    for k in 0..leaders.len() {
+        if leaders[k] == leaders[l] {
+            class = class.with(Level(k as u8));
+        }
+    }
+    class
 }

@@ -2,9 +2,7 @@
 ghost use Rattle.std.specs.Prelude.{◌≡◌, ◌+◌, ◌≤◌, ◌++◌, ◌∷◌, [], All, IfOk, OnOk, Some};
 ghost use Rattle.ff_value.specs.Spelled.{IsWellSpelledInput};
 ghost use Rattle.ff_core.specs.declared.browser.TheConstants.{MOST_BUDGET};
-ghost use Rattle.ff_core.specs.Machine.{reactor};
-ghost use Rattle.ff_reactive.specs.Worlds.{works, step_turns};
-ghost use Rattle.ff_pool.specs.Heads.{new_head, step_of, step_head, offer_head};
+ghost use Rattle.ff_pool.specs.Heads.{new_head, step_of, step_head, offer_head, head_works, head_turns};
 
 use ff_core::{Browser, NoMemory};
 use ff_steps::Steps;
@@ -61,7 +59,7 @@ impl Group {
 
     /// Whether the browser isn't quiet, or an input waits.
     pub(crate) fn has_work(&self) -> bool
-        ensures { result ≡ works (reactor self.now.state.budget) self.now.state self.now.inbox }
+        ensures { result ≡ head_works self.now }
     {
         !self.browser.quiet() || !self.inbox.is_empty()
     }
@@ -85,8 +83,8 @@ impl Group {
         requires { All IsWellSpelledInput self.old.inbox }
         ensures done { OnOk result (self.new ≡ step_head self.old) }
         ensures outputs { OnOk result (outs.new.items ≡ outs.old.items ++ (step_of self.old).outputs) }
-        ensures count { OnOk result (turns.new ≡ turns.old + step_turns (reactor self.old.state.budget) self.old.state) }
-        ensures most { turns.new ≤ turns.old + step_turns (reactor self.old.state.budget) self.old.state }
+        ensures count { OnOk result (turns.new ≡ turns.old + head_turns self.old) }
+        ensures most { turns.new ≤ turns.old + head_turns self.old }
         ensures turns_later { turns.old ≤ turns.new }
         ensures later { copies.old ≤ copies.new }
     {

@@ -14,5 +14,11 @@
 //! browser any more: all such calls answer that there is no memory.
 #![tactic(auto)]
 
+mod classes;
 mod group;
 mod outs;
+mod pool;
+mod steps;
+
+pub use ff_core::NoMemory;
+pub use pool::{MOST_COPIES, Pool};

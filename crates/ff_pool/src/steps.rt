@@ -1,9 +1,8 @@
 //! Steps of classes over the parts of a pool.
-ghost use Rattle.std.specs.Prelude.{◌≡◌, ◌+◌, ◌<◌, ◌≤◌, ◌==◌, ◌++◌, ℕ, cond, length, slice_index_or, slice_set, All, OnOk};
+ghost use Rattle.std.specs.Prelude.{◌≡◌, ◌+◌, ◌<◌, ◌≤◌, ℕ, length, slice_index_or, slice_set, All, IfOk, OnOk};
 ghost use Rattle.ff_value.specs.Spelled.{IsWellSpelledInput};
-ghost use Rattle.ff_core.specs.Machine.{reactor};
-ghost use Rattle.ff_reactive.specs.Worlds.{leader, offer, each, step_turns, AreLeaders};
-ghost use Rattle.ff_pool.specs.Heads.{Head, step_of, step_head, offer_head, given};
+ghost use Rattle.ff_reactive.specs.Worlds.{leader, offer, AreLeaders};
+ghost use Rattle.ff_pool.specs.Heads.{Head, step_of, step_head, offer_head, head_turns, given};
 
 use crate::group::Group;
 use crate::outs::Outs;
@@ -15,7 +14,6 @@ use std::sync::ledger::Ledger;
 
 /// One step of a level's class: its one browser makes it, and each level of the class gets what it
 /// puts.
-#[tactic(auto, using(crate::proofs::Gathering::head_read, crate::proofs::Gathering::spelled_read))]
 pub(crate) fn step_class<C: Ledger, L: Ledger>(
     alloc: Global,
     heads: &mut [Group],
@@ -31,8 +29,8 @@ pub(crate) fn step_class<C: Ledger, L: Ledger>(
     requires spelled { (d : Head) → All IsWellSpelledInput (slice_index_or heads.old (leader leaders.now l) d).inbox }
     ensures done { OnOk result ((d : Head) → heads.new ≡ slice_set heads.old (leader leaders.now l) (step_head (slice_index_or heads.old (leader leaders.now l) d))) }
     ensures outputs { OnOk result ((d : Head) → puts.new ≡ given puts.old leaders.now (leader leaders.now l) (step_of (slice_index_or heads.old (leader leaders.now l) d)).outputs) }
-    ensures count { OnOk result ((d : Head) → turns.new ≡ turns.old + step_turns (reactor 0) (slice_index_or heads.old (leader leaders.now l) d).state) }
-    ensures most { (d : Head) → turns.new ≤ turns.old + step_turns (reactor 0) (slice_index_or heads.old (leader leaders.now l) d).state }
+    ensures count { OnOk result ((d : Head) → turns.new ≡ turns.old + head_turns (slice_index_or heads.old (leader leaders.now l) d)) }
+    ensures most { (d : Head) → turns.new ≤ turns.old + head_turns (slice_index_or heads.old (leader leaders.now l) d) }
     ensures turns_later { turns.old ≤ turns.new }
     ensures later { copies.old ≤ copies.new }
 {
@@ -108,4 +106,31 @@ fn offer_head(head: &mut Group, offer: &Option<Input>) -> Result<(), NoMemory>
         Some(input) => head.offer(input.copy()?),
         None => Ok(()),
     }
+}
+
+/// Forks of all these groups. Its one refusal is want of memory.
+pub(crate) fn forked_heads<C: Ledger>(
+    alloc: Global,
+    heads: &[Group],
+    copies: &mut Steps<C>,
+) -> Result<Vec<Group>, NoMemory>
+    ensures equal { IfOk result (λ forks. forks.items ≡ heads.now) }
+    ensures copies { copies.new ≡ copies.old }
+{
+    let mut forks = Vec::new(alloc);
+    for head in heads {
+        forks.push(head.fork(copies)?)?;
+    }
+    Ok(forks)
+}
+
+/// The outputs of all levels once more. Its one refusal is want of memory.
+pub(crate) fn forked_outs(alloc: Global, puts: &[Outs]) -> Result<Vec<Outs>, NoMemory>
+    ensures { IfOk result (λ forks. forks.items ≡ puts.now) }
+{
+    let mut forks = Vec::new(alloc);
+    for outs in puts {
+        forks.push(outs.fork()?)?;
+    }
+    Ok(forks)
 }
