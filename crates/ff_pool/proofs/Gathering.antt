@@ -14,7 +14,7 @@ use Rattle.ff_reactive.proofs.Below.{length-each, get_or-each, each_agree}
 use Rattle.ff_reactive.proofs.Finishing.{ends_by_fuel}
 use Rattle.ff_reactive.proofs.Classes.{together_parts, new_leader_within, new_leader_together, new_leader_itself, leader-split, length-split}
 use Rattle.ff_reactive.proofs.Worlds.{new_world_ok, arrive_ok, turn_ok, take_ok}
-use Rattle.ff_pool.specs.Heads.{Head, same_input, new_head, head_at, outputs_at, step_of, step_head, offer_head, head_turns, head_works, given, gathered_copy, gathered_copies, gathered, IsWorldOf, IsKept}
+use Rattle.ff_pool.specs.Heads.{Head, HasArrived, same_input, new_head, head_at, outputs_at, step_of, step_head, offer_head, head_turns, head_works, given, gathered_copy, gathered_copies, gathered, IsWorldOf, IsKept}
 use Rattle.ff_pool.proofs.Parting.{same_input_decides}
 
 -- a browser ends each input in one turn more than it brings fuel
@@ -126,12 +126,8 @@ module _ {fuel : ℕ} {heads : List Head} {puts : List (List Out)} {leaders : Li
     world = subst (IsWorldOf fuel) (sym (gathered-take puts' l at_puts)) (take_ok (ends fuel) (gathered fuel heads puts leaders) l kept.world);
   }
 
-  -- offers that arrive: the leaders part, new ones get forks, and each class gets its offer
-  abbrev HasArrived : List Head → List (Option Input) → Type 0
-  HasArrived heads' offers = (l : ℕ) → l < length leaders → leader (split same_input leaders offers) l ≡ l
-      → head_at fuel heads' l ≡ offer_head (head_at fuel heads (leader leaders l)) (offer offers l)
-
-  pub gathered-arrive : (heads' : List Head) (offers : List (Option Input)) → HasArrived heads' offers
+  -- offers that arrive
+  pub gathered-arrive : (heads' : List Head) (offers : List (Option Input)) → HasArrived leaders offers heads heads' (new_head fuel)
       → gathered fuel heads' puts (split same_input leaders offers) ≡ world_arrive (reactor fuel) same_input (gathered fuel heads puts leaders) offers
   unfolding gathered_copies world_arrive
   gathered-arrive heads' offers arrived = ap (λ cs. record { copies = cs; leaders = new })
@@ -154,7 +150,7 @@ module _ {fuel : ℕ} {heads : List Head} {puts : List (List Out)} {leaders : Li
           ∙ arrived top (omega arith) (at top (omega arith) ∙ new_leader_itself same_input same_input_decides leaders offers k)
           ∙ ap₂ (λ j o. offer_head (head_at fuel heads j) o) parts.0 parts.1
 
-  pub kept-arrive : (heads' : List Head) (offers : List (Option Input)) → length heads' ≡ length heads → AreOffers IsWellSpelledInput (length leaders) offers → HasArrived heads' offers
+  pub kept-arrive : (heads' : List Head) (offers : List (Option Input)) → length heads' ≡ length heads → AreOffers IsWellSpelledInput (length leaders) offers → HasArrived leaders offers heads heads' (new_head fuel)
       → IsKept fuel heads' puts (split same_input leaders offers)
   kept-arrive heads' offers long good arrived =
       let same = length-split same_input same_input_decides leaders offers in
@@ -193,3 +189,16 @@ kept-new fuel n heads puts leaders most at_heads at_puts at_leaders =
       most = omega (arith, long);
       world = subst (IsWorldOf fuel) (sym (gathered-new fuel n heads puts leaders at_heads at_puts at_leaders)) (new_world_ok (ends fuel) n);
     }
+
+-- a level's work, from that of its head
+pub work_at : {fuel : ℕ} {heads : List Head} {puts : List (List Out)} {leaders : List ℕ} → IsKept fuel heads puts leaders → (l : ℕ) → l < length leaders
+    → head_works (head_at fuel heads (leader leaders l)) ≡ has_work (reactor fuel) (copy_at (reactor fuel) (gathered fuel heads puts leaders) l)
+work_at {fuel} {heads} {puts} {leaders} kept l lt = ap (has_work (reactor fuel)) (sym (copy-gathered fuel heads puts leaders l lt))
+
+pub turns_at : {fuel : ℕ} {heads : List Head} {puts : List (List Out)} {leaders : List ℕ} → IsKept fuel heads puts leaders → (l : ℕ) → l < length leaders
+    → head_turns (head_at fuel heads (leader leaders l)) ≡ step_turns (reactor fuel) (copy_at (reactor fuel) (gathered fuel heads puts leaders) l).state
+turns_at {fuel} {heads} {puts} {leaders} kept l lt = ap (λ c. step_turns (reactor fuel) c.state) (sym (copy-gathered fuel heads puts leaders l lt))
+
+pub outputs_of : {fuel : ℕ} {heads : List Head} {puts : List (List Out)} {leaders : List ℕ} → IsKept fuel heads puts leaders → (l : ℕ) → l < length leaders
+    → outputs_at puts l ≡ (copy_at (reactor fuel) (gathered fuel heads puts leaders) l).outputs
+outputs_of {fuel} {heads} {puts} {leaders} kept l lt = ap (λ c. c.outputs) (sym (copy-gathered fuel heads puts leaders l lt))

@@ -13,7 +13,7 @@ use Rattle.ff_value.specs.contracts.input.Input as input
 use Rattle.ff_core.specs.State.{State, empty, IsState}
 use Rattle.ff_core.specs.Machine.{reactor}
 use Rattle.ff_core.specs.contracts.browser.Browser as browser
-use Rattle.ff_reactive.specs.Worlds.{Copy, World, IsWorld, each, leader, stepped, works, step_turns}
+use Rattle.ff_reactive.specs.Worlds.{Copy, World, IsWorld, each, leader, offer, split, stepped, works, step_turns}
 
 -- the copy of a class: the state of its browser, and the inputs that wait
 pub record Head : Type 0 where
@@ -78,6 +78,12 @@ gathered fuel heads puts leaders = record { copies = gathered_copies fuel heads 
 -- inputs
 abbrev pub IsWorldOf : ℕ → World Input Out State → Type 0
 IsWorldOf fuel w = IsWorld (reactor fuel) (fuel + 1) IsWellSpelledInput (IsState fuel) w
+
+-- the leaders after an arrival have the heads of those that led them, with their offers; d stands
+-- past the ends of the lists
+abbrev pub HasArrived : List ℕ → List (Option Input) → List Head → List Head → Head → Type 0
+HasArrived leaders offers old new d = (l : ℕ) → l < length leaders → leader (split same_input leaders offers) l ≡ l
+    → slice_index_or new l d ≡ offer_head (slice_index_or old (leader leaders l) d) (offer offers l)
 
 -- the levels of a level's class
 unfoldable pub class_of : List ℕ → ℕ → List ℕ

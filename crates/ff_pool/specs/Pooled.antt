@@ -11,7 +11,7 @@ use Rattle.ff_core.specs.Machine.{reactor}
 use Rattle.ff_core.specs.contracts.browser.Browser as browser
 use Rattle.ff_reactive.specs.Worlds as worlds
 use Rattle.ff_reactive.specs.Worlds.{Copy, World, Event, leader, new_world, world_arrive, world_turn, world_take, world_drain, world_left, play_events, AreOffers, EventOk}
-use Rattle.ff_pool.specs.Heads.{same_input, IsWorldOf}
+use Rattle.ff_pool.specs.Heads.{Head, same_input, gathered, IsWorldOf}
 
 -- a pool: the fuel that each input brings, whether a call found no memory, and the copies of all
 -- levels
@@ -33,6 +33,10 @@ coded_pooled =
     (λ p. (p.fuel, (p.spent, (p.world.copies, p.world.leaders))))
     (λ p. record { fuel = p.0; spent = p.1.0; world = record { copies = p.1.1.0; leaders = p.1.1.1 } })
     (λ _. refl)
+
+-- a pool by its parts
+abbrev pub seen : ℕ → Bool → List Head → List (List Out) → List ℕ → Pooled
+seen fuel spent heads puts leaders = record { fuel = fuel; spent = spent; world = gathered fuel heads puts leaders }
 
 -- the number of levels, and the copy of one of them
 abbrev pub size : Pooled → ℕ

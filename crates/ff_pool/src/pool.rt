@@ -6,10 +6,10 @@ ghost use Rattle.ff_pool.specs.Heads.{class_of};
 ghost use Rattle.ff_pool.specs.Pooled as pooled;
 ghost use Rattle.ff_pool.specs.Pooled.{size, copy_of, new_pool, arrived, turned, taken, step_turns, AreOffersTo, IsPool};
 
-use crate::classes::{class_of, split};
+use crate::classes::class_of;
 use crate::group::Group;
 use crate::outs::Outs;
-use crate::steps::{fork_heads, forked_heads, forked_outs, offer_heads, step_class};
+use crate::steps::{arrive_heads, forked_heads, forked_outs, has_work, step_class};
 use ff_core::NoMemory;
 use ff_lattice::LevelSet;
 use ff_name::Level;
@@ -39,14 +39,14 @@ pub struct Pool {
 
 impl Model for Pool {
     ghost use Rattle.std.specs.Prelude.{◌≡◌, false};
-    ghost use Rattle.ff_pool.specs.Pooled.{Pooled, coded_pooled};
-    ghost use Rattle.ff_pool.specs.Heads.{gathered, IsKept};
+    ghost use Rattle.ff_pool.specs.Pooled.{Pooled, coded_pooled, seen};
+    ghost use Rattle.ff_pool.specs.Heads.{IsKept};
 
     ghost Value = { Pooled };
 
     ghost coded = { coded_pooled };
 
-    ghost view = { λ p. record { fuel = p.fuel; spent = p.spent; world = gathered p.fuel p.heads.items p.puts.items p.leaders.items } };
+    ghost view = { λ p. seen p.fuel p.spent p.heads.items p.puts.items p.leaders.items };
 
     ghost invariant = { λ p. p.spent ≡ false → IsKept p.fuel p.heads.items p.puts.items p.leaders.items };
 }
@@ -95,7 +95,11 @@ impl Pool {
         requires level { l.0 < size self.now }
         ensures { result ≡ pooled.has_work self.now l.0 }
     {
-        self.heads[self.leaders[usize::from(l.0)]].has_work()
+        has_work(
+            self.heads.as_slice(),
+            self.leaders.as_slice(),
+            usize::from(l.0),
+        )
     }
 
     /// Whether the level's browser is quiet and no input waits for it.
@@ -134,15 +138,13 @@ impl Pool {
             return Err(AllocError);
         }
         self.spent = true;
-        let offers = offers.as_slice();
-        let leaders = split(self.alloc, self.leaders.as_slice(), offers)?;
-        fork_heads(
+        let leaders = arrive_heads(
+            self.alloc,
             self.heads.as_mut_slice(),
             self.leaders.as_slice(),
-            leaders.as_slice(),
+            offers.as_slice(),
             copies,
         )?;
-        offer_heads(self.heads.as_mut_slice(), leaders.as_slice(), offers)?;
         self.leaders = leaders;
         self.spent = false;
         Ok(())

@@ -1,9 +1,10 @@
 //! Steps of classes over the parts of a pool.
 ghost use Rattle.std.specs.Prelude.{◌≡◌, ◌+◌, ◌<◌, ◌≤◌, ℕ, length, slice_index_or, slice_set, All, IfOk, OnOk};
 ghost use Rattle.ff_value.specs.Spelled.{IsWellSpelledInput};
-ghost use Rattle.ff_reactive.specs.Worlds.{leader, offer, AreLeaders};
-ghost use Rattle.ff_pool.specs.Heads.{Head, step_of, step_head, offer_head, head_turns, given};
+ghost use Rattle.ff_reactive.specs.Worlds.{leader, offer, split, AreLeaders};
+ghost use Rattle.ff_pool.specs.Heads.{Head, HasArrived, same_input, step_of, step_head, offer_head, head_works, head_turns, given};
 
+use crate::classes::split;
 use crate::group::Group;
 use crate::outs::Outs;
 use ff_core::NoMemory;
@@ -58,9 +59,40 @@ fn give_class(
     Ok(())
 }
 
+/// Whether the class of a level has work.
+pub(crate) fn has_work(heads: &[Group], leaders: &[usize], l: usize) -> bool
+    requires level { l < length leaders.now }
+    requires led { leader leaders.now l < length heads.now }
+    ensures { (d : Head) → result ≡ head_works (slice_index_or heads.now (leader leaders.now l) d) }
+{
+    heads[leaders[l]].has_work()
+}
+
+/// The offers arrive: the leaders part, new ones get forks of the browsers that led them, and each
+/// class gets its offer. Answers the new leaders.
+pub(crate) fn arrive_heads<C: Ledger>(
+    alloc: Global,
+    heads: &mut [Group],
+    leaders: &[usize],
+    offers: &[Option<Input>],
+    copies: &mut Steps<C>,
+) -> Result<Vec<usize>, NoMemory>
+    requires heads { length heads.old ≡ length leaders.now }
+    requires count { length offers.now ≡ length leaders.now }
+    requires led { AreLeaders leaders.now }
+    ensures leaders { IfOk result (λ new. new.items ≡ split same_input leaders.now offers.now) }
+    ensures arrived { OnOk result ((d : Head) → HasArrived leaders.now offers.now heads.old heads.new d) }
+    ensures copies { copies.new ≡ copies.old }
+{
+    let new = split(alloc, leaders, offers)?;
+    fork_heads(heads, leaders, new.as_slice(), copies)?;
+    offer_heads(heads, new.as_slice(), offers)?;
+    Ok(new)
+}
+
 /// Each level that leads a class now and led none before gets a fork of the browser and the inbox
 /// of its class.
-pub(crate) fn fork_heads<C: Ledger>(
+fn fork_heads<C: Ledger>(
     heads: &mut [Group],
     old: &[usize],
     new: &[usize],
@@ -74,14 +106,31 @@ pub(crate) fn fork_heads<C: Ledger>(
 {
     for l in 0..new.len() {
         if new[l] == l && old[l] != l {
-            heads[l] = heads[old[l]].fork(copies)?;
+            fork_head(heads, old[l], l, copies)?;
         }
     }
     Ok(())
 }
 
+/// One level gets a fork of another one's group.
+fn fork_head<C: Ledger>(
+    heads: &mut [Group],
+    from: usize,
+    to: usize,
+    copies: &mut Steps<C>,
+) -> Result<(), NoMemory>
+    requires from { from < length heads.old }
+    requires to { to < length heads.old }
+    ensures forked { OnOk result ((d : Head) → heads.new ≡ slice_set heads.old to (slice_index_or heads.old from d)) }
+    ensures copies { copies.new ≡ copies.old }
+{
+    let fork = heads[from].fork(copies)?;
+    heads[to] = fork;
+    Ok(())
+}
+
 /// Each class gets the offer of its leader.
-pub(crate) fn offer_heads(
+fn offer_heads(
     heads: &mut [Group],
     leaders: &[usize],
     offers: &[Option<Input>],
