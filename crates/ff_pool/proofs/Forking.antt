@@ -1,8 +1,9 @@
 -- New leaders get a fork of the browser of their class, level by level.
 use Rattle.std.proofs.Common.{◌≡◌, ◌≢◌, ℕ, ◌+◌, ◌<◌, ◌≤◌, List, length, get_or, set, refl, sym, ap, ◌∙◌, arith, ◌⊎◌, inl, inr, length-set, get_or-set_same, get_or-set_other}
-use Rattle.std.proofs.lemmas.Bool.{cases_lt, cases_eq}
+use Rattle.std.proofs.lemmas.Bool.{cases_lt}
+use Rattle.std.proofs.lemmas.List.{get_or_default}
 use Rattle.ff_reactive.specs.Worlds.{leader, AreLeaders}
-use Rattle.ff_pool.specs.Heads.{Head}
+use Rattle.ff_pool.specs.Heads.{Head, new_head}
 
 -- the levels below l that lead now have the heads of those that led them, and old leaders theirs
 pub record IsForking (first : List Head) (old new : List ℕ) (heads : List Head) (l : ℕ) : Type 0 where
@@ -59,3 +60,11 @@ module _ {first : List Head} {old new : List ℕ} where
       from : (j : ℕ) (d : Head) → j < l + 1 → leader new j ≡ j → (j < l) ⊎ (l ≤ j) → get_or heads' j d ≡ get_or first (leader old j) d
       from j d less leads (inl below_l) = other j d (λ e. omega arith) ∙ at.done j d below_l leads
       from j d less leads (inr at_l) = let e : l ≡ j = omega arith in sym (ap (λ i. get_or heads' i d) e) ∙ here d ∙ ap (λ i. get_or first (leader old i) d) e
+
+  -- the same, as one level's fork is said
+  pub forking_forked : (heads : List Head) (l : ℕ) → IsForking first old new heads l → leader old l ≢ l → l < length heads → AreLeaders old → l < length old
+      → (heads' : List Head) → ((d : Head) → heads' ≡ set heads l (get_or heads (leader old l) d)) → IsForking first old new heads' (l + 1)
+  forking_forked heads l at not_led lt led in_old heads' written =
+      let less = led.before l in_old in
+      forking_fork heads l at not_led lt led in_old heads' (get_or heads (leader old l) (new_head 0)) (written (new_head 0))
+      (λ d. get_or_default heads (leader old l) (new_head 0) d (omega arith))

@@ -5,3 +5,4 @@ pub mod Giving
 pub mod Forking
 pub mod Offering
 pub mod Gathering
+pub mod Reading
