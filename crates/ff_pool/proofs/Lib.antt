@@ -6,3 +6,4 @@ pub mod Forking
 pub mod Offering
 pub mod Gathering
 pub mod Reading
+pub mod Onward

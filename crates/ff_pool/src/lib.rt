@@ -15,10 +15,14 @@
 #![tactic(auto)]
 
 mod classes;
+mod drain;
+mod event;
 mod group;
 mod outs;
+mod play;
 mod pool;
 mod steps;
 
+pub use event::Event;
 pub use ff_core::NoMemory;
 pub use pool::{MOST_COPIES, Pool};

@@ -1,7 +1,8 @@
 //! The pool and its single steps.
-ghost use Rattle.std.specs.Prelude.{◌≡◌, ◌+◌, ◌<◌, ◌≤◌, true, false, not, IfOk, OnOk, OnErr};
+ghost use Rattle.std.specs.Prelude.{◌≡◌, ◌+◌, ◌<◌, ◌≤◌, ◌↔◌, true, false, not, IsTrue, IfOk, OnOk, OnErr};
 ghost use Rattle.ff_core.specs.declared.browser.TheConstants.{MOST_BUDGET};
 ghost use Rattle.ff_pool.specs.declared.pool.TheConstants.{MOST_COPIES};
+ghost use Rattle.ff_reactive.specs.Worlds.{leader};
 ghost use Rattle.ff_pool.specs.Heads.{class_of};
 ghost use Rattle.ff_pool.specs.Pooled as pooled;
 ghost use Rattle.ff_pool.specs.Pooled.{size, copy_of, new_pool, arrived, turned, taken, step_turns, AreOffersTo, IsPool};
@@ -87,6 +88,24 @@ impl Pool {
         ensures few { self.now.spent ≡ false → size self.now ≤ MOST_COPIES }
     {
         self.spent
+    }
+
+    /// The number of levels.
+    pub fn size(&self) -> u8
+        requires { self.now.spent ≡ false }
+        ensures { result ≡ size self.now }
+    {
+        self.leaders.len() as u8
+    }
+
+    /// Whether the level is the least of its class.
+    pub(crate) fn leads(&self, l: Level) -> bool
+        requires unspent { self.now.spent ≡ false }
+        requires level { l.0 < size self.now }
+        ensures { IsTrue result ↔ (leader self.now.world.leaders l.0 ≡ l.0) }
+    {
+        let l = usize::from(l.0);
+        self.leaders[l] == l
     }
 
     /// Whether the level's browser isn't quiet or an input waits for it.

@@ -9,7 +9,7 @@ use Rattle.std.proofs.lemmas.List.Elements.{All-get_or}
 use Rattle.ff_reactive.specs.Copies.{below}
 use Rattle.ff_reactive.specs.Turns.{Reactor, settle, machine_of}
 use Rattle.ff_reactive.specs.Loops.{handle_seen}
-use Rattle.ff_reactive.specs.Worlds.{Copy, World, leader, offer, levels, each, keep_together, new_leader, split, new_copy, copy_at, new_world, taken, turned_once, stepped, gone_on, step_copy, offered, waits, works, has_work, step_turns, emptied, world_arrive, world_turn, world_take, finish, left, world_drain, world_left, Ends, IsCopy, AreLeaders, IsWorld, AreAtRest, OfferOk, AreOffers}
+use Rattle.ff_reactive.specs.Worlds.{Copy, World, leader, offer, levels, each, keep_together, new_leader, split, new_copy, copy_at, new_world, taken, turned_once, stepped, gone_on, step_copy, offered, waits, works, has_work, step_turns, emptied, world_arrive, world_turn, world_take, finish, left, world_drain, world_left, world_steps, Ends, IsCopy, AreLeaders, IsWorld, AreAtRest, OfferOk, AreOffers}
 use Rattle.ff_reactive.proofs.Below.{length-each, get_or-each, each_agree, each_is, sum_agree_below, sum_one_below, sum_none_below}
 use Rattle.ff_reactive.proofs.Finishing.{finish_rest, left_rest, finish_step, left_step, finish_offered, left_offered, finish_alike, finish_inbox, new_copy_ok, step_copy_ok, offered_ok, emptied_ok, finish_ok}
 use Rattle.ff_reactive.proofs.Classes.{IsSame, together_parts, new_leader_within, new_leader_together, leader-split, length-split, split_leads}
@@ -274,8 +274,9 @@ module _ {I O S : Type 0} {r : Reactor I O S} {most : ℕ} {InputOk : I → Type
       from (i ∷ is) true some e = omega (arith, e)
       from is false some e = omega (arith, e)
 
-  pub efforts-turn : (w : World I O S) (l : ℕ) → Ok w → l < levels w → has_work r (copy_at r w l) ≡ true → class_sum effort w ≡ class_sum effort (world_turn r w l) + 1
-  efforts-turn w l is lt work =
+  pub steps-turn : (w : World I O S) (l : ℕ) → Ok w → l < levels w → has_work r (copy_at r w l) ≡ true → world_steps r most w ≡ world_steps r most (world_turn r w l) + 1
+  unfolding world_steps
+  steps-turn w l is lt work =
       class_sum-turn effort w l 1 is lt
       (effort_step (copy_at r w (leader w.leaders l)) (is.ok (leader w.leaders l) (leader_in w is l lt)).ends
       (sym (ap₂ (λ s js. works r s js) (is.states_alike l lt) (is.inboxes_alike l lt)) ∙ work))

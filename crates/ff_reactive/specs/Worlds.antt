@@ -151,6 +151,10 @@ module _ {I O S : Type 0} (r : Reactor I O S) where
     unfoldable pub world_left : World I O S → ℕ
     world_left w = sum_by (λ l. cond (leader w.leaders l == l) (left (copy_at w l)) 0) (below (levels w))
 
+    -- The steps that this takes: turns, and inputs that are taken.
+    unfoldable pub world_steps : World I O S → ℕ
+    world_steps w = sum_by (λ l. cond (leader w.leaders l == l) (left (copy_at w l) + length (copy_at w l).inbox) 0) (below (levels w))
+
 -- What a level was offered, in order.
 abbrev pub offered_to : {I : Type 0} → ℕ → List (Event I) → List I
 offered_to l [] = []

@@ -15,7 +15,7 @@ loop-l-preserved g c =
       | then-new-l+then-old-l+in_ok-fork_head w ↦
           record {
             forking = subst (λ hs. IsForking c.args.heads.now c.args.old.now c.args.new.now hs (c.loop-l.l + 1)) (sym w.heads-is)
-            (forking_forked c.loop-l.heads c.loop-l.l at.forking w.if-old-l.true in_heads c.requires.led in_old w.fork_head.new.heads w.in_ok-fork_head.ensures.forked);
+                (forking_forked c.loop-l.heads c.loop-l.l at.forking w.if-old-l.true in_heads c.requires.led in_old w.fork_head.new.heads w.in_ok-fork_head.ensures.forked);
             same = w.copies-is ∙ w.in_ok-fork_head.ensures.copies ∙ at.same;
           }
       | else-new-l w ↦
