@@ -7,3 +7,4 @@ pub mod Offering
 pub mod Gathering
 pub mod Reading
 pub mod Onward
+pub mod Playing
