@@ -3,6 +3,7 @@ use Rattle.std.proofs.Common.{◌≡◌, ◌≢◌, ℕ, ◌+◌, ◌<◌, ◌�
 use Rattle.std.proofs.lemmas.Bool.{eqb-true, eqb-false, eq-eqb}
 use Rattle.std.proofs.lemmas.List.{get_or_default}
 use Rattle.std.specs.List.{cons_option}
+use Rattle.ff_lattice.specs.declared.names.TheConstants.{MOST_LEVELS}
 use Rattle.ff_value.specs.Spelled.{IsWellSpelledInput}
 use Rattle.ff_value.specs.declared.input.Input.{Input}
 use Rattle.ff_value.specs.declared.output.Out.{Out}
@@ -178,7 +179,7 @@ gathered-new fuel n heads puts leaders at_heads at_puts at_leaders =
         ap₂ (λ hs j. head_at fuel hs j) at_heads (ap (λ ls. leader ls k) at_leaders ∙ get_or-each {X = ℕ} (λ j. 0) n k 0 in_k)
         ∙ get_or-each (λ j. new_head fuel) n 0 (new_head fuel) (omega arith)
 
-pub kept-new : (fuel n : ℕ) (heads : List Head) (puts : List (List Out)) (leaders : List ℕ) → n ≤ 16
+pub kept-new : (fuel n : ℕ) (heads : List Head) (puts : List (List Out)) (leaders : List ℕ) → n ≤ MOST_LEVELS
     → heads ≡ each (λ k. new_head fuel) n → puts ≡ each (λ k. []) n → leaders ≡ each (λ k. 0) n
     → IsKept fuel heads puts leaders
 kept-new fuel n heads puts leaders most at_heads at_puts at_leaders =

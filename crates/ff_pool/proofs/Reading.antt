@@ -12,12 +12,26 @@ use Rattle.ff_pool.specs.Pooled.{Pooled, seen, size, has_work, step_turns, arriv
 use Rattle.ff_pool.proofs.Parting.{same_input_decides}
 use Rattle.ff_pool.proofs.Gathering.{head_default, spelled_at, work_at, turns_at, gathered-turn, kept-turn, gathered-arrive, kept-arrive}
 
--- a level of the pool is one of its parts
-pub level_in : (fuel : ℕ) (spent : Bool) (heads : List Head) (puts : List (List Out)) (leaders : List ℕ) (p : Pooled) (l : ℕ) → seen fuel spent heads puts leaders ≡ p → l < size p → l < length leaders
-level_in fuel spent heads puts leaders p l view lt = subst (λ q. l < size q) (sym view) lt
+-- what is known where a call has opened a pool that isn't spent
+module _ {fuel : ℕ} {spent : Bool} {heads : List Head} {puts : List (List Out)} {leaders : List ℕ} {p : Pooled} (invariant : spent ≡ false → IsKept fuel heads puts leaders) (unspent : spent ≡ false) (view : seen fuel spent heads puts leaders ≡ p) where
+  kept : IsKept fuel heads puts leaders
+  kept = invariant unspent
 
-module _ {fuel : ℕ} {heads : List Head} {puts : List (List Out)} {leaders : List ℕ} (kept : IsKept fuel heads puts leaders) where
-  module _ {xs : List Head} {ls : List ℕ} {k l : ℕ} (level : l < length leaders) (heads_are : xs ≡ heads) (leaders_are : ls ≡ leaders) (at : k ≡ l) where
+  -- the pool isn't spent
+  pub seen_unspent : p.spent ≡ false
+  seen_unspent = ap (λ q. q.spent) (sym view) ∙ unspent
+
+  plain_view : seen fuel false heads puts leaders ≡ p
+  plain_view = ap (λ b. seen fuel b heads puts leaders) (sym unspent) ∙ view
+
+  -- a level of the pool is one of its parts
+  pub level_in : (l : ℕ) → (p.spent ≡ false → l < size p) → l < length leaders
+  level_in l within = subst (λ q. l < size q) (sym view) (within seen_unspent)
+
+  module _ {xs : List Head} {ls : List ℕ} {k l : ℕ} (within : p.spent ≡ false → l < size p) (heads_are : xs ≡ heads) (leaders_are : ls ≡ leaders) (at : k ≡ l) where
+    level : l < length leaders
+    level = level_in l within
+
     -- what is read of the leader's head
     pub read_head : {X : Type 0} (f : Head → X) (d : Head) → f (get_or xs (leader ls k) d) ≡ f (head_at fuel heads (leader leaders l))
     read_head f d =
@@ -29,11 +43,11 @@ module _ {fuel : ℕ} {heads : List Head} {puts : List (List Out)} {leaders : Li
     pub read_spelled : (d : Head) → All IsWellSpelledInput (get_or xs (leader ls k) d).inbox
     read_spelled d = subst (λ is. All IsWellSpelledInput is) (sym (read_head (λ h. h.inbox) d)) (spelled_at kept l level (new_head fuel))
 
-    pub read_work : (spent : Bool) (p : Pooled) (d : Head) → seen fuel spent heads puts leaders ≡ p → head_works (get_or xs (leader ls k) d) ≡ has_work p l
-    read_work spent p d view = read_head head_works d ∙ work_at kept l level ∙ ap (λ q. has_work q l) view
+    pub read_work : (d : Head) → head_works (get_or xs (leader ls k) d) ≡ has_work p l
+    read_work d = read_head head_works d ∙ work_at kept l level ∙ ap (λ q. has_work q l) view
 
-    pub read_turns : (spent : Bool) (p : Pooled) (d : Head) → seen fuel spent heads puts leaders ≡ p → head_turns (get_or xs (leader ls k) d) ≡ step_turns p l
-    read_turns spent p d view = read_head head_turns d ∙ turns_at kept l level ∙ ap (λ q. step_turns q l) view
+    pub read_turns : (d : Head) → head_turns (get_or xs (leader ls k) d) ≡ step_turns p l
+    read_turns d = read_head head_turns d ∙ turns_at kept l level ∙ ap (λ q. step_turns q l) view
 
     module _ {ys : List (List Out)} {heads' xs' : List Head} {puts' ys' : List (List Out)} (puts_are : ys ≡ puts) (heads_to : heads' ≡ xs') (puts_to : puts' ≡ ys')
         (done : (d : Head) → xs' ≡ set xs (leader ls k) (step_head (get_or xs (leader ls k) d)))
@@ -57,10 +71,10 @@ module _ {fuel : ℕ} {heads : List Head} {puts : List (List Out)} {leaders : Li
       pub turn_kept : IsKept fuel heads' puts' leaders
       turn_kept = kept-turn kept heads' puts' l level heads_step puts_step
 
-      pub turn_seen : (p : Pooled) → seen fuel false heads puts leaders ≡ p → seen fuel false heads' puts' leaders ≡ turned p l
-      turn_seen p view =
+      pub turn_seen : seen fuel false heads' puts' leaders ≡ turned p l
+      turn_seen =
           ap (λ w. record { fuel = fuel; spent = false; world = w }) (gathered-turn kept heads' puts' l level heads_step puts_step)
-          ∙ ap (λ q. turned q l) view
+          ∙ ap (λ q. turned q l) plain_view
 
   module _ {xs heads' xs' : List Head} {ls leaders' : List ℕ} {os offers : List (Option Input)} (heads_are : xs ≡ heads) (leaders_are : ls ≡ leaders) (offers_are : os ≡ offers)
       (heads_to : heads' ≡ xs') (leaders_to : leaders' ≡ split same_input ls os) (long : length xs' ≡ length xs) (done : (d : Head) → HasArrived ls os xs xs' d) where
@@ -74,27 +88,16 @@ module _ {fuel : ℕ} {heads : List Head} {puts : List (List Out)} {leaders : Li
         (subst (λ zs. HasArrived leaders zs xs xs' (new_head fuel)) offers_are
         (subst (λ js. HasArrived js os xs xs' (new_head fuel)) leaders_are (done (new_head fuel)))))
 
-    pub arrive_kept : AreOffers IsWellSpelledInput (length leaders) offers → IsKept fuel heads' puts leaders'
+    pub arrive_kept : (p.spent ≡ false → AreOffersTo p offers) → IsKept fuel heads' puts leaders'
     arrive_kept good =
         subst (IsKept fuel heads' puts) (sym parted)
-        (kept-arrive kept heads' offers (ap length heads_to ∙ long ∙ ap length heads_are) good arrived_heads)
+        (kept-arrive kept heads' offers (ap length heads_to ∙ long ∙ ap length heads_are) (subst (λ q. AreOffersTo q offers) (sym view) (good seen_unspent)) arrived_heads)
 
-    pub arrive_seen : (p : Pooled) → seen fuel false heads puts leaders ≡ p → seen fuel false heads' puts leaders' ≡ arrived p offers
-    arrive_seen p view =
+    pub arrive_seen : seen fuel false heads' puts leaders' ≡ arrived p offers
+    arrive_seen =
         ap (λ js. seen fuel false heads' puts js) parted
         ∙ ap (λ w. record { fuel = fuel; spent = false; world = w }) (gathered-arrive kept heads' offers arrived_heads)
-        ∙ ap (λ q. arrived q offers) view
+        ∙ ap (λ q. arrived q offers) plain_view
 
     pub arrive_levels : length leaders' ≡ length leaders
     arrive_levels = ap length parted ∙ length-split same_input same_input_decides leaders offers
-
--- the offers to a pool, as those to its parts
-pub offers_to : (fuel : ℕ) (spent : Bool) (heads : List Head) (puts : List (List Out)) (leaders : List ℕ) (p : Pooled) (offers : List (Option Input)) → seen fuel spent heads puts leaders ≡ p → AreOffersTo p offers → AreOffers IsWellSpelledInput (length leaders) offers
-offers_to fuel spent heads puts leaders p offers view good = subst (λ q. AreOffersTo q offers) (sym view) good
-
--- a pool that isn't spent
-pub unspent_view : (fuel : ℕ) (spent : Bool) (heads : List Head) (puts : List (List Out)) (leaders : List ℕ) (p : Pooled) → seen fuel spent heads puts leaders ≡ p → spent ≡ false → seen fuel false heads puts leaders ≡ p
-unspent_view fuel spent heads puts leaders p view unspent = ap (λ b. seen fuel b heads puts leaders) (sym unspent) ∙ view
-
-pub unspent_seen : (fuel : ℕ) (spent : Bool) (heads : List Head) (puts : List (List Out)) (leaders : List ℕ) (p : Pooled) → seen fuel spent heads puts leaders ≡ p → spent ≡ false → p.spent ≡ false
-unspent_seen fuel spent heads puts leaders p view unspent = ap (λ q. q.spent) (sym view) ∙ unspent

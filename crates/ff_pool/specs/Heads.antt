@@ -6,6 +6,7 @@ use Rattle.std.specs.Prelude.{◌++◌, ◌+◌, ◌==◌, ◌&&◌, nat_lt, Boo
 use Rattle.std.specs.Coded.{Coded, code_by, coded×, coded_list}
 use Rattle.ff_shared.specs.Content.{same_content}
 use Rattle.ff_lattice.specs.LevelSet.{levels_where}
+use Rattle.ff_lattice.specs.declared.names.TheConstants.{MOST_LEVELS}
 use Rattle.ff_value.specs.Spelled.{IsWellSpelledInput}
 use Rattle.ff_value.specs.declared.input.Input.{Input}
 use Rattle.ff_value.specs.declared.output.Out.{Out}
@@ -74,7 +75,7 @@ gathered_copies fuel heads puts leaders = each (gathered_copy fuel heads puts le
 abbrev pub gathered : ℕ → List Head → List (List Out) → List ℕ → World Input Out State
 gathered fuel heads puts leaders = record { copies = gathered_copies fuel heads puts leaders; leaders = leaders }
 
--- a world of at most sixteen valid browsers, each with this budget, whose inboxes have well spelled
+-- a world of valid browsers, each with this budget, whose inboxes have well spelled
 -- inputs
 abbrev pub IsWorldOf : ℕ → World Input Out State → Type 0
 IsWorldOf fuel w = IsWorld (reactor fuel) (fuel + 1) IsWellSpelledInput (IsState fuel) w
@@ -93,5 +94,5 @@ class_of leaders l = levels_where (λ k. nat_lt k (length leaders) && leader lea
 pub record IsKept (fuel : ℕ) (heads : List Head) (puts : List (List Out)) (leaders : List ℕ) : Type 0 where
   pub heads_count : length heads ≡ length leaders
   pub puts_count : length puts ≡ length leaders
-  pub most : length leaders ≤ 16
+  pub most : length leaders ≤ MOST_LEVELS
   pub world : IsWorldOf fuel (gathered fuel heads puts leaders)

@@ -1,6 +1,7 @@
 //! How classes part: which level leads which class after an arrival.
 ghost use Rattle.std.specs.Prelude.{◌≡◌, ◌<◌, ◌≤◌, length, IfOk};
 ghost use Rattle.std.specs.Option.{option_eq};
+ghost use Rattle.ff_lattice.specs.declared.names.TheConstants.{MOST_LEVELS};
 ghost use Rattle.ff_reactive.specs.Worlds.{keep_together, new_leader, split};
 ghost use Rattle.ff_pool.specs.Heads.{same_input, class_of};
 
@@ -74,7 +75,7 @@ fn same(x: &Input, y: &Input) -> bool
 /// The levels of a level's class.
 pub(crate) fn class_of(leaders: &[usize], l: usize) -> LevelSet
     requires level { l < length leaders.now }
-    requires few { length leaders.now ≤ 16 }
+    requires few { length leaders.now ≤ MOST_LEVELS }
     ensures { result ≡ class_of leaders.now l }
 {
     let mut class = LevelSet::empty();

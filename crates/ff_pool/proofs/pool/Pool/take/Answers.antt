@@ -2,7 +2,7 @@ use Rattle.std.proofs.Common.{◌≡◌, ◌∙◌, ap, ap₂, sym, set, get_or,
 use Rattle.std.proofs.lemmas.List.{get_or_read}
 use Rattle.ff_pool.specs.Pooled.{taken, copy_of, size}
 use Rattle.ff_pool.proofs.Gathering.{gathered-take, kept-take, outputs_of}
-use Rattle.ff_pool.proofs.Reading.{level_in, unspent_seen}
+use Rattle.ff_pool.proofs.Reading.{level_in}
 use Rattle.ff_pool.proofs.pool.Pool.take.Goals as goal
 
 pub invariant_of-self : goal.invariant_of-self
@@ -23,8 +23,7 @@ pub returns-clause-outputs : goal.returns-clause-outputs
 returns-clause-outputs c =
     let s = c.self.inside in
     let kept = c.self.invariant c.if-self.false in
-    let within = c.requires (unspent_seen s.fuel s.spent s.heads.items s.puts.items s.leaders.items c.args.self.now c.self.view_is c.if-self.false) in
-    let level : c.args.l.0 < length s.leaders.items = level_in s.fuel s.spent s.heads.items s.puts.items s.leaders.items c.args.self.now c.args.l.0 c.self.view_is within in
+    let level : c.args.l.0 < length s.leaders.items = level_in c.self.invariant c.if-self.false c.self.view_is c.args.l.0 c.requires in
     c.take.ensures.outputs
     ∙ get_or_read s.puts.items c.from.result c.index_mut.result.now (let e = kept.puts_count in let f = c.from.ensures in omega (arith, e, f, level)) c.index_mut.ensures.value []
     ∙ ap (λ k. get_or s.puts.items k []) c.from.ensures
