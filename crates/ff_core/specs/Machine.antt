@@ -1,5 +1,6 @@
--- One browser as a reactor: what it makes of an input, and what one of its turns is.
-use Rattle.std.specs.Prelude.{◌≡◌, ℕ, true, false, cond, List, [], ◌∷◌, ⊤}
+-- One browser as a reactor: what it makes of an input, and what one of its turns is; and as a
+-- machine.
+use Rattle.std.specs.Prelude.{ℕ, ◌+◌, true, false, cond, List, [], ◌∷◌}
 use Rattle.ff_reactive.specs.Runs.{Machine}
 use Rattle.ff_reactive.specs.Turns.{Stepped, Reactor, machine_of}
 use Rattle.ff_value.specs.declared.input.Act.{Act}
@@ -7,28 +8,10 @@ use Rattle.ff_value.specs.declared.input.Act.TheVariants.{Opens}
 use Rattle.ff_value.specs.declared.input.Input.{Input}
 use Rattle.ff_value.specs.declared.output.Out.{Out}
 use Rattle.ff_value.specs.declared.output.Out.TheVariants.{Opened, Send}
-use Rattle.ff_name.specs.Spelling.{IsDomain}
-use Rattle.ff_name.specs.Address.{IsRequest, IsWellSpelled}
 use Rattle.ff_name.specs.declared.urls.Url.{Url}
 use Rattle.ff_name.specs.declared.urls.Url.TheVariants.{Blank, At}
 use Rattle.ff_value.specs.declared.ids.WinId.{WinId}
 use Rattle.ff_core.specs.State.{State, empty, has_window_room, have_room, next_window, with_window, with_request}
-
--- the act opens a window at a well spelled address
-abbrev pub IsOpening : Act → Type 0
-IsOpening (Opens url) = IsWellSpelled url
-IsOpening other = ⊥
-
--- a well spelled input of a kind that is built
-abbrev pub IsBuilt : Input → Type 0
-IsBuilt i = IsOpening i.act
-
--- an output of a kind that is built: a window was opened, or a request without cookies and with an
--- empty body is sent
-abbrev pub IsOutput : Out → Type 0
-IsOutput Opened = ⊤
-IsOutput (Send domain uri cookies body) = IsDomain domain × IsRequest uri × (cookies ≡ []) × (body ≡ [])
-IsOutput other = ⊥
 
 -- sends a request for a window, where there is room for it
 abbrev pub send : State → List ℕ → List ℕ → WinId → Stepped Out State
@@ -48,27 +31,23 @@ visit s (At domain uri) =
 abbrev pub open_window : State → Url → Stepped Out State
 open_window s url = cond (has_window_room s) (visit s url) (record { outputs = []; after = s })
 
--- what a state makes of an act
+-- what a state makes of an act: of those that aren't built yet, nothing
 abbrev pub perform : State → Act → Stepped Out State
 perform s (Opens url) = open_window s url
 perform s other = record { outputs = []; after = s }
 
--- takes an input: the browser is then not quiet
+-- an input brings fuel and its act is performed: the browser is then not quiet
 unfoldable pub begin : State → Input → Stepped Out State
-begin s i = perform (record s { quiet = false }) i.act
+begin s i = perform (record s { fuel = s.budget; quiet = false }) i.act
 
--- one turn: the browser settles, puts nothing and is quiet
+-- one turn: the browser settles, puts nothing, no fuel is left, and it is quiet
 unfoldable pub turn : State → Stepped Out State
-turn s = record { outputs = []; after = record s { quiet = true } }
+turn s = record { outputs = []; after = record s { fuel = 0; quiet = true } }
 
--- the browser as a reactor
-abbrev pub reactor : Reactor Input Out State
-reactor = record { start = empty; begin = begin; turn = turn; quiet = λ s. s.quiet }
+-- the browser, with the fuel that each input brings
+abbrev pub reactor : ℕ → Reactor Input Out State
+reactor budget = record { start = empty budget; begin = begin; turn = turn; quiet = λ s. s.quiet }
 
--- what holds of a browser between inputs
-abbrev pub IsQuiet : State → Type 0
-IsQuiet s = s.quiet ≡ true
-
--- the browser as a machine: each input takes one turn
-abbrev pub machine : Machine Input Out State
-machine = machine_of reactor 1
+-- the machine that it is: an input takes at most one turn more than it brings fuel
+abbrev pub browser : ℕ → Machine Input Out State
+browser fuel = machine_of (reactor fuel) (fuel + 1)

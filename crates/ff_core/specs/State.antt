@@ -1,5 +1,5 @@
--- What clauses see of a browser, and the room that it has.
-use Rattle.std.specs.Prelude.{ℕ, Bool, true, ◌&&◌, nat_lt, List, [], ◌∷◌, ◌++◌, length, count_by, bytes_eq}
+-- What clauses see of a browser, which states are valid, and the room that they have.
+use Rattle.std.specs.Prelude.{◌≡◌, ◌≤◌, ℕ, Bool, true, ◌&&◌, nat_lt, List, [], ◌∷◌, ◌++◌, length, count_by, bytes_eq}
 use Rattle.ff_value.specs.declared.ids.WinId.{WinId}
 use Rattle.ff_core.specs.declared.browser.Pending.{Pending}
 use Rattle.ff_core.specs.declared.browser.TheConstants.{MOST_WAITING, MOST_WAITING_AT_ONE, MOST_WINDOWS}
@@ -9,12 +9,22 @@ pub record State : Type 0 where
   pub windows : List WinId
   -- the requests that wait for their replies, the oldest first
   pub pending : List Pending
+  -- the fuel that each input brings
+  pub budget : ℕ
+  -- the fuel that is left
+  pub fuel : ℕ
   -- whether the browser takes an input
   pub quiet : Bool
 
--- no window, no request, and quiet
-abbrev pub empty : State
-empty = record { windows = []; pending = []; quiet = true }
+-- no window, no request, no fuel, and quiet
+abbrev pub empty : ℕ → State
+empty budget = record { windows = []; pending = []; budget = budget; fuel = 0; quiet = true }
+
+-- A valid state of the browser to which each input brings so much fuel.
+pub record IsState (budget : ℕ) (s : State) : Type 0 where
+  pub budget_is : s.budget ≡ budget
+  pub within : s.fuel ≤ budget
+  pub room : length s.windows ≤ MOST_WINDOWS
 
 -- fewer windows are open than may be
 abbrev pub has_window_room : State → Bool

@@ -11,3 +11,9 @@ pub mod View
 pub mod Laws
 pub mod Turns
 pub mod Sharing
+pub mod Below
+pub mod Finishing
+pub mod Classes
+pub mod Worlds
+pub mod Schedules
+pub mod Resting

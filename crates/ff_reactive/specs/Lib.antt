@@ -6,3 +6,4 @@ pub mod Laws
 pub mod Turns
 pub mod Loops
 pub mod Sharing
+pub mod Worlds

@@ -32,6 +32,12 @@
 //!   levels, and `text_below` is the text so far.
 //! - `Sharing`: `work` is the number of turns where copies that have seen the same so far are one
 //!   copy, and each turn of such a class is made once.
+//! - `Worlds`: a `World` has for each level a copy of a reactor, with the inputs that wait for it
+//!   and the outputs that nobody took, and its class, the levels that have been one copy so far.
+//!   `world_arrive`, `world_turn` and `world_take` are its steps, `world_drain` is what all classes
+//!   come to, and `world_left` the turns that this takes, each class once. `IsPlayed` is what holds
+//!   after any list of arrivals and turns, `IsRested` and `IsTaking` where a world stands between
+//!   and within the inputs of a run.
 //!
 //! # Laws
 //!
@@ -50,5 +56,18 @@
 //! loop of turns, with the bound that fuel gives: an input that brings at most `most` fuel is
 //! handled to its end in at most `most + 1` turns. `proofs/Sharing.antt` has the work of one more
 //! input, and shows that where all levels see all, the work is that of the one plain run.
+//!
+//! Of worlds of copies, where the reactor ends each input within some number of turns (`Ends`, which
+//! fuel gives):
+//!
+//! - `proofs/Worlds.antt`: each step keeps the world well formed, with levels of one class alike. A
+//!   step leaves what the world comes to as it is, and lowers what is left by the turns it counts.
+//! - `every_schedule` (`proofs/Schedules.antt`): after any list of events from a new world, what a
+//!   level has put begins its plain run over what it was offered, and is all of that where it has no
+//!   work; its class are the levels that were offered the same each time.
+//! - `proofs/Resting.antt`: an input that arrives at a world at rest, is drained and is taken level
+//!   by level gives at each level exactly the entry of the multi-executed run, and what was left
+//!   after the arrival is exactly the input's part of the work of shared copies.
+//!
 //! `proofs/Rows.antt` runs a machine of two levels by hand.
 #![tactic(auto)]

@@ -1,0 +1,24 @@
+use Rattle.std.proofs.Common.{◌≡◌, ◌∙◌, ap, length, arith}
+use Rattle.std.proofs.lemmas.List.{with_items_is}
+use Rattle.ff_pool.specs.Pooled.{size}
+use Rattle.ff_pool.proofs.Reading.{arrive_kept, arrive_seen, arrive_levels}
+use Rattle.ff_pool.proofs.pool.Pool.arrive.Goals as goal
+
+pub invariant_of-self-2 : goal.invariant_of-self-2
+invariant_of-self-2 g c = λ still.
+    let heads_long : length c.arrive_heads.new.heads ≡ c.self.inside.heads.len = c.arrive_heads.auto.heads ∙ ap length c.as_mut_slice.ensures.value ∙ (omega (arith, c.self.inside.heads.ok)) in
+    arrive_kept c.self.invariant c.if-self.false c.self.view_is c.as_mut_slice.ensures.value c.as_slice.ensures.value c.as_slice-2.ensures
+    (with_items_is c.self.inside.heads c.arrive_heads.new.heads heads_long) c.in_ok-leaders.ensures.leaders c.arrive_heads.auto.heads c.in_ok-leaders.ensures.arrived c.requires
+
+pub returns-clause-done : goal.returns-clause-done
+returns-clause-done g c =
+    let heads_long : length c.arrive_heads.new.heads ≡ c.self.inside.heads.len = c.arrive_heads.auto.heads ∙ ap length c.as_mut_slice.ensures.value ∙ (omega (arith, c.self.inside.heads.ok)) in
+    arrive_seen c.self.invariant c.if-self.false c.self.view_is c.as_mut_slice.ensures.value c.as_slice.ensures.value c.as_slice-2.ensures
+    (with_items_is c.self.inside.heads c.arrive_heads.new.heads heads_long) c.in_ok-leaders.ensures.leaders c.arrive_heads.auto.heads c.in_ok-leaders.ensures.arrived
+
+pub returns-clause-levels : goal.returns-clause-levels
+returns-clause-levels g c =
+    let heads_long : length c.arrive_heads.new.heads ≡ c.self.inside.heads.len = c.arrive_heads.auto.heads ∙ ap length c.as_mut_slice.ensures.value ∙ (omega (arith, c.self.inside.heads.ok)) in
+    arrive_levels c.self.invariant c.if-self.false c.self.view_is c.as_mut_slice.ensures.value c.as_slice.ensures.value c.as_slice-2.ensures
+    (with_items_is c.self.inside.heads c.arrive_heads.new.heads heads_long) c.in_ok-leaders.ensures.leaders c.arrive_heads.auto.heads c.in_ok-leaders.ensures.arrived
+    ∙ ap size c.self.view_is

@@ -1,0 +1,19 @@
+use Rattle.std.proofs.Common.{◌≡◌, ◌∙◌, ap, false, arith}
+use Rattle.ff_core.specs.Machine.{reactor}
+use Rattle.ff_reactive.specs.Worlds.{new_world}
+use Rattle.ff_pool.specs.Pooled.{Pooled}
+use Rattle.ff_pool.proofs.Gathering.{gathered-new, kept-new}
+use Rattle.ff_pool.proofs.pool.Pool.new.Goals as goal
+
+pub invariant_of-result : goal.invariant_of-result
+invariant_of-result c = λ unspent.
+    let at = c.loop-level in
+    kept-new c.args.fuel at._level at.heads.items at.puts.items at.leaders.items (omega arith) at.invariant.heads at.invariant.puts at.invariant.leaders
+
+pub returns : goal.returns
+returns c =
+    let at = c.loop-level in
+    let all : at._level ≡ c.args.n = omega arith in
+    ap (λ w. record { fuel = c.args.fuel; spent = false; world = w })
+    (gathered-new c.args.fuel at._level at.heads.items at.puts.items at.leaders.items at.invariant.heads at.invariant.puts at.invariant.leaders
+    ∙ ap (new_world (reactor c.args.fuel)) all)

@@ -1,0 +1,98 @@
+-- The parts of a pool: a browser and an inbox for each class, the outputs of each level, and which
+-- level leads which class; and the world of copies that these are.
+use Rattle.std.specs.Prelude.{◌≡◌, ◌<◌, ◌≤◌, ℕ, false, Option, List, [], length, slice_index_or, refl}
+use Rattle.std.specs.List.{cons_option}
+use Rattle.std.specs.Prelude.{◌++◌, ◌+◌, ◌==◌, ◌&&◌, nat_lt, Bool, cond}
+use Rattle.std.specs.Coded.{Coded, code_by, coded×, coded_list}
+use Rattle.ff_shared.specs.Content.{same_content}
+use Rattle.ff_lattice.specs.LevelSet.{levels_where}
+use Rattle.ff_lattice.specs.declared.names.TheConstants.{MOST_LEVELS}
+use Rattle.ff_value.specs.Spelled.{IsWellSpelledInput}
+use Rattle.ff_value.specs.declared.input.Input.{Input}
+use Rattle.ff_value.specs.declared.output.Out.{Out}
+use Rattle.ff_value.specs.contracts.input.Input as input
+use Rattle.ff_core.specs.State.{State, empty, IsState}
+use Rattle.ff_core.specs.Machine.{reactor}
+use Rattle.ff_core.specs.contracts.browser.Browser as browser
+use Rattle.ff_reactive.specs.Worlds.{Copy, World, IsWorld, each, leader, offer, split, stepped, works, step_turns}
+
+-- the copy of a class: the state of its browser, and the inputs that wait
+pub record Head : Type 0 where
+  pub state : State
+  pub inbox : List Input
+
+abbrev pub coded_head : Coded Head
+coded_head =
+    code_by (State × List Input) (coded× browser.the_row.coded (coded_list input.the_row.coded)) (λ h. (h.state, h.inbox)) (λ p. record { state = p.0; inbox = p.1 }) (λ _. refl)
+
+-- whether two inputs are equal, their tags too
+unfoldable pub same_input : Input → Input → Bool
+same_input = same_content input.the_row.coded
+
+-- a browser to which nothing was offered
+abbrev pub new_head : ℕ → Head
+new_head fuel = record { state = empty fuel; inbox = [] }
+
+abbrev pub head_at : ℕ → List Head → ℕ → Head
+head_at fuel heads k = slice_index_or heads k (new_head fuel)
+
+abbrev pub outputs_at : List (List Out) → ℕ → List Out
+outputs_at puts k = slice_index_or puts k []
+
+-- what one step makes of a head, and what it puts
+abbrev pub step_of : Head → Copy Input Out State
+step_of h = stepped (reactor h.state.budget) h.state h.inbox
+
+abbrev pub step_head : Head → Head
+step_head h = record { state = (step_of h).state; inbox = (step_of h).inbox }
+
+-- a head with an offer, where there is one, at the end of its inbox
+abbrev pub offer_head : Head → Option Input → Head
+offer_head h o = record { state = h.state; inbox = h.inbox ++ cons_option o [] }
+
+-- whether a head has work, and the turns that one step of it counts
+abbrev pub head_works : Head → Bool
+head_works h = works (reactor h.state.budget) h.state h.inbox
+
+abbrev pub head_turns : Head → ℕ
+head_turns h = step_turns (reactor h.state.budget) h.state
+
+-- the outputs of all levels, with these behind those of one class
+unfoldable pub given : List (List Out) → List ℕ → ℕ → List Out → List (List Out)
+given puts leaders top outs = each (λ k. cond (leader leaders k == top) (outputs_at puts k ++ outs) (outputs_at puts k)) (length leaders)
+
+-- a level's copy: that of its leader, with its own outputs
+abbrev pub gathered_copy : ℕ → List Head → List (List Out) → List ℕ → ℕ → Copy Input Out State
+gathered_copy fuel heads puts leaders l = record {
+  state = (head_at fuel heads (leader leaders l)).state;
+  inbox = (head_at fuel heads (leader leaders l)).inbox;
+  outputs = outputs_at puts l;
+}
+
+unfoldable pub gathered_copies : ℕ → List Head → List (List Out) → List ℕ → List (Copy Input Out State)
+gathered_copies fuel heads puts leaders = each (gathered_copy fuel heads puts leaders) (length leaders)
+
+abbrev pub gathered : ℕ → List Head → List (List Out) → List ℕ → World Input Out State
+gathered fuel heads puts leaders = record { copies = gathered_copies fuel heads puts leaders; leaders = leaders }
+
+-- a world of valid browsers, each with this budget, whose inboxes have well spelled
+-- inputs
+abbrev pub IsWorldOf : ℕ → World Input Out State → Type 0
+IsWorldOf fuel w = IsWorld (reactor fuel) (fuel + 1) IsWellSpelledInput (IsState fuel) w
+
+-- the leaders after an arrival have the heads of those that led them, with their offers; d stands
+-- past the ends of the lists
+abbrev pub HasArrived : List ℕ → List (Option Input) → List Head → List Head → Head → Type 0
+HasArrived leaders offers old new d = (l : ℕ) → l < length leaders → leader (split same_input leaders offers) l ≡ l
+    → slice_index_or new l d ≡ offer_head (slice_index_or old (leader leaders l) d) (offer offers l)
+
+-- the levels of a level's class
+unfoldable pub class_of : List ℕ → ℕ → List ℕ
+class_of leaders l = levels_where (λ k. nat_lt k (length leaders) && leader leaders k == leader leaders l)
+
+-- the parts of a pool that isn't spent
+pub record IsKept (fuel : ℕ) (heads : List Head) (puts : List (List Out)) (leaders : List ℕ) : Type 0 where
+  pub heads_count : length heads ≡ length leaders
+  pub puts_count : length puts ≡ length leaders
+  pub most : length leaders ≤ MOST_LEVELS
+  pub world : IsWorldOf fuel (gathered fuel heads puts leaders)

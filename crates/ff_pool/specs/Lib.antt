@@ -1,0 +1,4 @@
+pub mod Heads
+pub mod Pooled
+pub mod Draining
+pub mod Events

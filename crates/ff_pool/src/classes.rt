@@ -1,0 +1,88 @@
+//! How classes part: which level leads which class after an arrival.
+ghost use Rattle.std.specs.Prelude.{◌≡◌, ◌<◌, ◌≤◌, length, IfOk};
+ghost use Rattle.std.specs.Option.{option_eq};
+ghost use Rattle.ff_lattice.specs.declared.names.TheConstants.{MOST_LEVELS};
+ghost use Rattle.ff_reactive.specs.Worlds.{keep_together, new_leader, split};
+ghost use Rattle.ff_pool.specs.Heads.{same_input, class_of};
+
+use ff_core::NoMemory;
+use ff_lattice::LevelSet;
+use ff_name::Level;
+use ff_value::Input;
+use std::alloc::Global;
+
+/// The leaders where levels with different offers part. Its one refusal is want of memory.
+#[tactic(auto, using(crate::proofs::Parting::split_more))]
+pub(crate) fn split(
+    alloc: Global,
+    leaders: &[usize],
+    offers: &[Option<Input>],
+) -> Result<Vec<usize>, NoMemory>
+    requires { length offers.now ≡ length leaders.now }
+    ensures { IfOk result (λ new. new.items ≡ split same_input leaders.now offers.now) }
+{
+    let mut new = Vec::new(alloc);
+    for l in 0..leaders.len() {
+        new.push(new_leader(leaders, offers, l))?;
+    }
+    Ok(new)
+}
+
+/// The least level that keeps together with this one.
+fn new_leader(leaders: &[usize], offers: &[Option<Input>], l: usize) -> usize
+    requires level { l < length leaders.now }
+    requires count { length offers.now ≡ length leaders.now }
+    ensures { result ≡ new_leader same_input leaders.now offers.now l }
+{
+    for k in 0..l {
+        if keep_together(leaders, offers, k, l) {
+            return k;
+        }
+    }
+    l
+}
+
+/// Whether two levels are of one class and are offered the same.
+fn keep_together(leaders: &[usize], offers: &[Option<Input>], k: usize, l: usize) -> bool
+    requires first { k < length leaders.now }
+    requires second { l < length leaders.now }
+    requires count { length offers.now ≡ length leaders.now }
+    ensures { result ≡ keep_together same_input leaders.now offers.now k l }
+{
+    leaders[k] == leaders[l] && same_offer(&offers[k], &offers[l])
+}
+
+/// Whether two offers are equal.
+fn same_offer(a: &Option<Input>, b: &Option<Input>) -> bool
+    ensures { result ≡ option_eq same_input a.now b.now }
+{
+    match a {
+        None => b.is_none(),
+        Some(x) => match b {
+            None => false,
+            Some(y) => same(x, y),
+        },
+    }
+}
+
+/// Whether two inputs are equal, their tags too.
+fn same(x: &Input, y: &Input) -> bool
+    ensures { result ≡ same_input x.now y.now }
+{
+    *x == *y
+}
+
+/// The levels of a level's class.
+pub(crate) fn class_of(leaders: &[usize], l: usize) -> LevelSet
+    requires level { l < length leaders.now }
+    requires few { length leaders.now ≤ MOST_LEVELS }
+    ensures { result ≡ class_of leaders.now l }
+{
+    let mut class = LevelSet::empty();
+    for k in 0..leaders.len() {
+        if leaders[k] == leaders[l] {
+            class = class.with(Level(k as u8));
+        }
+    }
+    class
+}

@@ -1,0 +1,111 @@
+//! The copy of one class: a browser, and the inputs that wait for it.
+ghost use Rattle.std.specs.Prelude.{◌≡◌, ◌+◌, ◌≤◌, ◌++◌, ◌∷◌, [], All, IfOk, OnOk, Some};
+ghost use Rattle.ff_value.specs.Spelled.{IsWellSpelledInput};
+ghost use Rattle.ff_core.specs.declared.browser.TheConstants.{MOST_BUDGET};
+ghost use Rattle.ff_pool.specs.Heads.{new_head, step_of, step_head, offer_head, head_works, head_turns};
+
+use ff_core::{Browser, NoMemory};
+use ff_steps::Steps;
+use ff_value::{Input, Out};
+use std::alloc::Global;
+use std::marker::Model;
+use std::sync::ledger::Ledger;
+
+/// A browser, and the inputs that wait for it in order.
+#[derive(Drop)]
+pub(crate) struct Group {
+    alloc: Global,
+    browser: Browser,
+    inbox: Vec<Input>,
+}
+
+impl Model for Group {
+    ghost use Rattle.ff_pool.specs.Heads.{Head, coded_head};
+
+    ghost Value = { Head };
+
+    ghost coded = { coded_head };
+
+    ghost view = { λ g. record { state = g.browser; inbox = g.inbox.items } };
+}
+
+impl Group {
+    /// A browser to which each input brings so much fuel, from 1 to `MOST_BUDGET`. Nothing waits for
+    /// it.
+    pub(crate) fn new(alloc: Global, fuel: u32) -> Group
+        requires some { 1 ≤ fuel }
+        requires few { fuel ≤ MOST_BUDGET }
+        ensures { result ≡ new_head fuel }
+    {
+        Group {
+            alloc,
+            browser: Browser::new(alloc, fuel),
+            inbox: Vec::new(alloc),
+        }
+    }
+
+    /// An equal group, and neither changes with the other. Its one refusal is want of memory.
+    pub(crate) fn fork<C: Ledger>(&self, copies: &mut Steps<C>) -> Result<Group, NoMemory>
+        ensures equal { IfOk result (λ group. group ≡ self.now) }
+        ensures copies { copies.new ≡ copies.old }
+    {
+        let browser = self.browser.fork(copies)?;
+        Ok(Group {
+            alloc: self.alloc,
+            browser,
+            inbox: inputs_again(self.alloc, self.inbox.as_slice())?,
+        })
+    }
+
+    /// Whether the browser isn't quiet, or an input waits.
+    pub(crate) fn has_work(&self) -> bool
+        ensures { result ≡ head_works self.now }
+    {
+        !self.browser.quiet() || !self.inbox.is_empty()
+    }
+
+    /// An input more waits, behind the others.
+    pub(crate) fn offer(&mut self, input: Input) -> Result<(), NoMemory>
+        ensures { OnOk result (self.new ≡ offer_head self.old (Some input)) }
+    {
+        self.inbox.push(input)?;
+        Ok(())
+    }
+
+    /// One step: a quiet browser takes the first input that waits, if there is one, and any other
+    /// makes a turn, which `turns` counts. The outputs go behind those that are there.
+    pub(crate) fn step<C: Ledger, L: Ledger>(
+        &mut self,
+        outs: &mut Vec<Out>,
+        copies: &mut Steps<C>,
+        turns: &mut Steps<L>,
+    ) -> Result<(), NoMemory>
+        requires { All IsWellSpelledInput self.old.inbox }
+        ensures done { OnOk result (self.new ≡ step_head self.old) }
+        ensures outputs { OnOk result (outs.new.items ≡ outs.old.items ++ (step_of self.old).outputs) }
+        ensures count { OnOk result (turns.new ≡ turns.old + head_turns self.old) }
+        ensures most { turns.new ≤ turns.old + head_turns self.old }
+        ensures turns_later { turns.old ≤ turns.new }
+        ensures later { copies.old ≤ copies.new }
+    {
+        if !self.browser.quiet() {
+            return self.browser.turn(outs, copies, turns);
+        }
+        if self.inbox.is_empty() {
+            return Ok(());
+        }
+        let input = self.inbox.remove(0);
+        self.browser.accept(&input, outs, copies)
+    }
+}
+
+/// The same inputs once more.
+fn inputs_again(alloc: Global, inputs: &[Input]) -> Result<Vec<Input>, NoMemory>
+    ensures { IfOk result (λ copies. copies.items ≡ inputs.now) }
+{
+    let mut copies = Vec::new(alloc);
+    for input in inputs {
+        copies.push(input.copy()?)?;
+    }
+    Ok(copies)
+}

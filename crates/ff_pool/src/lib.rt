@@ -1,0 +1,28 @@
+//! A pool of browsers: one copy for each level, where levels that were offered the same so far are
+//! one copy.
+//!
+//! A [`Pool`] is seen as a world of copies: each level has a state, an inbox of inputs that wait,
+//! the outputs that nobody took, and its class, the levels that are one copy with it. What one
+//! copy of a class does, all of them do, so it is done once. Offers that differ part a class, at
+//! any moment, also in the middle of a script; classes never join again.
+//!
+//! The pool knows what a level is offered and not why: it knows no policy.
+//!
+//! # Want of memory
+//!
+//! A call that changes the pool and finds no memory leaves it spent. A spent pool asks nothing of a
+//! browser any more: all such calls answer that there is no memory.
+#![tactic(auto)]
+
+mod classes;
+mod drain;
+mod event;
+mod group;
+mod outs;
+mod play;
+mod pool;
+mod steps;
+
+pub use event::Event;
+pub use ff_core::NoMemory;
+pub use pool::{MOST_COPIES, Pool};

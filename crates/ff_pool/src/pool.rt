@@ -1,0 +1,245 @@
+//! The pool and its single steps.
+ghost use Rattle.std.specs.Prelude.{◌≡◌, ◌+◌, ◌<◌, ◌≤◌, ◌↔◌, true, false, not, IsTrue, IfOk, OnOk, OnErr};
+ghost use Rattle.ff_core.specs.declared.browser.TheConstants.{MOST_BUDGET};
+ghost use Rattle.ff_pool.specs.declared.pool.TheConstants.{MOST_COPIES};
+ghost use Rattle.ff_reactive.specs.Worlds.{leader};
+ghost use Rattle.ff_pool.specs.Heads.{class_of};
+ghost use Rattle.ff_pool.specs.Pooled as pooled;
+ghost use Rattle.ff_pool.specs.Pooled.{size, copy_of, new_pool, arrived, turned, taken, step_turns, AreOffersTo, IsPool};
+
+use crate::classes::class_of;
+use crate::group::Group;
+use crate::outs::Outs;
+use crate::steps::{arrive_heads, forked_heads, forked_outs, has_work, step_class};
+use ff_core::NoMemory;
+use ff_lattice::LevelSet;
+use ff_name::Level;
+use ff_steps::Steps;
+use ff_value::{Offers, Out};
+use std::alloc::{AllocError, Global};
+use std::marker::Model;
+use std::sync::ledger::Ledger;
+
+/// The most levels of a pool.
+pub const MOST_COPIES: u8 = 16;
+
+/// One copy of the browser for each level, where the levels of one class share theirs.
+#[derive(Drop)]
+pub struct Pool {
+    alloc: Global,
+    fuel: u32,
+    /// Set while a call changes the parts, so it stays set where the call finds no memory.
+    spent: bool,
+    /// The copies of the classes, at the places of the levels that lead them.
+    heads: Vec<Group>,
+    /// The outputs of each level.
+    puts: Vec<Outs>,
+    /// For each level the least level of its class.
+    leaders: Vec<usize>,
+}
+
+impl Model for Pool {
+    ghost use Rattle.std.specs.Prelude.{◌≡◌, false};
+    ghost use Rattle.ff_pool.specs.Pooled.{Pooled, coded_pooled, seen};
+    ghost use Rattle.ff_pool.specs.Heads.{IsKept};
+
+    ghost Value = { Pooled };
+
+    ghost coded = { coded_pooled };
+
+    ghost view = { λ p. seen p.fuel p.spent p.heads.items p.puts.items p.leaders.items };
+
+    ghost invariant = { λ p. p.spent ≡ false → IsKept p.fuel p.heads.items p.puts.items p.leaders.items };
+}
+
+impl Pool {
+    /// A pool of `n` levels, from 1 to `MOST_COPIES`, all in one class, to whose browsers each input
+    /// brings so much fuel, from 1 to `MOST_BUDGET`. Its one refusal is want of memory.
+    #[tactic(auto, using(crate::proofs::Making::made_more))]
+    pub fn new(alloc: Global, n: u8, fuel: u32) -> Result<Pool, NoMemory>
+        requires some { 1 ≤ n }
+        requires most { n ≤ MOST_COPIES }
+        requires fuel_some { 1 ≤ fuel }
+        requires fuel_most { fuel ≤ MOST_BUDGET }
+        ensures { IfOk result (λ pool. pool ≡ new_pool n fuel) }
+    {
+        let mut heads = Vec::new(alloc);
+        let mut puts = Vec::new(alloc);
+        let mut leaders = Vec::new(alloc);
+        for _level in 0..n {
+            heads.push(Group::new(alloc, fuel))?;
+            puts.push(Outs::new(alloc))?;
+            leaders.push(0)?;
+        }
+        Ok(Pool {
+            alloc,
+            fuel,
+            spent: false,
+            heads,
+            puts,
+            leaders,
+        })
+    }
+
+    /// Whether a call that changes this pool found no memory.
+    pub fn spent(&self) -> bool
+        ensures answer { result ≡ self.now.spent }
+        ensures valid { self.now.spent ≡ false → IsPool self.now }
+        ensures few { self.now.spent ≡ false → size self.now ≤ MOST_COPIES }
+    {
+        self.spent
+    }
+
+    /// The number of levels.
+    pub fn size(&self) -> u8
+        requires { self.now.spent ≡ false }
+        ensures { result ≡ size self.now }
+    {
+        self.leaders.len() as u8
+    }
+
+    /// Whether the level is the least of its class.
+    pub(crate) fn leads(&self, l: Level) -> bool
+        requires unspent { self.now.spent ≡ false }
+        requires level { l.0 < size self.now }
+        ensures { IsTrue result ↔ (leader self.now.world.leaders l.0 ≡ l.0) }
+    {
+        let l = usize::from(l.0);
+        self.leaders[l] == l
+    }
+
+    /// Whether the level's browser isn't quiet or an input waits for it.
+    pub fn has_work(&self, l: Level) -> bool
+        requires unspent { self.now.spent ≡ false }
+        requires level { l.0 < size self.now }
+        ensures { result ≡ pooled.has_work self.now l.0 }
+    {
+        has_work(
+            self.heads.as_slice(),
+            self.leaders.as_slice(),
+            usize::from(l.0),
+        )
+    }
+
+    /// Whether the level's browser is quiet and no input waits for it.
+    pub fn quiet(&self, l: Level) -> bool
+        requires unspent { self.now.spent ≡ false }
+        requires level { l.0 < size self.now }
+        ensures { result ≡ not (pooled.has_work self.now l.0) }
+    {
+        !self.has_work(l)
+    }
+
+    /// The class of a level: the levels that were offered the same as it each time.
+    pub fn members(&self, l: Level) -> LevelSet
+        requires unspent { self.now.spent ≡ false }
+        requires level { l.0 < size self.now }
+        ensures { result ≡ class_of self.now.world.leaders l.0 }
+    {
+        class_of(self.leaders.as_slice(), usize::from(l.0))
+    }
+
+    /// Puts each level's offer, where there is one, behind the inputs that wait for it. Levels of a
+    /// class with different offers part. After want of memory the pool is spent.
+    pub fn arrive<C: Ledger>(
+        &mut self,
+        offers: &Offers,
+        copies: &mut Steps<C>,
+    ) -> Result<(), NoMemory>
+        requires { self.old.spent ≡ false → AreOffersTo self.old offers.now }
+        ensures unspent { OnOk result (self.old.spent ≡ false) }
+        ensures done { OnOk result (self.new ≡ arrived self.old offers.now) }
+        ensures err { OnErr result (self.new.spent ≡ true) }
+        ensures levels { size self.new ≡ size self.old }
+        ensures copies { copies.new ≡ copies.old }
+    {
+        if self.spent {
+            return Err(AllocError);
+        }
+        self.spent = true;
+        let leaders = arrive_heads(
+            self.alloc,
+            self.heads.as_mut_slice(),
+            self.leaders.as_slice(),
+            offers.as_slice(),
+            copies,
+        )?;
+        self.leaders = leaders;
+        self.spent = false;
+        Ok(())
+    }
+
+    /// One step of the level's class: where its browser is quiet it takes the first input that
+    /// waits, and else it makes one turn, which `turns` counts once for the whole class. After want
+    /// of memory the pool is spent.
+    pub fn turn<C: Ledger, L: Ledger>(
+        &mut self,
+        l: Level,
+        copies: &mut Steps<C>,
+        turns: &mut Steps<L>,
+    ) -> Result<(), NoMemory>
+        requires { self.old.spent ≡ false → l.0 < size self.old }
+        ensures unspent { OnOk result (self.old.spent ≡ false) }
+        ensures done { OnOk result (self.new ≡ turned self.old l.0) }
+        ensures err { OnErr result (self.new.spent ≡ true) }
+        ensures levels { size self.new ≡ size self.old }
+        ensures count { OnOk result (turns.new ≡ turns.old + step_turns self.old l.0) }
+        ensures most { turns.new ≤ turns.old + step_turns self.old l.0 }
+        ensures turns_later { turns.old ≤ turns.new }
+        ensures later { copies.old ≤ copies.new }
+    {
+        if self.spent {
+            return Err(AllocError);
+        }
+        self.spent = true;
+        step_class(
+            self.alloc,
+            self.heads.as_mut_slice(),
+            self.puts.as_mut_slice(),
+            self.leaders.as_slice(),
+            usize::from(l.0),
+            copies,
+            turns,
+        )?;
+        self.spent = false;
+        Ok(())
+    }
+
+    /// The outputs that the level's copy put since the last take of this level. Those of the other
+    /// levels of its class stay.
+    pub fn take(&mut self, l: Level) -> Result<Vec<Out>, NoMemory>
+        requires { self.old.spent ≡ false → l.0 < size self.old }
+        ensures unspent { OnOk result (self.old.spent ≡ false) }
+        ensures done { OnOk result (self.new ≡ taken self.old l.0) }
+        ensures outputs { IfOk result (λ outs. outs.items ≡ (copy_of self.old l.0).outputs) }
+        ensures err { OnErr result (self.new.spent ≡ true) }
+        ensures levels { size self.new ≡ size self.old }
+    {
+        if self.spent {
+            return Err(AllocError);
+        }
+        Ok(self.puts[usize::from(l.0)].take())
+    }
+
+    /// An equal pool, and neither changes with the other. Want of memory leaves this pool as it is.
+    pub fn fork<C: Ledger>(&self, copies: &mut Steps<C>) -> Result<Pool, NoMemory>
+        ensures unspent { OnOk result (self.now.spent ≡ false) }
+        ensures equal { IfOk result (λ pool. pool ≡ self.now) }
+        ensures copies { copies.new ≡ copies.old }
+    {
+        if self.spent {
+            return Err(AllocError);
+        }
+        let heads = forked_heads(self.alloc, self.heads.as_slice(), copies)?;
+        let puts = forked_outs(self.alloc, self.puts.as_slice())?;
+        let leaders = Vec::from_slice(self.alloc, self.leaders.as_slice())?;
+        Ok(Pool {
+            alloc: self.alloc,
+            fuel: self.fuel,
+            spent: false,
+            heads,
+            puts,
+            leaders,
+        })
+    }
+}

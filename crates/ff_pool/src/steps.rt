@@ -1,0 +1,185 @@
+//! Steps of classes over the parts of a pool.
+ghost use Rattle.std.specs.Prelude.{◌≡◌, ◌+◌, ◌<◌, ◌≤◌, ℕ, length, slice_index_or, slice_set, All, IfOk, OnOk};
+ghost use Rattle.ff_value.specs.Spelled.{IsWellSpelledInput};
+ghost use Rattle.ff_reactive.specs.Worlds.{leader, offer, split, AreLeaders};
+ghost use Rattle.ff_pool.specs.Heads.{Head, HasArrived, same_input, step_of, step_head, offer_head, head_works, head_turns, given};
+
+use crate::classes::split;
+use crate::group::Group;
+use crate::outs::Outs;
+use ff_core::NoMemory;
+use ff_steps::Steps;
+use ff_value::{Input, Out};
+use std::alloc::Global;
+use std::sync::ledger::Ledger;
+
+/// One step of a level's class: its one browser makes it, and each level of the class gets what it
+/// puts.
+pub(crate) fn step_class<C: Ledger, L: Ledger>(
+    alloc: Global,
+    heads: &mut [Group],
+    puts: &mut [Outs],
+    leaders: &[usize],
+    l: usize,
+    copies: &mut Steps<C>,
+    turns: &mut Steps<L>,
+) -> Result<(), NoMemory>
+    requires level { l < length leaders.now }
+    requires led { leader leaders.now l < length heads.old }
+    requires count { length puts.old ≡ length leaders.now }
+    requires spelled { (d : Head) → All IsWellSpelledInput (slice_index_or heads.old (leader leaders.now l) d).inbox }
+    ensures done { OnOk result ((d : Head) → heads.new ≡ slice_set heads.old (leader leaders.now l) (step_head (slice_index_or heads.old (leader leaders.now l) d))) }
+    ensures outputs { OnOk result ((d : Head) → puts.new ≡ given puts.old leaders.now (leader leaders.now l) (step_of (slice_index_or heads.old (leader leaders.now l) d)).outputs) }
+    ensures count { OnOk result ((d : Head) → turns.new ≡ turns.old + head_turns (slice_index_or heads.old (leader leaders.now l) d)) }
+    ensures most { (d : Head) → turns.new ≤ turns.old + head_turns (slice_index_or heads.old (leader leaders.now l) d) }
+    ensures turns_later { turns.old ≤ turns.new }
+    ensures later { copies.old ≤ copies.new }
+{
+    let top = leaders[l];
+    let mut outs = Vec::new(alloc);
+    heads[top].step(&mut outs, copies, turns)?;
+    give_class(puts, leaders, top, outs.as_slice())
+}
+
+/// Puts the outputs of a class behind those of each of its levels.
+fn give_class(
+    puts: &mut [Outs],
+    leaders: &[usize],
+    top: usize,
+    outs: &[Out],
+) -> Result<(), NoMemory>
+    requires { length puts.old ≡ length leaders.now }
+    ensures { OnOk result (puts.new ≡ given puts.old leaders.now top outs.now) }
+{
+    for k in 0..leaders.len() {
+        if leaders[k] == top {
+            puts[k].append(outs)?;
+        }
+    }
+    Ok(())
+}
+
+/// Whether the class of a level has work.
+pub(crate) fn has_work(heads: &[Group], leaders: &[usize], l: usize) -> bool
+    requires level { l < length leaders.now }
+    requires led { leader leaders.now l < length heads.now }
+    ensures { (d : Head) → result ≡ head_works (slice_index_or heads.now (leader leaders.now l) d) }
+{
+    heads[leaders[l]].has_work()
+}
+
+/// The offers arrive: the leaders part, new ones get forks of the browsers that led them, and each
+/// class gets its offer. Answers the new leaders.
+pub(crate) fn arrive_heads<C: Ledger>(
+    alloc: Global,
+    heads: &mut [Group],
+    leaders: &[usize],
+    offers: &[Option<Input>],
+    copies: &mut Steps<C>,
+) -> Result<Vec<usize>, NoMemory>
+    requires heads { length heads.old ≡ length leaders.now }
+    requires count { length offers.now ≡ length leaders.now }
+    requires led { AreLeaders leaders.now }
+    ensures leaders { IfOk result (λ new. new.items ≡ split same_input leaders.now offers.now) }
+    ensures arrived { OnOk result ((d : Head) → HasArrived leaders.now offers.now heads.old heads.new d) }
+    ensures copies { copies.new ≡ copies.old }
+{
+    let new = split(alloc, leaders, offers)?;
+    fork_heads(heads, leaders, new.as_slice(), copies)?;
+    offer_heads(heads, new.as_slice(), offers)?;
+    Ok(new)
+}
+
+/// Each level that leads a class now and led none before gets a fork of the browser and the inbox
+/// of its class.
+fn fork_heads<C: Ledger>(
+    heads: &mut [Group],
+    old: &[usize],
+    new: &[usize],
+    copies: &mut Steps<C>,
+) -> Result<(), NoMemory>
+    requires heads { length heads.old ≡ length old.now }
+    requires count { length new.now ≡ length old.now }
+    requires led { AreLeaders old.now }
+    ensures forked { OnOk result ((l : ℕ) (d : Head) → l < length old.now → leader new.now l ≡ l → slice_index_or heads.new l d ≡ slice_index_or heads.old (leader old.now l) d) }
+    ensures copies { copies.new ≡ copies.old }
+{
+    for l in 0..new.len() {
+        if new[l] == l && old[l] != l {
+            fork_head(heads, old[l], l, copies)?;
+        }
+    }
+    Ok(())
+}
+
+/// One level gets a fork of another one's group.
+fn fork_head<C: Ledger>(
+    heads: &mut [Group],
+    from: usize,
+    to: usize,
+    copies: &mut Steps<C>,
+) -> Result<(), NoMemory>
+    requires from { from < length heads.old }
+    requires to { to < length heads.old }
+    ensures forked { OnOk result ((d : Head) → heads.new ≡ slice_set heads.old to (slice_index_or heads.old from d)) }
+    ensures copies { copies.new ≡ copies.old }
+{
+    let fork = heads[from].fork(copies)?;
+    heads[to] = fork;
+    Ok(())
+}
+
+/// Each class gets the offer of its leader.
+fn offer_heads(
+    heads: &mut [Group],
+    leaders: &[usize],
+    offers: &[Option<Input>],
+) -> Result<(), NoMemory>
+    requires heads { length heads.old ≡ length leaders.now }
+    requires count { length offers.now ≡ length leaders.now }
+    ensures { OnOk result ((l : ℕ) (d : Head) → l < length leaders.now → leader leaders.now l ≡ l → slice_index_or heads.new l d ≡ offer_head (slice_index_or heads.old l d) (offer offers.now l)) }
+{
+    for l in 0..leaders.len() {
+        if leaders[l] == l {
+            offer_head(&mut heads[l], &offers[l])?;
+        }
+    }
+    Ok(())
+}
+
+/// What is offered waits, where there is something.
+fn offer_head(head: &mut Group, offer: &Option<Input>) -> Result<(), NoMemory>
+    ensures { OnOk result (head.new ≡ offer_head head.old offer.now) }
+{
+    match offer {
+        Some(input) => head.offer(input.copy()?),
+        None => Ok(()),
+    }
+}
+
+/// Forks of all these groups. Its one refusal is want of memory.
+pub(crate) fn forked_heads<C: Ledger>(
+    alloc: Global,
+    heads: &[Group],
+    copies: &mut Steps<C>,
+) -> Result<Vec<Group>, NoMemory>
+    ensures equal { IfOk result (λ forks. forks.items ≡ heads.now) }
+    ensures copies { copies.new ≡ copies.old }
+{
+    let mut forks = Vec::new(alloc);
+    for head in heads {
+        forks.push(head.fork(copies)?)?;
+    }
+    Ok(forks)
+}
+
+/// The outputs of all levels once more. Its one refusal is want of memory.
+pub(crate) fn forked_outs(alloc: Global, puts: &[Outs]) -> Result<Vec<Outs>, NoMemory>
+    ensures { IfOk result (λ forks. forks.items ≡ puts.now) }
+{
+    let mut forks = Vec::new(alloc);
+    for outs in puts {
+        forks.push(outs.fork()?)?;
+    }
+    Ok(forks)
+}
