@@ -5,7 +5,8 @@ use Rattle.serde_json.specs.Find.{as_str}
 use Rattle.serde_json.specs.View.{view, items_view, members_view}
 use Rattle.serde_json.specs.declared.value.Value.{Value}
 use Rattle.ff_lattice.specs.declared.pair.Pair.{Pair}
-use Rattle.ff_policy.specs.Members.{Named, texts, texts_of, pair_of, pairs_of, named_of}
+use Rattle.ff_policy.specs.declared.version.Version.{Version}
+use Rattle.ff_policy.specs.Members.{Named, NamedKind, texts, texts_of, pair_of, pairs_of, named_of, kind_shape, kinds_of}
 
 module _ {V X : Type 0} (shape : V → Option X) where
   pub gather : List V → Option (List X)
@@ -93,6 +94,15 @@ named_gather (e ∷ es) =
     ap (λ r. option_and_then (λ level. option_map (λ named. record { key = string_bytes e.0; level = level } ∷ named) r) (as_str (view e.1))) (named_gather es)
     ∙ mapped (λ level. record { key = string_bytes e.0; level = level }) (λ one. option_map (λ named. one ∷ named) (gather named_shape es)) (as_str (view e.1))
 
+pub kind_read : Version → Entry → Option NamedKind
+kind_read version e = kind_shape version (string_bytes e.0) (view e.1)
+
+pub kinds_gather : (version : Version) (es : List Entry) → kinds_of version (members_view es) ≡ gather (kind_read version) es
+unfolding gather kind_read
+kinds_gather version [] = refl
+kinds_gather version (e ∷ es) =
+    ap (λ r. option_and_then (λ one. option_map (λ kinds. one ∷ kinds) r) (kind_shape version (string_bytes e.0) (view e.1))) (kinds_gather version es)
+
 -- ---- the answers of the loops
 
 pub texts_stop : (vs : List Value) (so_far : List (List ℕ)) (i : ℕ) (v : Value) → Gathers text_shape vs so_far (drop i vs) → i < length vs → v ≡ get_or vs i v → as_str (view v) ≡ None → texts_of (items_view vs) ≡ None
@@ -131,3 +141,15 @@ named_step es so_far left more e key level given cut found is =
 
 pub named_done : (es : List Entry) (so_far : List Named) (left : List Entry) → Gathers named_shape es so_far left → left ≡ [] → named_of (members_view es) ≡ Some so_far
 named_done es so_far left given none = named_gather es ∙ gather_done named_shape es so_far left given none
+
+module _ (version : Version) (es : List Entry) (so_far : List NamedKind) (left : List Entry) (given : Gathers (kind_read version) es so_far left) where
+  pub kinds_stop : (more : List Entry) (e : Entry) → left ≡ e ∷ more → kind_shape version (string_bytes e.0) (view e.1) ≡ None → kinds_of version (members_view es) ≡ None
+  unfolding kind_read
+  kinds_stop more e cut none = kinds_gather version es ∙ gather_stop (kind_read version) es so_far left more e given cut none
+
+  pub kinds_step : (more : List Entry) (e : Entry) (one : NamedKind) → left ≡ e ∷ more → kind_shape version (string_bytes e.0) (view e.1) ≡ Some one → Gathers (kind_read version) es (so_far ++ one ∷ []) more
+  unfolding kind_read
+  kinds_step more e one cut found = gather_step (kind_read version) es so_far left more e one given cut found
+
+  pub kinds_done : left ≡ [] → kinds_of version (members_view es) ≡ Some so_far
+  kinds_done none = kinds_gather version es ∙ gather_done (kind_read version) es so_far left given none

@@ -1,14 +1,11 @@
 -- The levels of keys, one after another.
-use Rattle.std.proofs.Common.{◌≡◌, ℕ, ◌+◌, ◌<◌, ◌≤◌, List, [], ◌∷◌, ◌++◌, length, drop, get_or, codes, Some, Result, Ok, Err, refl, sym, ap, ◌∙◌, append_assoc, append-nil, bytes_eq}
-use Rattle.std.specs.List.{find}
+use Rattle.std.proofs.Common.{◌≡◌, ℕ, ◌+◌, ◌<◌, ◌≤◌, List, [], ◌∷◌, ◌++◌, length, drop, get_or, codes, Some, Result, Ok, Err, refl, sym, ap, ◌∙◌, append_assoc, append-nil}
 use Rattle.std.proofs.lemmas.List.{drop_more, drop_all}
 use Rattle.ff_lattice.specs.Order.{Order}
 use Rattle.ff_policy.specs.declared.fault.PolicyFault.{PolicyFault}
 use Rattle.ff_policy.specs.Assignment.{Key}
 use Rattle.ff_policy.specs.Members.{Named, ◌>>=◌}
-use Rattle.ff_policy.specs.Naming.{level_at, keys_named, level_or_bottom, kind_named}
-
--- ---- keys
+use Rattle.ff_policy.specs.Naming.{level_at, keys_named}
 
 abbrev after : List Key → Result (List Key) PolicyFault → Result (List Key) PolicyFault
 after so_far (Ok keys) = Ok (so_far ++ keys)
@@ -51,12 +48,3 @@ module _ (order : Order) (all : List Named) where
 
   pub assign_done : (so_far : List Key) (i : ℕ) → Assigns order all so_far i → length all ≤ i → keys_named order all ≡ Ok so_far
   assign_done so_far i given far = given.is ∙ ap (λ (ns : List Named). after so_far (keys_named order ns)) (drop_all i all far) ∙ ap Ok (append-nil so_far)
-
--- ---- kinds
-
--- the level of a kind that is named
-pub kind_found : (order : Order) (named : List Named) (kind bytes level : List ℕ) (one : Named) → level ≡ one.level → bytes ≡ kind → Some one ≡ find (λ n. bytes_eq n.key bytes) named
-    → level_at order (codes "kinds." ++ kind) level ≡ kind_named order named kind
-kind_found order named kind bytes level one level_is bytes_is found =
-    ap (level_at order (codes "kinds." ++ kind)) level_is
-    ∙ ap (level_or_bottom order kind) (found ∙ ap (λ (k : List ℕ). find (λ n. bytes_eq n.key k) named) bytes_is)

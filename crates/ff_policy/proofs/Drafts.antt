@@ -1,5 +1,6 @@
--- The levels that a plan names lie in the lattice, and its keys stay apart.
-use Rattle.std.proofs.Common.{◌≡◌, ℕ, zero, suc, ◌<◌, ◌≤◌, Bool, true, false, if◌then◌else◌, List, [], ◌∷◌, ◌++◌, length, codes, Option, Some, None, Result, Ok, Err, refl, sym, ap, subst, ◌∙◌, arith, bytes_eq}
+-- The levels that a plan names lie in the lattice, and its keys rise.
+use Rattle.std.proofs.Common.{◌≡◌, ℕ, zero, suc, ◌<◌, ◌≤◌, Bool, true, false, if◌then◌else◌, List, [], ◌∷◌, ◌++◌, length, codes, Option, Some, None, Result, Ok, Err, Less, nat_cmp, refl, ap, subst, ◌∙◌, arith, bytes_eq}
+use Rattle.std.specs.Cmp.Lexicographic.{slice_cmp}
 use Rattle.std.specs.List.{find, list_all}
 use Rattle.std.specs.Option.{ok_or}
 use Rattle.ff_name.specs.declared.levels.Level.{Level}
@@ -7,9 +8,11 @@ use Rattle.ff_lattice.specs.LevelSet.{below}
 use Rattle.ff_lattice.specs.Order.{Order, size, leq, pick, bottom, level_named, IsTag, IsOrder}
 use Rattle.ff_policy.specs.declared.fault.PolicyFault.{PolicyFault}
 use Rattle.ff_policy.specs.declared.fault.PolicyFault.TheVariants.{UnknownLevel}
-use Rattle.ff_policy.specs.Assignment.{Kinds, Key, Assignment, key_at, AreKeys, AreWithin, IsDraft}
-use Rattle.ff_policy.specs.Members.{Named, Plan, ◌>>=◌}
-use Rattle.ff_policy.specs.Naming.{named_at, AreApart, numbered, level_at, keys_named, level_or_bottom, kind_named, kinds_named, assigned}
+use Rattle.ff_value.specs.declared.kind.Kind.{Kind}
+use Rattle.ff_value.specs.declared.kind.Kind.TheVariants as kind
+use Rattle.ff_policy.specs.Assignment.{KindLevels, Kinds, Key, Assignment, both, key_at, levels_of, AreKeys, IsWithin, AreWithin, IsDraft}
+use Rattle.ff_policy.specs.Members.{Named, NamedKind, Plan, ◌>>=◌, in_kinds}
+use Rattle.ff_policy.specs.Naming.{named_at, AreRising, numbered, level_at, keys_named, levels_or_bottom, kind_named, kinds_named, assigned}
 use Rattle.ff_lattice.proofs.Named.{level_within}
 
 value_or : {X : Type 0} → X → Result X PolicyFault → X
@@ -57,15 +60,29 @@ bottom_within order valid = go (size order) valid.some
     go zero some = absurd (omega arith)
     go (suc n) some = picked_within (λ l. list_all (leq order l) (below (size order))) n
 
+all_within : (n : ℕ) (kinds : Kinds) → IsWithin n kinds.opens → IsWithin n kinds.goes → IsWithin n kinds.links → IsWithin n kinds.closes → IsWithin n kinds.types → IsWithin n kinds.clicks → IsWithin n kinds.replies
+    → (k : Kind) → IsWithin n (levels_of kinds k)
+all_within n kinds opens goes links closes types clicks replies kind.Open = opens
+all_within n kinds opens goes links closes types clicks replies kind.Go = goes
+all_within n kinds opens goes links closes types clicks replies kind.Link = links
+all_within n kinds opens goes links closes types clicks replies kind.Close = closes
+all_within n kinds opens goes links closes types clicks replies kind.Type = types
+all_within n kinds opens goes links closes types clicks replies kind.Click = clicks
+all_within n kinds opens goes links closes types clicks replies kind.Reply = replies
+
 module _ (order : Order) (within : bottom order < size order) where
-  or_bottom_within : (kind : List ℕ) (one : Option Named) (l : ℕ) → level_or_bottom order kind one ≡ Ok l → l < size order
-  or_bottom_within kind None l is = subst (λ (l : ℕ). l < size order) (ok_same (bottom order) l is) within
-  or_bottom_within kind (Some one) l is = at_within order (codes "kinds." ++ kind) one.level l is
+  or_bottom_within : (word : List ℕ) (one : Option NamedKind) (levels : KindLevels) → levels_or_bottom order word one ≡ Ok levels → IsWithin (size order) levels
+  or_bottom_within word None levels is = subst (IsWithin (size order)) (ok_same (both (bottom order)) levels is) (record { presence = within; content = within })
+  or_bottom_within word (Some one) levels is =
+      let presence = step_ok (level_at order (in_kinds word) one.presence) _ levels is in
+      let content = step_ok (level_at order (in_kinds word) one.content) _ levels presence.2 in
+      subst (IsWithin (size order)) (ok_same _ levels content.2)
+      (record { presence = at_within order (in_kinds word) one.presence presence.0 presence.1; content = at_within order (in_kinds word) one.content content.0 content.1 })
 
-  kind_within : (named : List Named) (kind : List ℕ) (l : ℕ) → kind_named order named kind ≡ Ok l → l < size order
-  kind_within named kind l is = or_bottom_within kind (find (λ one. bytes_eq one.key kind) named) l is
+  kind_within : (named : List NamedKind) (word : List ℕ) (levels : KindLevels) → kind_named order named word ≡ Ok levels → IsWithin (size order) levels
+  kind_within named word levels is = or_bottom_within word (find (λ one. bytes_eq one.key word) named) levels is
 
-  kinds_within : (named : List Named) (kinds : Kinds) → kinds_named order named ≡ Ok kinds → AreWithin (size order) kinds
+  kinds_within : (named : List NamedKind) (kinds : Kinds) → kinds_named order named ≡ Ok kinds → AreWithin (size order) kinds
   unfolding kinds_named
   kinds_within named kinds is =
       let opens = step_ok (kind_named order named (codes "open")) _ kinds is in
@@ -74,14 +91,16 @@ module _ (order : Order) (within : bottom order < size order) where
       let closes = step_ok (kind_named order named (codes "close")) _ kinds links.2 in
       let types = step_ok (kind_named order named (codes "type")) _ kinds closes.2 in
       let clicks = step_ok (kind_named order named (codes "click")) _ kinds types.2 in
-      subst (AreWithin (size order)) (ok_same _ kinds clicks.2) (record {
-        opens = kind_within named (codes "open") opens.0 opens.1;
-        goes = kind_within named (codes "go") goes.0 goes.1;
-        links = kind_within named (codes "link") links.0 links.1;
-        closes = kind_within named (codes "close") closes.0 closes.1;
-        types = kind_within named (codes "type") types.0 types.1;
-        clicks = kind_within named (codes "click") clicks.0 clicks.1;
-      })
+      let replies = step_ok (kind_named order named (codes "reply")) _ kinds clicks.2 in
+      subst (AreWithin (size order)) (ok_same _ kinds replies.2)
+      (all_within (size order) _
+      (kind_within named (codes "open") opens.0 opens.1)
+      (kind_within named (codes "go") goes.0 goes.1)
+      (kind_within named (codes "link") links.0 links.1)
+      (kind_within named (codes "close") closes.0 closes.1)
+      (kind_within named (codes "type") types.0 types.1)
+      (kind_within named (codes "click") clicks.0 clicks.1)
+      (kind_within named (codes "reply") replies.0 replies.1))
 
 -- the keys as they were named, with levels of the lattice
 record AreNamed (order : Order) (named : List Named) (keys : List Key) : Type 0 where
@@ -115,17 +134,21 @@ keys_are order (one ∷ more) keys is =
     subst (AreNamed order (one ∷ more)) (ok_same _ keys rest.2)
     (one_more order one more level.0 rest.0 (at_within order (codes "domains." ++ one.key) one.level level.0 level.1) (keys_are order more rest.0 rest.1))
 
-keys_apart : (order : Order) (named : List Named) (keys : List Key) → AreApart named → AreNamed order named keys → AreKeys (size order) keys
-keys_apart order named keys apart are = record {
-  apart = λ j k less within e.
-      apart j k less (subst (λ (n : ℕ). k < n) are.long within) (sym (are.same j (omega arith)) ∙ e ∙ are.same k within);
+less_along : (a b c d : List ℕ) → a ≡ b → c ≡ d → slice_cmp nat_cmp b d ≡ Less → slice_cmp nat_cmp a c ≡ Less
+less_along a b c d one other less = ap (λ (x : List ℕ). slice_cmp nat_cmp x c) one ∙ ap (slice_cmp nat_cmp b) other ∙ less
+
+keys_rising : (order : Order) (named : List Named) (keys : List Key) → AreRising named → AreNamed order named keys → AreKeys (size order) keys
+keys_rising order named keys rising are = record {
+  rising = λ j k less within.
+      let far : k < length named = subst (λ (n : ℕ). k < n) are.long within in
+      less_along (key_at keys j).key (named_at named j).key (key_at keys k).key (named_at named k).key (are.same j (omega arith)) (are.same k within) (rising j k less far);
   levels = are.levels;
 }
 
 -- what a plan names in a lattice is a draft of a policy
-pub assigned-is_draft : (order : Order) (plan : Plan) (policy : Assignment) → IsOrder order → AreApart plan.domains → assigned order plan ≡ Ok policy → IsDraft policy
+pub assigned-is_draft : (order : Order) (plan : Plan) (policy : Assignment) → IsOrder order → AreRising plan.domains → assigned order plan ≡ Ok policy → IsDraft policy
 unfolding assigned
-assigned-is_draft order plan policy valid apart is =
+assigned-is_draft order plan policy valid rising is =
     let ui = step_ok (level_at order (codes "ui") plan.ui) _ policy is in
     let other = step_ok (level_at order (codes "domain") plan.other) _ policy ui.2 in
     let domains = step_ok (keys_named order plan.domains) _ policy other.2 in
@@ -134,6 +157,6 @@ assigned-is_draft order plan policy valid apart is =
       order_is = valid;
       ui_within = at_within order (codes "ui") plan.ui ui.0 ui.1;
       other_within = at_within order (codes "domain") plan.other other.0 other.1;
-      keys = keys_apart order plan.domains domains.0 apart (keys_are order plan.domains domains.0 domains.1);
+      keys = keys_rising order plan.domains domains.0 rising (keys_are order plan.domains domains.0 domains.1);
       kinds_within = kinds_within order (bottom_within order valid) plan.kinds kinds.0 kinds.1;
     })

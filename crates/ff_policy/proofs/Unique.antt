@@ -6,13 +6,15 @@ use Rattle.ff_lattice.specs.Order.{Order}
 use Rattle.ff_lattice.specs.Levels as levels
 use Rattle.ff_lattice.proofs.Faults.{IsFault-unique, no_fault}
 use Rattle.ff_lattice.proofs.Callers.{lattice_of_unique}
+use Rattle.ff_value.specs.declared.kind.Kind.{Kind}
+use Rattle.ff_value.specs.Kinds.{word_of}
 use Rattle.ff_policy.specs.declared.fault.PolicyFault.{PolicyFault}
-use Rattle.ff_policy.specs.declared.fault.PolicyFault.TheVariants.{TooLarge, NotJson, BadVersion, UnknownField, BadShape, Levels, UnknownLevel, BadDomain, BadFuel, NoMemory}
+use Rattle.ff_policy.specs.declared.fault.PolicyFault.TheVariants.{TooLarge, NotJson, BadVersion, UnknownField, BadShape, Levels, UnknownLevel, BadDomain, BadFuel, ContentBelowPresence, NoMemory}
 use Rattle.ff_policy.specs.declared.limits.TheConstants.{MOST_FUEL}
-use Rattle.ff_policy.specs.Assignment.{Key, Assignment, key_at, IsKey, AreSpelled}
+use Rattle.ff_policy.specs.Assignment.{Key, Assignment, key_at, IsKey, AreSpelled, first_unordered}
 use Rattle.ff_policy.specs.Members.{Plan, plan_in}
 use Rattle.ff_policy.specs.Naming.{assigned}
-use Rattle.ff_policy.specs.Reading.{IsValueOf, IsFirstNoKey, IsKeyFault, no_key, IsLevelsFault, no_levels, Checks, bad_domain, bad_fuel, whole, Names, unknown, named, Orders, no_lattice, lattice, Says, bad_member, planned, Reads, too_large, not_json, valued, IsPolicyOf, IsFault}
+use Rattle.ff_policy.specs.Reading.{IsValueOf, IsFirstNoKey, IsKeyFault, no_key, IsLevelsFault, no_levels, Checks, bad_domain, bad_fuel, unordered, whole, Names, unknown, named, Orders, no_lattice, lattice, Says, bad_member, planned, Reads, too_large, not_json, valued, IsPolicyOf, IsFault}
 
 abbrev Answer : Type 0
 Answer = Result Assignment PolicyFault
@@ -64,16 +66,35 @@ out_of_range : (fuel : ℕ) → (fuel ≡ 0) ⊎ (MOST_FUEL < fuel) → 1 ≤ fu
 out_of_range fuel (inl none) some little = omega arith
 out_of_range fuel (inr much) some little = omega arith
 
+some_kind : Kind → Option Kind → Kind
+some_kind kind None = kind
+some_kind kind (Some other) = other
+
+same_kind : (o : Option Kind) (j k : Kind) → o ≡ Some j → o ≡ Some k → j ≡ k
+unfolding some_kind
+same_kind o j k one other = ap (some_kind j) (sym one ∙ other)
+
+none_or : (o : Option Kind) (k : Kind) → o ≡ Some k → o ≡ None → ⊥
+none_or o k one other = let no : Some k ≡ None = sym one ∙ other in cc
+
 checks_unique : (policy : Assignment) (r s : Answer) → Checks policy r → Checks policy s → r ≡ s
 checks_unique policy r s (bad_domain f is) (bad_domain g is_also) = ap Err (key_fault_unique policy.domains f g is is_also)
 checks_unique policy r s (bad_domain f is) (bad_fuel spelled range) = absurd (spelled_or policy.domains f is spelled)
-checks_unique policy r s (bad_domain f is) (whole spelled some little) = absurd (spelled_or policy.domains f is spelled)
+checks_unique policy r s (bad_domain f is) (unordered k fueled first) = absurd (spelled_or policy.domains f is fueled.spelled)
+checks_unique policy r s (bad_domain f is) (whole fueled none) = absurd (spelled_or policy.domains f is fueled.spelled)
 checks_unique policy r s (bad_fuel spelled range) (bad_domain g is) = absurd (spelled_or policy.domains g is spelled)
 checks_unique policy r s (bad_fuel spelled range) (bad_fuel spelled_also range_also) = refl
-checks_unique policy r s (bad_fuel spelled range) (whole spelled_also some little) = absurd (out_of_range policy.fuel range some little)
-checks_unique policy r s (whole spelled some little) (bad_domain g is) = absurd (spelled_or policy.domains g is spelled)
-checks_unique policy r s (whole spelled some little) (bad_fuel spelled_also range) = absurd (out_of_range policy.fuel range some little)
-checks_unique policy r s (whole spelled some little) (whole spelled_also some_also little_also) = refl
+checks_unique policy r s (bad_fuel spelled range) (unordered k fueled first) = absurd (out_of_range policy.fuel range fueled.some_fuel fueled.little_fuel)
+checks_unique policy r s (bad_fuel spelled range) (whole fueled none) = absurd (out_of_range policy.fuel range fueled.some_fuel fueled.little_fuel)
+checks_unique policy r s (unordered j fueled first) (bad_domain g is) = absurd (spelled_or policy.domains g is fueled.spelled)
+checks_unique policy r s (unordered j fueled first) (bad_fuel spelled range) = absurd (out_of_range policy.fuel range fueled.some_fuel fueled.little_fuel)
+checks_unique policy r s (unordered j fueled first) (unordered k fueled_also first_also) =
+    ap (λ (k : Kind). Err (ContentBelowPresence (word_of k))) (same_kind (first_unordered policy) j k first first_also)
+checks_unique policy r s (unordered j fueled first) (whole fueled_also none) = absurd (none_or (first_unordered policy) j first none)
+checks_unique policy r s (whole fueled none) (bad_domain g is) = absurd (spelled_or policy.domains g is fueled.spelled)
+checks_unique policy r s (whole fueled none) (bad_fuel spelled range) = absurd (out_of_range policy.fuel range fueled.some_fuel fueled.little_fuel)
+checks_unique policy r s (whole fueled none) (unordered k fueled_also first) = absurd (none_or (first_unordered policy) k first none)
+checks_unique policy r s (whole fueled none) (whole fueled_also none_also) = refl
 
 -- ---- names
 
@@ -140,6 +161,7 @@ memory_or (Levels _) = inr (λ e. cc)
 memory_or (UnknownLevel _) = inr (λ e. cc)
 memory_or (BadDomain _) = inr (λ e. cc)
 memory_or BadFuel = inr (λ e. cc)
+memory_or (ContentBelowPresence _) = inr (λ e. cc)
 
 -- an answer that is right where it comes is the one answer, or want of memory
 right_from : (bytes : List ℕ) (answer : Answer) → IfOk answer (IsPolicyOf bytes) → IfErr answer (λ fault. fault ≢ NoMemory → IsFault bytes fault)

@@ -1,15 +1,11 @@
--- The levels of domains, inputs and outputs are levels of the lattice.
+-- The levels of domains, kinds and outputs are levels of the lattice.
 use Rattle.std.proofs.Common.{◌≡◌, ℕ, suc, ◌<◌, List, [], ◌∷◌, length, Option, Some, None, Bool, true, false, cond, refl, sym, subst, arith, bytes_eq}
 use Rattle.std.specs.List.{find}
-use Rattle.ff_value.specs.declared.input.Act.{Act}
-use Rattle.ff_value.specs.declared.input.Act.TheVariants as act
-use Rattle.ff_value.specs.declared.input.Input.{Input}
+use Rattle.ff_value.specs.declared.kind.Kind.{Kind}
 use Rattle.ff_value.specs.declared.output.Out.{Out}
 use Rattle.ff_value.specs.declared.output.Out.TheVariants as out
-use Rattle.ff_name.specs.declared.levels.Level.{Level}
-use Rattle.ff_lattice.specs.Order.{Order, size, IsTag, IsOrder}
-use Rattle.ff_lattice.proofs.Callers.{join-bound}
-use Rattle.ff_policy.specs.Assignment.{Key, Assignment, key_at, longest, level_or, domain_level, act_level, with_tag, level_in, level_out, IsAssignment}
+use Rattle.ff_lattice.specs.Order.{size}
+use Rattle.ff_policy.specs.Assignment.{Key, Assignment, key_at, longest, level_or, domain_level, levels_of, level_out, IsWithin, IsAssignment}
 use Rattle.ff_policy.proofs.Longest.{longest_is}
 
 AreBelow : ℕ → List Key → Type 0
@@ -45,22 +41,9 @@ domain_level_within policy domain valid =
     found_below n (λ k. bytes_eq k.key domain) policy.domains (level_or (longest domain policy.domains) policy.other) valid.draft.keys.levels
     (longest_below n domain policy.domains policy.other valid.draft.keys.levels valid.draft.other_within)
 
-pub act_level_within : (policy : Assignment) (a : Act) → IsAssignment policy → act_level policy a < size policy.order
-act_level_within policy (act.Opens url) valid = valid.draft.kinds_within.opens
-act_level_within policy (act.Goes win url) valid = valid.draft.kinds_within.goes
-act_level_within policy (act.Links win link) valid = valid.draft.kinds_within.links
-act_level_within policy (act.Closes win) valid = valid.draft.kinds_within.closes
-act_level_within policy (act.Types win field text) valid = valid.draft.kinds_within.types
-act_level_within policy (act.Clicks win button) valid = valid.draft.kinds_within.clicks
-act_level_within policy (act.Replies domain request resp) valid = domain_level_within policy domain valid
-
-with_tag_within : (order : Order) (tag : Option Level) (level : ℕ) → IsOrder order → IsTag order tag → level < size order → with_tag order tag level < size order
-with_tag_within order None level valid is less = less
-with_tag_within order (Some tag) level valid is less = (join-bound order valid level tag.0 less is).within
-
-pub level_in_within : (policy : Assignment) (input : Input) → IsAssignment policy → IsTag policy.order input.tag → level_in policy input < size policy.order
-unfolding level_in
-level_in_within policy input valid is = with_tag_within policy.order input.tag (act_level policy input.act) valid.draft.order_is is (act_level_within policy input.act valid)
+-- both levels of a kind are levels
+pub kind_within : (policy : Assignment) (kind : Kind) → IsAssignment policy → IsWithin (size policy.order) (levels_of policy.kinds kind)
+kind_within policy kind valid = valid.draft.kinds_within kind
 
 pub level_out_within : (policy : Assignment) (o : Out) → IsAssignment policy → level_out policy o < size policy.order
 unfolding level_out

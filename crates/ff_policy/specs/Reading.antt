@@ -1,5 +1,5 @@
 -- What bytes are as a policy: the policy that they give, or the first fault in them.
-use Rattle.std.specs.Prelude.{◌≡◌, ◌⊎◌, ◌<◌, ◌≤◌, ℕ, List, length, Some, Result, Ok, Err}
+use Rattle.std.specs.Prelude.{◌≡◌, ◌⊎◌, ◌<◌, ◌≤◌, ℕ, List, length, Some, None, Result, Ok, Err}
 use Rattle.std.specs.Str.{IsUtf8}
 use Rattle.serde_json.specs.Data.{Data}
 use Rattle.serde_json.specs.Read.{read}
@@ -7,9 +7,11 @@ use Rattle.ff_lattice.specs.Order.{Order}
 use Rattle.ff_lattice.specs.Levels as levels
 use Rattle.ff_lattice.specs.declared.fault.LatticeFault.{LatticeFault}
 use Rattle.ff_policy.specs.declared.fault.PolicyFault.{PolicyFault}
-use Rattle.ff_policy.specs.declared.fault.PolicyFault.TheVariants.{TooLarge, NotJson, Levels, BadDomain, BadFuel}
+use Rattle.ff_policy.specs.declared.fault.PolicyFault.TheVariants.{TooLarge, NotJson, Levels, BadDomain, BadFuel, ContentBelowPresence}
 use Rattle.ff_policy.specs.declared.limits.TheConstants.{MOST_FUEL, MOST_POLICY_BYTES}
-use Rattle.ff_policy.specs.Assignment.{Key, Assignment, key_at, IsKey, AreSpelled}
+use Rattle.ff_value.specs.Kinds.{word_of}
+use Rattle.ff_value.specs.declared.kind.Kind.{Kind}
+use Rattle.ff_policy.specs.Assignment.{Key, Assignment, key_at, IsKey, AreSpelled, first_unordered}
 use Rattle.ff_policy.specs.Members.{Plan, plan_in}
 use Rattle.ff_policy.specs.Naming.{assigned}
 
@@ -34,11 +36,19 @@ pub data IsKeyFault (keys : List Key) : PolicyFault → Type 0 where
 pub data IsLevelsFault (plan : Plan) : PolicyFault → Type 0 where
   no_levels : (fault : LatticeFault) → levels.IsFault plan.levels plan.below fault → IsLevelsFault plan (Levels fault)
 
--- a policy whose levels are known: its keys are spelled, and then its fuel is from 1 to MOST_FUEL
+-- a policy whose levels are known, with keys that are spelled and a fuel from 1 to MOST_FUEL
+pub record IsFueled (policy : Assignment) : Type 0 where
+  pub spelled : AreSpelled policy.domains
+  pub some_fuel : 1 ≤ policy.fuel
+  pub little_fuel : policy.fuel ≤ MOST_FUEL
+
+-- a policy whose levels are known: its keys are spelled, then its fuel is from 1 to MOST_FUEL, and
+-- then the presence of each kind is at or below its content
 pub data Checks (policy : Assignment) : Result Assignment PolicyFault → Type 0 where
   bad_domain : (fault : PolicyFault) → IsKeyFault policy.domains fault → Checks policy (Err fault)
   bad_fuel : AreSpelled policy.domains → (policy.fuel ≡ 0) ⊎ (MOST_FUEL < policy.fuel) → Checks policy (Err BadFuel)
-  whole : AreSpelled policy.domains → 1 ≤ policy.fuel → policy.fuel ≤ MOST_FUEL → Checks policy (Ok policy)
+  unordered : (kind : Kind) → IsFueled policy → first_unordered policy ≡ Some kind → Checks policy (Err (ContentBelowPresence (word_of kind)))
+  whole : IsFueled policy → first_unordered policy ≡ None → Checks policy (Ok policy)
 
 -- a plan over a lattice: the names that it gives are those of levels
 pub data Names (order : Order) (plan : Plan) : Result Assignment PolicyFault → Type 0 where

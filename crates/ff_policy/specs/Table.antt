@@ -4,7 +4,8 @@ use Rattle.serde_json.specs.Data.{Data}
 use Rattle.serde_json.specs.Find.{get, as_str}
 use Rattle.ff_policy.specs.declared.fault.PolicyFault.{PolicyFault}
 use Rattle.ff_policy.specs.declared.fault.PolicyFault.TheVariants.{BadVersion, UnknownField, BadShape}
-use Rattle.ff_policy.specs.Members.{texts, pairs, named, whole, member_names, first_other, other_kind, is_version_one}
+use Rattle.ff_policy.specs.declared.version.Version.{Version}
+use Rattle.ff_policy.specs.Members.{texts, pairs, named, kinds, whole, member_names, first_other, version_in, other_kind, unknown_side}
 
 -- a member: its name, and whether a policy may have this value there, or no such member
 pub record Row : Type 0 where
@@ -21,43 +22,54 @@ abbrev pub may : {X : Type 0} → (Data → Option X) → Option Data → Bool
 may shape None = true
 may shape (Some value) = is_some (shape value)
 
--- the table: arrays and objects of strings, strings, and a whole number
-abbrev pub table : List Row
-table =
+-- the table: arrays and objects of strings, strings, objects of what a kind's value may be, and a
+-- whole number
+abbrev pub table : Version → List Row
+table version =
     record { name = codes "levels"; fits = must texts }
     ∷ record { name = codes "below"; fits = may pairs }
     ∷ record { name = codes "ui"; fits = must as_str }
     ∷ record { name = codes "domain"; fits = must as_str }
     ∷ record { name = codes "domains"; fits = may named }
-    ∷ record { name = codes "kinds"; fits = may named }
+    ∷ record { name = codes "kinds"; fits = may (kinds version) }
     ∷ record { name = codes "fuel"; fits = may whole }
     ∷ []
 
-abbrev pub row_at : ℕ → Row
-row_at place = get_or table place (record { name = []; fits = λ _. true })
+abbrev pub row_at : Version → ℕ → Row
+row_at version place = get_or (table version) place (record { name = []; fits = λ _. true })
 
 -- whether the value's member of this row is as the table says
-abbrev pub fits_at : Data → ℕ → Bool
-fits_at value place = (row_at place).fits (get (row_at place).name value)
+abbrev pub fits_at : Version → Data → ℕ → Bool
+fits_at version value place = (row_at version place).fits (get (row_at version place).name value)
 
 -- the first member in the table's order that isn't as the table says
-pub record IsFirstMisfit (value : Data) (name : List ℕ) : Type 0 where
+pub record IsFirstMisfit (version : Version) (value : Data) (name : List ℕ) : Type 0 where
   pub place : ℕ
-  pub within : place < length table
-  pub before : (k : ℕ) → k < place → fits_at value k ≡ true
-  pub misfit : fits_at value place ≡ false
-  pub is : name ≡ (row_at place).name
+  pub within : place < length (table version)
+  pub before : (k : ℕ) → k < place → fits_at version value k ≡ true
+  pub misfit : fits_at version value place ≡ false
+  pub is : name ≡ (row_at version place).name
 
--- the value is an object of version 1 whose members, and whose kinds, a policy may have
-pub record IsKnown (value : Data) : Type 0 where
-  pub version : is_version_one value ≡ true
+-- the value is an object of this version, and a policy may have its members
+pub record HasMembers (version : Version) (value : Data) : Type 0 where
+  pub version_is : version_in value ≡ Some version
   pub members : first_other member_names value ≡ None
-  pub kinds : other_kind value ≡ None
+
+-- and a policy of this version may have its kinds
+pub record HasKinds (version : Version) (value : Data) : Type 0 where
+  pub members : HasMembers version value
+  pub kinds : other_kind version value ≡ None
+
+-- and these the members of their objects
+pub record IsKnown (version : Version) (value : Data) : Type 0 where
+  pub kinds : HasKinds version value
+  pub sides : unknown_side version value ≡ None
 
 -- the fault in the members: the version comes first, then members that no policy has, then kinds
--- that no user makes, then shapes
+-- that a policy of the version doesn't have, then members that no kind's object has, then shapes
 pub data IsMemberFault (value : Data) : PolicyFault → Type 0 where
-  bad_version : is_version_one value ≡ false → IsMemberFault value BadVersion
-  no_member : (name : List ℕ) → is_version_one value ≡ true → first_other member_names value ≡ Some name → IsMemberFault value (UnknownField name)
-  no_kind : (kind : List ℕ) → is_version_one value ≡ true → first_other member_names value ≡ None → other_kind value ≡ Some kind → IsMemberFault value (UnknownField (codes "kinds." ++ kind))
-  misfit : (name : List ℕ) → IsKnown value → IsFirstMisfit value name → IsMemberFault value (BadShape name)
+  bad_version : version_in value ≡ None → IsMemberFault value BadVersion
+  no_member : (version : Version) (name : List ℕ) → version_in value ≡ Some version → first_other member_names value ≡ Some name → IsMemberFault value (UnknownField name)
+  no_kind : (version : Version) (kind : List ℕ) → HasMembers version value → other_kind version value ≡ Some kind → IsMemberFault value (UnknownField (codes "kinds." ++ kind))
+  no_side : (version : Version) (side : List ℕ) → HasKinds version value → unknown_side version value ≡ Some side → IsMemberFault value (UnknownField (codes "kinds." ++ side))
+  misfit : (version : Version) (name : List ℕ) → IsKnown version value → IsFirstMisfit version value name → IsMemberFault value (BadShape name)

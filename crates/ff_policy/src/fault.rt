@@ -15,10 +15,11 @@ pub enum PolicyFault {
     /// The bytes aren't JSON.
     #[error("not JSON")]
     NotJson,
-    /// The value isn't an object, or its `version` isn't the number 1.
+    /// The value isn't an object, or its `version` is neither the number 1 nor the number 2.
     #[error("bad version")]
     BadVersion,
-    /// The least other member in byte order, or `kinds.` and the least unknown kind.
+    /// The least other member in byte order, or `kinds.` and the least unknown kind, or `kinds.`,
+    /// the first kind with an unknown member, a dot, and its least such member.
     #[error("unknown field")]
     UnknownField(Text),
     /// The first member, in the order of the table, that is required and absent or has another
@@ -37,6 +38,9 @@ pub enum PolicyFault {
     /// The fuel is 0 or over 1,000,000.
     #[error("bad fuel")]
     BadFuel,
+    /// The first kind of input whose presence isn't at or below its content.
+    #[error("content below presence")]
+    ContentBelowPresence(Text),
     /// There was no memory.
     #[error("out of memory")]
     NoMemory,
@@ -55,6 +59,7 @@ impl Drop for PolicyFault {
             PolicyFault::UnknownLevel(_place) => (),
             PolicyFault::BadDomain(_key) => (),
             PolicyFault::BadFuel => (),
+            PolicyFault::ContentBelowPresence(_kind) => (),
             PolicyFault::NoMemory => (),
         }
     }

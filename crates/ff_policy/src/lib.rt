@@ -1,5 +1,5 @@
-//! Policies: which levels there are, and which level each kind of input, each domain and the user
-//! interface has.
+//! Policies: which levels there are, which two levels each kind of input has, and which level each
+//! domain and the user interface has.
 #![tactic(auto)]
 
 mod checks;
@@ -7,14 +7,18 @@ mod draft;
 mod fault;
 mod key;
 mod kinds;
+mod known;
 mod law;
 mod limits;
 mod members;
 mod naming;
 mod plan;
 mod policy;
+mod printing;
+mod shapes;
 #[cfg(test)]
 mod tests;
+mod version;
 
 pub use fault::PolicyFault;
 pub use ff_name::NoMemory;

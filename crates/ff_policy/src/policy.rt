@@ -2,7 +2,7 @@ ghost use Rattle.std.specs.Prelude.{◌≡◌, ◌≢◌, ◌<◌, IfOk, IfErr, 
 ghost use Rattle.ff_contract.specs.Answering.{Answers};
 ghost use Rattle.ff_lattice.specs.Levels.{IsLatticeOf};
 ghost use Rattle.ff_lattice.specs.Order.{size, IsOrder, IsTag};
-ghost use Rattle.ff_policy.specs.Assignment.{Assignment, IsDraft, IsAssignment, builtin};
+ghost use Rattle.ff_policy.specs.Assignment.{Assignment, IsDraft, IsAssignment, act_level, with_tag, builtin};
 ghost use Rattle.ff_policy.specs.Assignment as spec;
 ghost use Rattle.ff_policy.specs.Reading.{IsLevelsFault, Checks, Names, Orders, Says, IsPolicyOf, IsFault};
 ghost use Rattle.serde_json.specs.View.{view};
@@ -16,22 +16,22 @@ use crate::naming::assigned;
 use crate::plan::Plan;
 use crate::{NoMemory, PolicyFault};
 use ff_lattice::{Lattice, LatticeFault};
-use ff_name::{Domain, Level};
+use ff_name::{Domain, Level, Text, Worded};
 use ff_value::{Act, Input, Out};
 use serde_json::Value;
 use std::alloc::Global;
 use std::marker::Model;
 
-/// Which levels there are, and which level each kind of input, each domain and the user interface
-/// has.
+/// Which levels there are, which two levels each kind of input has, and which level each domain and
+/// the user interface has.
 #[derive(Debug, Drop)]
 pub struct Policy {
-    lattice: Lattice,
-    ui: Level,
-    other: Level,
-    domains: Vec<Key>,
-    kinds: Kinds,
-    fuel: u32,
+    pub(crate) lattice: Lattice,
+    pub(crate) ui: Level,
+    pub(crate) other: Level,
+    pub(crate) domains: Vec<Key>,
+    pub(crate) kinds: Kinds,
+    pub(crate) fuel: u32,
 }
 
 impl Model for Policy {
@@ -63,10 +63,11 @@ impl Policy {
     }
 
     /// The policy that these bytes give as JSON. Its refusals, in their order: over 65,536 bytes;
-    /// no JSON; no object of version 1; another member, or another kind of input; a member that is
-    /// missing or has another shape; levels that are no lattice; a name that is no level's; a key
-    /// that is neither a domain nor a dot followed by one; a fuel of 0 or over 1,000,000. Want of
-    /// memory may come in place of any of these.
+    /// no JSON; no object of version 1 or 2; another member, another kind of input, or another member
+    /// of a kind; a member that is missing or has another shape; levels that are no lattice; a name
+    /// that is no level's; a key that is neither a domain nor a dot followed by one; a fuel of 0 or
+    /// over 1,000,000; a kind whose presence isn't at or below its content. Want of memory may come
+    /// in place of any of these.
     pub fn read(alloc: Global, bytes: &[u8]) -> Result<Policy, PolicyFault>
         ensures found { IfOk result (IsPolicyOf bytes.now) }
         ensures fault { IfErr result (λ fault. fault ≢ PolicyFault.NoMemory → IsFault bytes.now fault) }
@@ -78,7 +79,7 @@ impl Policy {
 
     /// The policy or the first fault.
     fn first_read(alloc: Global, bytes: &[u8]) -> Result<Policy, PolicyFault>
-        ensures ok { IfOk result (IsPolicyOf bytes.now) }
+        ensures found { IfOk result (IsPolicyOf bytes.now) }
         ensures fault { IfErr result (λ fault. fault ≢ PolicyFault.NoMemory → IsFault bytes.now fault) }
     {
         let value = value_of(alloc, bytes)?;
@@ -87,7 +88,7 @@ impl Policy {
 
     /// The policy that a JSON value says.
     fn of_value(alloc: Global, value: &Value) -> Result<Policy, PolicyFault>
-        ensures ok { IfOk result (λ policy. Says (view value.now) (Ok policy)) }
+        ensures found { IfOk result (λ policy. Says (view value.now) (Ok policy)) }
         ensures fault { IfErr result (λ fault. fault ≢ PolicyFault.NoMemory → Says (view value.now) (Err fault)) }
     {
         let plan = plan_in(alloc, value)?;
@@ -96,7 +97,7 @@ impl Policy {
 
     /// The policy of a plan.
     fn of_plan(alloc: Global, plan: Plan) -> Result<Policy, PolicyFault>
-        ensures ok { IfOk result (λ policy. Orders plan (Ok policy)) }
+        ensures found { IfOk result (λ policy. Orders plan (Ok policy)) }
         ensures fault { IfErr result (λ fault. fault ≢ PolicyFault.NoMemory → Orders plan (Err fault)) }
     {
         let lattice = lattice_of(alloc, &plan)?;
@@ -106,24 +107,27 @@ impl Policy {
     /// The policy of a plan over its lattice.
     fn of_names(alloc: Global, lattice: Lattice, plan: Plan) -> Result<Policy, PolicyFault>
         requires { IsOrder lattice }
-        ensures ok { IfOk result (λ policy. Names lattice plan (Ok policy)) }
+        ensures found { IfOk result (λ policy. Names lattice plan (Ok policy)) }
         ensures fault { IfErr result (λ fault. fault ≢ PolicyFault.NoMemory → Names lattice plan (Err fault)) }
     {
         let draft = assigned(alloc, lattice, plan)?;
-        Policy::of_draft(draft)
+        Policy::of_draft(alloc, draft)
     }
 
     /// The policy of a draft.
-    fn of_draft(draft: Draft) -> Result<Policy, PolicyFault>
+    fn of_draft(alloc: Global, draft: Draft) -> Result<Policy, PolicyFault>
         requires { IsDraft draft }
-        ensures ok { IfOk result (λ policy. Checks draft (Ok policy)) }
+        ensures found { IfOk result (λ policy. Checks draft (Ok policy)) }
         ensures fault { IfErr result (λ fault. fault ≢ PolicyFault.NoMemory → Checks draft (Err fault)) }
     {
         draft.check_keys()?;
         if !draft.has_fuel() {
             return Err(PolicyFault::BadFuel);
         }
-        Ok(Policy::whole(draft))
+        match draft.first_unordered() {
+            None => Ok(Policy::whole(draft)),
+            Some(kind) => Err(PolicyFault::ContentBelowPresence(Text::of_str(alloc, kind.word())?)),
+        }
     }
 
     /// The draft as a policy.
@@ -175,34 +179,56 @@ impl Policy {
         level_of(&self.domains, domain.text().as_bytes(), self.other)
     }
 
-    /// The level of an act: its kind's, and for a reply its domain's.
-    #[tactic(auto, using(crate::proofs::Within::act_level_within))]
-    fn act_level(&self, act: &Act) -> Level
-        ensures value { result.0 ≡ spec.act_level self.now act.now }
+    /// The level from which on it is known that there was this input: the presence of its kind,
+    /// joined with its tag, and for a reply with its domain's level.
+    #[tactic(auto, unfolding(crate::specs::Assignment::presence))]
+    pub fn presence(&self, input: &Input) -> Level
+        requires { IsTag self.now.order input.now.tag }
+        ensures value { result.0 ≡ spec.presence self.now input.now }
         ensures within { result.0 < size self.now.order }
     {
-        match act {
-            Act::Opens(_) => self.kinds.opens,
-            Act::Goes(_, _) => self.kinds.goes,
-            Act::Links(_, _) => self.kinds.links,
-            Act::Closes(_) => self.kinds.closes,
-            Act::Types(_, _, _) => self.kinds.types,
-            Act::Clicks(_, _) => self.kinds.clicks,
-            Act::Replies(domain, _, _) => self.domain_level(domain),
-        }
+        self.raised(input, self.kinds.of(input.act.kind()).presence)
     }
 
-    /// The level of an input: its kind's, or for a reply its domain's, joined with its tag.
-    #[tactic(auto, using(crate::proofs::Within::level_in_within), unfolding(crate::specs::Assignment::level_in))]
-    pub fn level_in(&self, input: &Input) -> Level
+    /// The level from which on it is known what the input says: the content of its kind, joined with
+    /// its tag, and for a reply with its domain's level.
+    #[tactic(auto, unfolding(crate::specs::Assignment::content))]
+    pub fn content(&self, input: &Input) -> Level
         requires { IsTag self.now.order input.now.tag }
-        ensures value { result.0 ≡ spec.level_in self.now input.now }
+        ensures value { result.0 ≡ spec.content self.now input.now }
         ensures within { result.0 < size self.now.order }
     {
-        let level = self.act_level(&input.act);
+        self.raised(input, self.kinds.of(input.act.kind()).content)
+    }
+
+    /// A level, joined with the input's tag, and for a reply with its domain's level.
+    fn raised(&self, input: &Input, level: Level) -> Level
+        requires tag { IsTag self.now.order input.now.tag }
+        requires level { level.0 < size self.now.order }
+        ensures value { result.0 ≡ with_tag self.now.order input.now.tag (act_level self.now input.now.act level.0) }
+        ensures within { result.0 < size self.now.order }
+    {
+        let level = self.act_level(&input.act, level);
         match input.tag {
             None => level,
             Some(tag) => self.lattice.join(level, tag),
+        }
+    }
+
+    /// A level, for a reply joined with its domain's.
+    fn act_level(&self, act: &Act, level: Level) -> Level
+        requires { level.0 < size self.now.order }
+        ensures value { result.0 ≡ act_level self.now act.now level.0 }
+        ensures within { result.0 < size self.now.order }
+    {
+        match act {
+            Act::Replies(domain, _, _) => self.lattice.join(level, self.domain_level(domain)),
+            Act::Opens(_)
+            | Act::Goes(_, _)
+            | Act::Links(_, _)
+            | Act::Closes(_)
+            | Act::Types(_, _, _)
+            | Act::Clicks(_, _) => level,
         }
     }
 
@@ -226,7 +252,7 @@ impl Policy {
 
 /// The lattice of a plan's levels.
 fn lattice_of(alloc: Global, plan: &Plan) -> Result<Lattice, PolicyFault>
-    ensures ok { IfOk result (IsLatticeOf plan.now.levels plan.now.below) }
+    ensures found { IfOk result (IsLatticeOf plan.now.levels plan.now.below) }
     ensures fault { IfErr result (λ fault. fault ≢ PolicyFault.NoMemory → IsLevelsFault plan.now fault) }
 {
     match Lattice::build(alloc, &plan.levels, &plan.below) {

@@ -46,6 +46,7 @@ fn is_answer(answer: &Result<Policy, PolicyFault>, kind: &str, word: &str) -> bo
         Err(PolicyFault::UnknownLevel(text)) => kind == "level" && is_text(text, word),
         Err(PolicyFault::BadDomain(text)) => kind == "domain" && is_text(text, word),
         Err(PolicyFault::BadFuel) => kind == "fuel",
+        Err(PolicyFault::ContentBelowPresence(text)) => kind == "below" && is_text(text, word),
         Err(PolicyFault::NoMemory) => false,
     }
 }
@@ -73,8 +74,40 @@ fn members_after_those_of_two_levels(rt: HostRuntime) {
         (r#","fuel":null}"#, "shape", "fuel"),
         (r#","fuel":0,"fuel":5}"#, "policy", ""),
         (r#","fuel":5,"fuel":0}"#, "fuel", ""),
-        (r#","version":2,"x":1}"#, "version", ""),
+        (r#","version":3,"x":1}"#, "version", ""),
         (r#","version":1.0}"#, "version", ""),
+        (r#","version":2,"kinds":{"reply":"H"}}"#, "policy", ""),
+        (
+            r#","version":2,"kinds":{"type":{"presence":"L","content":"H"}}}"#,
+            "policy",
+            "",
+        ),
+        (
+            r#","version":2,"kinds":{"type":{"presence":"L","x":1}},"ui":1}"#,
+            "field",
+            "kinds.type.x",
+        ),
+        (
+            r#","version":2,"kinds":{"reply":{"b":1},"go":{"z":1,"y":1}}}"#,
+            "field",
+            "kinds.go.y",
+        ),
+        (
+            r#","version":2,"kinds":{"go":{"z":1},"x":1}}"#,
+            "field",
+            "kinds.x",
+        ),
+        (
+            r#","kinds":{"type":{"presence":"L","content":"H"}}}"#,
+            "shape",
+            "kinds",
+        ),
+        (
+            r#","version":2,"kinds":{"type":{"presence":"L"}}}"#,
+            "shape",
+            "kinds",
+        ),
+        (r#","version":2,"kinds":{"type":[]}}"#, "shape", "kinds"),
         (r#","b":1,"a":2}"#, "field", "a"),
         (r#","kinds":{"b":"L","a":"L"}}"#, "field", "kinds.a"),
         (r#","kinds":{"reply":1},"z":1}"#, "field", "z"),
@@ -128,6 +161,31 @@ fn names_and_keys(rt: HostRuntime) {
         (r#","domains":{"a.":"L",".a":"H"}}"#, "domain", "a."),
         (r#","domains":{"a":"L",".a":"H"}}"#, "policy", ""),
         (r#","kinds":{"type":"H","link":"L"}}"#, "policy", ""),
+        (
+            r#","version":2,"kinds":{"type":{"presence":"L","content":"M"}}}"#,
+            "level",
+            "kinds.type",
+        ),
+        (
+            r#","version":2,"kinds":{"reply":"M","click":"N"}}"#,
+            "level",
+            "kinds.click",
+        ),
+        (
+            r#","version":2,"kinds":{"type":{"presence":"H","content":"L"}},"fuel":0}"#,
+            "fuel",
+            "",
+        ),
+        (
+            r#","version":2,"kinds":{"type":{"presence":"H","content":"L"}}}"#,
+            "below",
+            "type",
+        ),
+        (
+            r#","version":2,"kinds":{"reply":{"presence":"H","content":"L"}}}"#,
+            "below",
+            "reply",
+        ),
     ] {
         assert!(rt; gives(rt.alloc(), TWO, tail, kind, word), "{tail}");
     }
@@ -270,7 +328,7 @@ fn gives_levels(policy: &Policy) -> bool
         tag: Some(Level(1)),
         act: Act::Closes(0),
     };
-    let inputs = policy.level_in(&plain) == Level(0) && policy.level_in(&tagged) == Level(1);
+    let inputs = policy.content(&plain) == Level(0) && policy.content(&tagged) == Level(1);
     inputs && policy.level_out(&Out::Opened) == Level(1) && policy.fuel() == 10_000
 }
 
@@ -278,5 +336,35 @@ fn gives_levels(policy: &Policy) -> bool
 fn the_built_in_policy(rt: HostRuntime) -> Result<(), Fail> {
     let policy = Policy::builtin(rt.alloc())?;
     assert!(rt; gives_levels(&policy));
+    Ok(())
+}
+
+/// The built-in policy as it is printed.
+const BUILTIN: &str =
+    r#"{"below":[["L","H"]],"domain":"L","domains":{},"fuel":10000,"kinds":{"click":{"content":"L","presence":"L"},"close":{"content":"L","presence":"L"},"go":{"content":"L","presence":"L"},"link":{"content":"L","presence":"L"},"open":{"content":"L","presence":"L"},"reply":{"content":"L","presence":"L"},"type":{"content":"L","presence":"L"}},"levels":["L","H"],"ui":"H","version":2}"#;
+
+/// What is printed of a policy.
+fn print_of(alloc: Global, policy: &Policy) -> Result<Vec<u8>, NoMemory> {
+    let mut text = Vec::new(alloc);
+    policy.print(alloc, &mut text)?;
+    Ok(text)
+}
+
+#[test]
+fn the_built_in_policy_is_printed(rt: HostRuntime) -> Result<(), Fail> {
+    let policy = Policy::builtin(rt.alloc())?;
+    let text = print_of(rt.alloc(), &policy)?;
+    assert!(rt; text.as_slice() == BUILTIN.as_bytes());
+    Ok(())
+}
+
+#[test]
+fn what_is_printed_is_read_back(rt: HostRuntime) -> Result<(), Fail> {
+    let policy = Policy::read(rt.alloc(), KEYS.as_bytes())?;
+    let text = print_of(rt.alloc(), &policy)?;
+    let again = Policy::read(rt.alloc(), text.as_slice())?;
+    let all = have_levels(rt.alloc(), &again)?;
+    assert!(rt; all);
+    assert!(rt; print_of(rt.alloc(), &again)?.as_slice() == text.as_slice());
     Ok(())
 }

@@ -1,16 +1,32 @@
-ghost use Rattle.std.specs.Prelude.{◌≡◌, ℕ, ◌<◌, true, Option, Some, List, option_and_then};
+ghost use Rattle.std.specs.Prelude.{◌≡◌, ℕ, ◌<◌, ◌⊎◌, true, Option, Some, List, option_and_then};
 ghost use Rattle.ff_reactive.specs.Copies.{Levels};
 ghost use Rattle.ff_reactive.specs.Laws.{IsWord};
 ghost use Rattle.ff_value.specs.declared.input.Input.{Input};
 ghost use Rattle.ff_value.specs.declared.output.Out.{Out};
-ghost use Rattle.ff_policy.specs.Assignment.{Assignment, IsAssignment};
-ghost use Rattle.ff_route.specs.Route.{IsTagged, the_levels};
+ghost use Rattle.ff_value.specs.Spelled.{IsWellSpelledInput};
+ghost use Rattle.ff_policy.specs.Assignment.{Assignment, IsAssignment, presence, content};
+ghost use Rattle.ff_route.specs.Route.{IsTagged, mask, the_levels};
 
-/// What is seen of an input is that input, its tag too.
-#[tactic(auto, using(crate::proofs::Fits::sees_same, crate::proofs::Fits::sees_tagged))]
-pub fn what_is_seen_is_the_input()
-    ensures same { (policy : Assignment) (print : Out → List ℕ) (l : ℕ) (i x : Input) → (the_levels policy print).sees l i ≡ Some x → i ≡ x }
+/// To mask an input twice is to mask it once.
+pub fn masking_twice_is_masking_once()
+    ensures { (i : Input) → mask (mask i) ≡ mask i }
+{}
+
+/// A masked input has the presence and the content of its input, so who sees it is who would see
+/// the input.
+#[tactic(auto, using(crate::proofs::Masks::same_presence, crate::proofs::Masks::same_content))]
+pub fn a_masked_input_has_the_levels_of_its_input()
+    ensures presence { (policy : Assignment) (i : Input) → presence policy (mask i) ≡ presence policy i }
+    ensures content { (policy : Assignment) (i : Input) → content policy (mask i) ≡ content policy i }
+{}
+
+/// What is seen of an input is that input or the masked one, with its tag, and it is spelled where
+/// the input is.
+#[tactic(auto, using(crate::proofs::Fits::sees_whole_or_masked, crate::proofs::Fits::sees_tagged, crate::proofs::Fits::sees_spelled))]
+pub fn what_is_seen_is_the_input_or_its_mask()
+    ensures found { (policy : Assignment) (print : Out → List ℕ) (l : ℕ) (i x : Input) → (the_levels policy print).sees l i ≡ Some x → (x ≡ i) ⊎ (x ≡ mask i) }
     ensures tagged { (policy : Assignment) (print : Out → List ℕ) (l : ℕ) (i x : Input) → IsTagged policy.order i → (the_levels policy print).sees l i ≡ Some x → IsTagged policy.order x }
+    ensures spelled { (policy : Assignment) (print : Out → List ℕ) (l : ℕ) (i x : Input) → IsWellSpelledInput i → (the_levels policy print).sees l i ≡ Some x → IsWellSpelledInput x }
 {}
 
 /// What a lower level sees of an input is what it sees of that which a higher level sees of it.

@@ -8,7 +8,8 @@ mod tests;
 
 pub use ff_name::NoMemory;
 pub use law::{
-    a_lower_level_sees_no_more, each_output_has_a_level, names_tell_levels_apart,
-    what_is_seen_is_the_input,
+    a_lower_level_sees_no_more, a_masked_input_has_the_levels_of_its_input,
+    each_output_has_a_level, masking_twice_is_masking_once, names_tell_levels_apart,
+    what_is_seen_is_the_input_or_its_mask,
 };
-pub use route::{keep, offers, sees};
+pub use route::{keep, mask, offers, sees};

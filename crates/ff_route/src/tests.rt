@@ -21,8 +21,8 @@ fn opening() -> Input
 #[test]
 fn a_tag_hides_an_input_from_below(rt: HostRuntime) -> Result<(), Fail> {
     let policy = Policy::builtin(rt.alloc())?;
-    let low = sees(&policy, Level(0), &opening())?;
-    let high = sees(&policy, Level(1), &opening())?;
+    let low = sees(rt.alloc(), &policy, Level(0), &opening())?;
+    let high = sees(rt.alloc(), &policy, Level(1), &opening())?;
     assert!(rt; low.is_none() && high == Some(opening()));
     Ok(())
 }

@@ -55,6 +55,7 @@ policy_words (policy.Levels fault) = lattice_words fault
 policy_words (policy.UnknownLevel place) = codes "unknown level at " ++ quoted place
 policy_words (policy.BadDomain key) = codes "bad domain " ++ quoted key
 policy_words policy.BadFuel = codes "bad fuel"
+policy_words (policy.ContentBelowPresence kind) = codes "content below presence " ++ quoted kind
 policy_words policy.NoMemory = codes "out of memory"
 
 -- why a line isn't a text of items

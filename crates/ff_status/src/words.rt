@@ -75,6 +75,9 @@ fn put_policy<E: Sink>(fault: &PolicyFault, err: &mut E) -> Result<(), Failed>
         PolicyFault::UnknownLevel(place) => put_quoted(b"unknown level at ", place.as_bytes(), err),
         PolicyFault::BadDomain(key) => put_quoted(b"bad domain ", key.as_bytes(), err),
         PolicyFault::BadFuel => put(b"bad fuel", err),
+        PolicyFault::ContentBelowPresence(kind) => {
+            put_quoted(b"content below presence ", kind.as_bytes(), err)
+        }
         PolicyFault::NoMemory => put(b"out of memory", err),
     }
 }

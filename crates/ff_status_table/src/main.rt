@@ -107,6 +107,7 @@ fn show_policies(rt: &HostRuntime) -> io::Result<()> {
         PolicyFault::UnknownLevel(text(alloc, "ui")?),
         PolicyFault::BadDomain(text(alloc, "")?),
         PolicyFault::BadFuel,
+        PolicyFault::ContentBelowPresence(text(alloc, "type")?),
         PolicyFault::NoMemory,
     ] {
         show(rt, &Status::Policy(fault))?;

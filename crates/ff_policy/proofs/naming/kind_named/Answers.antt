@@ -1,14 +1,14 @@
-use Rattle.std.proofs.Common.{◌≡◌, ◌≢◌, ℕ, Result, Err, IfErr, subst, ap, ◌∙◌}
+use Rattle.std.proofs.Common.{◌≡◌, ◌≢◌, ℕ, List, Result, Err, IfErr, subst, ap, ◌∙◌, bytes_eq}
+use Rattle.std.specs.List.{find}
 use Rattle.ff_policy.specs.declared.fault.PolicyFault.{PolicyFault}
 use Rattle.ff_policy.specs.declared.fault.PolicyFault.TheVariants.{NoMemory}
-use Rattle.ff_policy.specs.Members.{Named}
-use Rattle.ff_policy.specs.Naming.{kind_named}
-use Rattle.ff_policy.proofs.Assigning.{kind_found}
+use Rattle.ff_policy.specs.Assignment.{KindLevels}
+use Rattle.ff_policy.specs.Naming.{levels_or_bottom, kind_named}
 use Rattle.ff_policy.proofs.naming.kind_named.Goals as goal
 
-pub returns-in-Some-clause-fault : goal.returns-in-Some-clause-fault
-returns-in-Some-clause-fault c =
-    let level = ap (λ (n : Named). n.level) c.one.view_is in
-    subst (λ (r : Result ℕ PolicyFault). IfErr c.level_at.result (λ fault. fault ≢ NoMemory → r ≡ Err fault))
-    (kind_found c.args.lattice.now c.args.kinds.now c.word-word.result.now c.as_bytes.result.now c.one.inside.level c.in-Some.one.now level c.as_bytes.ensures.value c.in-Some.ensures ∙ ap (kind_named c.args.lattice.now c.args.kinds.now) c.word-word.ensures)
-    c.level_at.ensures.fault
+pub returns-clause-fault : goal.returns-clause-fault
+returns-clause-fault c =
+    subst (λ (r : Result KindLevels PolicyFault). IfErr c.levels_or_bottom.result (λ fault. fault ≢ NoMemory → r ≡ Err fault))
+    (ap (levels_or_bottom c.args.lattice.now c.word-word.result.now) (c.named_kind.ensures ∙ ap (λ (k : List ℕ). find (λ one. bytes_eq one.key k) c.args.kinds.now) c.as_bytes.ensures.value)
+    ∙ ap (kind_named c.args.lattice.now c.args.kinds.now) c.word-word.ensures)
+    c.levels_or_bottom.ensures.fault

@@ -10,7 +10,7 @@ returns-in-Err c =
     let names : c.deref.result.now ≡ c.args.plan.now.levels = c.deref.ensures.value ∙ ap (λ (p : Plan). p.levels) c.plan.view_is in
     let pairs : c.deref-2.result.now ≡ c.args.plan.now.below = c.deref-2.ensures.value ∙ ap (λ (p : Plan). p.below) c.plan.view_is in
     record {
-      ok = tt;
+      found = tt;
       fault = λ other.
           let is = c.of_levels.ensures other in
           subst (IsLevelsFault c.args.plan.now) (sym is.1)

@@ -9,10 +9,10 @@ returns-in_err-lattice-clause-fault c =
     rw (p.1, p.2) (λ other. no_lattice c.in_err-lattice.field-0.0 (c.in_err-lattice.ensures.fault other))
 
 pub of_names-requires : goal.of_names-requires
-of_names-requires c = c.in_ok-lattice.ensures.ok.valid
+of_names-requires c = c.in_ok-lattice.ensures.found.valid
 
-pub returns-clause-ok : goal.returns-clause-ok
-returns-clause-ok c = orders_ok c.args.plan c.in_ok-lattice.lattice c.in_ok-lattice.ensures.ok c.of_names.result c.of_names.ensures.ok
+pub returns-clause-found : goal.returns-clause-found
+returns-clause-found c = orders_ok c.args.plan c.in_ok-lattice.lattice c.in_ok-lattice.ensures.found c.of_names.result c.of_names.ensures.found
 
 pub returns-clause-fault : goal.returns-clause-fault
-returns-clause-fault c = orders_err c.args.plan c.in_ok-lattice.lattice c.in_ok-lattice.ensures.ok c.of_names.result c.of_names.ensures.fault
+returns-clause-fault c = orders_err c.args.plan c.in_ok-lattice.lattice c.in_ok-lattice.ensures.found c.of_names.result c.of_names.ensures.fault

@@ -9,8 +9,8 @@ returns-in_err-plan-clause-fault c =
     let p = err_from_is_err_and c.from_residual.result c.from_residual.ensures.1 in
     rw (p.1, p.2) (λ other. bad_member c.in_err-plan.field-0.0 (c.in_err-plan.ensures.fault other))
 
-pub returns-clause-ok : goal.returns-clause-ok
-returns-clause-ok c = says_ok (view c.args.value.now) c.in_ok-plan.plan c.in_ok-plan.ensures.ok c.of_plan.result c.of_plan.ensures.ok
+pub returns-clause-found : goal.returns-clause-found
+returns-clause-found c = says_ok (view c.args.value.now) c.in_ok-plan.plan c.in_ok-plan.ensures.found c.of_plan.result c.of_plan.ensures.found
 
 pub returns-clause-fault : goal.returns-clause-fault
-returns-clause-fault c = says_err (view c.args.value.now) c.in_ok-plan.plan c.in_ok-plan.ensures.ok c.of_plan.result c.of_plan.ensures.fault
+returns-clause-fault c = says_err (view c.args.value.now) c.in_ok-plan.plan c.in_ok-plan.ensures.found c.of_plan.result c.of_plan.ensures.fault

@@ -1,6 +1,6 @@
 use Rattle.std.proofs.Common.{◌∷◌, ◌++◌, ◌+◌, [], List, ℕ, drop, sym, ap, ◌∙◌, subst, arith}
 use Rattle.ff_policy.proofs.Arrays.{Gathers, text_shape, texts_stop, texts_step, texts_done}
-use Rattle.ff_policy.proofs.members.texts_of.Goals as goal
+use Rattle.ff_policy.proofs.shapes.texts_of.Goals as goal
 
 pub returns-in-None : goal.returns-in-None
 returns-in-None c = sym (texts_stop c.args.items.now c.loop-item.texts.items c.loop-item.item-index c.item-item.result c.loop-item.invariant (omega arith) c.item-item.is (sym c.in-None.ensures))

@@ -1,7 +1,7 @@
 use Rattle.std.proofs.Common.{◌+◌, List, drop, sym, ◌∙◌, subst, arith}
 use Rattle.ff_lattice.specs.declared.pair.Pair.{Pair}
 use Rattle.ff_policy.proofs.Arrays.{Gathers, pair_shape, pairs_stop, pairs_step, pairs_done}
-use Rattle.ff_policy.proofs.members.pairs_of.Goals as goal
+use Rattle.ff_policy.proofs.shapes.pairs_of.Goals as goal
 
 pub returns-in-None : goal.returns-in-None
 returns-in-None c = sym (pairs_stop c.args.items.now c.loop-item.pairs.items c.loop-item.item-index c.item-item.result c.loop-item.invariant (omega arith) c.item-item.is (sym c.in_ok-pair_of.ensures ∙ c.in-None.is))

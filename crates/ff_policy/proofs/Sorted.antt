@@ -1,6 +1,5 @@
--- The keys of an object are apart.
-use Rattle.std.proofs.Common.{◌≡◌, ◌≢◌, ℕ, zero, suc, ◌<◌, List, [], ◌∷◌, length, Option, Some, None, option_map, option_and_then, Less, Equal, nat_cmp, string_bytes, string_cmp, refl, sym, ap, subst, ◌∙◌, arith}
-use Rattle.std.proofs.lemmas.Cmp.{nat_list_cmp_total, tied_itself}
+-- The keys of an object rise in byte order.
+use Rattle.std.proofs.Common.{◌≡◌, ℕ, zero, suc, ◌<◌, List, [], ◌∷◌, length, Option, Some, None, option_map, option_and_then, Less, nat_cmp, string_bytes, string_cmp, refl, sym, ap, subst, ◌∙◌, arith}
 use Rattle.std.specs.Cmp.Lexicographic.{slice_cmp}
 use Rattle.std.specs.List.{AllByRecursion}
 use Rattle.std.specs.List.Sorted.{IsStrictlySortedBy}
@@ -8,7 +7,7 @@ use Rattle.std.specs.Map as entries
 use Rattle.serde_json.specs.Find.{as_str}
 use Rattle.serde_json.specs.View.{view, members_view}
 use Rattle.ff_policy.specs.Members.{Named, named_of}
-use Rattle.ff_policy.specs.Naming.{named_at, AreApart}
+use Rattle.ff_policy.specs.Naming.{named_at, AreRising}
 use Rattle.ff_policy.proofs.Arrays.{Entry}
 
 list_or : {X : Type 0} → List X → Option (List X) → List X
@@ -49,22 +48,17 @@ before_from key (e ∷ es) named all is =
     let p = parts e es named is in
     subst (IsBefore key) (sym p.whole) (before_more key p.one p.rest (ap (slice_cmp nat_cmp key) p.key ∙ all.0) (before_from key es p.rest all.1 p.rest_is))
 
-not_itself : (key other : List ℕ) → slice_cmp nat_cmp key other ≡ Less → key ≢ other
-not_itself key other less same =
-    let tied : slice_cmp nat_cmp key other ≡ Equal = ap (slice_cmp nat_cmp key) (sym same) ∙ tied_itself nat_list_cmp_total key in
-    let no : Less ≡ Equal = sym less ∙ tied in cc
-
-apart_more : (one : Named) (rest : List Named) → IsBefore one.key rest → AreApart rest → AreApart (one ∷ rest)
+rising_more : (one : Named) (rest : List Named) → IsBefore one.key rest → AreRising rest → AreRising (one ∷ rest)
 unfolding IsBefore
-apart_more one rest before apart zero zero less within = absurd (omega arith)
-apart_more one rest before apart zero (suc k) less within = not_itself one.key (named_at rest k).key (before k (omega arith))
-apart_more one rest before apart (suc j) zero less within = absurd (omega arith)
-apart_more one rest before apart (suc j) (suc k) less within = apart j k (omega arith) (omega arith)
+rising_more one rest before rising zero zero less within = absurd (omega arith)
+rising_more one rest before rising zero (suc k) less within = before k (omega arith)
+rising_more one rest before rising (suc j) zero less within = absurd (omega arith)
+rising_more one rest before rising (suc j) (suc k) less within = rising j k (omega arith) (omega arith)
 
--- an object's keys are apart
-pub named_apart : (es : List Entry) (named : List Named) → IsStrictlySortedBy string_cmp (entries.keys_of es) → named_of (members_view es) ≡ Some named → AreApart named
+-- an object's keys rise
+pub named_rising : (es : List Entry) (named : List Named) → IsStrictlySortedBy string_cmp (entries.keys_of es) → named_of (members_view es) ≡ Some named → AreRising named
 unfolding IsStrictlySortedBy list_or
-named_apart [] named sorted is = subst AreApart (ap (list_or []) is) (λ j k less within. absurd (omega arith))
-named_apart (e ∷ es) named sorted is =
+named_rising [] named sorted is = subst AreRising (ap (list_or []) is) (λ j k less within. absurd (omega arith))
+named_rising (e ∷ es) named sorted is =
     let p = parts e es named is in
-    subst AreApart (sym p.whole) (apart_more p.one p.rest (subst (λ (key : List ℕ). IsBefore key p.rest) (sym p.key) (before_from (string_bytes e.0) es p.rest sorted.0 p.rest_is)) (named_apart es p.rest sorted.1 p.rest_is))
+    subst AreRising (sym p.whole) (rising_more p.one p.rest (subst (λ (key : List ℕ). IsBefore key p.rest) (sym p.key) (before_from (string_bytes e.0) es p.rest sorted.0 p.rest_is)) (named_rising es p.rest sorted.1 p.rest_is))
