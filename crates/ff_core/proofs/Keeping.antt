@@ -1,6 +1,6 @@
 -- Inputs and turns keep states valid and put well spelled outputs, and each turn spends fuel or is
 -- the last.
-use Rattle.std.proofs.Common.{◌≡◌, ◌≤◌, ◌+◌, Bool, true, false, cond, ◌⊎◌, inl, inr, List, [], ◌∷◌, ◌++◌, length, length-append, All, refl, ap, ◌∙◌, ℕ, arith, nat_lt}
+use Rattle.std.proofs.Common.{◌≡◌, ◌≤◌, ◌+◌, Bool, true, false, cond, inr, List, [], ◌∷◌, length-append, All, refl, ℕ, arith}
 use Rattle.std.proofs.lemmas.List.Elements.{All-nil, All-cons}
 use Rattle.std.proofs.lemmas.Str.{IsUtf8-nil}
 use Rattle.std.proofs.lemmas.Bool.{ltb-true}

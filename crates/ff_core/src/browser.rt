@@ -133,6 +133,7 @@ impl Browser {
         ensures busy { OnOk result (self.new.quiet ≡ false) }
         ensures outputs { Appends result outs.old.items outs.new.items ((reactor self.old.budget).begin self.old input.now).outputs }
         ensures budget { self.new.budget ≡ self.old.budget }
+        ensures valid { IsState self.old.budget self.new }
         ensures later { copies.old ≤ copies.new }
     {
         let _ = copies;
@@ -159,6 +160,7 @@ impl Browser {
         ensures done { OnOk result (self.new ≡ ((reactor self.old.budget).turn self.old).after) }
         ensures outputs { Appends result outs.old.items outs.new.items ((reactor self.old.budget).turn self.old).outputs }
         ensures budget { self.new.budget ≡ self.old.budget }
+        ensures valid { IsState self.old.budget self.new }
         ensures counted { turns.new ≡ turns.old + 1 }
         ensures later { copies.old ≤ copies.new }
     {
@@ -174,6 +176,7 @@ impl Browser {
     fn open_window(&mut self, url: &Url, outs: &mut Vec<Out>) -> Result<(), NoMemory>
         ensures done { OnOk result (self.new ≡ (machine.open_window self.old url.now).after) }
         ensures kept { (self.new.budget ≡ self.old.budget) × (self.new.quiet ≡ self.old.quiet) }
+        ensures valid { IsState self.old.budget self.new }
         ensures outputs { Appends result outs.old.items outs.new.items (machine.open_window self.old url.now).outputs }
     {
         if self.windows.len() >= MOST_WINDOWS {
@@ -199,6 +202,7 @@ impl Browser {
     ) -> Result<(), NoMemory>
         ensures done { OnOk result (self.new ≡ (machine.send self.old domain.now uri.now window).after) }
         ensures kept { (self.new.budget ≡ self.old.budget) × (self.new.quiet ≡ self.old.quiet) }
+        ensures valid { IsState self.old.budget self.new }
         ensures outputs { Appends result outs.old.items outs.new.items (machine.send self.old domain.now uri.now window).outputs }
     {
         if !has_room(self.pending.as_slice(), domain) {

@@ -148,11 +148,9 @@ fn the_sixty_fifth_window_opens_nothing(rt: HostRuntime) -> Result<(), Fail> {
     Ok(())
 }
 
-/// What a browser and a fork of it put when each opens the address after the browser was forked: as
-/// much as each other, though the browser had opened a window before.
+/// Whether a browser that has opened a window, and a fork of it, put the same when each opens one.
 fn forks_alike<C: Ledger, L: Ledger>(
     alloc: Global,
-    address: &str,
     copies: Blank,
     turns: Blank,
 ) -> Result<bool, Fail>
@@ -165,6 +163,7 @@ fn forks_alike<C: Ledger, L: Ledger>(
 {
     let mut copies = Steps::<C>::new(copies);
     let mut turns = Steps::<L>::new(turns);
+    let address = "http://a.com/";
     let mut browser = Browser::new(alloc, 10);
     let _first = open(alloc, &mut browser, address, &mut copies, &mut turns)?;
     let mut fork = browser.fork(&mut copies)?;
@@ -175,9 +174,8 @@ fn forks_alike<C: Ledger, L: Ledger>(
 
 #[test]
 fn a_fork_goes_on_by_itself(rt: HostRuntime) -> Result<(), Fail> {
-    assert!(rt;
-        forks_alike::<Brand, Brand>(rt.alloc(), "http://a.com/", Blank::new(1), Blank::new(1))?
-    );
+    let alike = forks_alike::<Brand, Brand>(rt.alloc(), Blank::new(1), Blank::new(1))?;
+    assert!(rt; alike);
     Ok(())
 }
 

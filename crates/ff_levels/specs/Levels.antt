@@ -1,9 +1,12 @@
--- The levels of a policy, and the inputs that they and the browser take.
+-- The levels of a policy, its machine, and the inputs that they take.
+use Rattle.ff_reactive.specs.Runs.{Machine}
 use Rattle.ff_reactive.specs.Copies.{Levels}
 use Rattle.ff_lattice.specs.Order.{Order}
+use Rattle.ff_value.specs.Spelled.{IsWellSpelledInput}
 use Rattle.ff_value.specs.declared.input.Input.{Input}
 use Rattle.ff_value.specs.declared.output.Out.{Out}
-use Rattle.ff_core.specs.Machine.{IsBuilt}
+use Rattle.ff_core.specs.State.{State}
+use Rattle.ff_core.specs.Machine.{browser}
 use Rattle.ff_policy.specs.Assignment.{Assignment}
 use Rattle.ff_route.specs.Route.{the_levels, IsTagged}
 use Rattle.ff_trace.specs.Printed.{out_text}
@@ -12,7 +15,11 @@ use Rattle.ff_trace.specs.Printed.{out_text}
 abbrev pub levels : Assignment → Levels Input Out
 levels p = the_levels p out_text
 
--- a well spelled input of a kind that is built, whose tag names a level
+-- the machine of a policy: the browser, with the policy's fuel for each input
+abbrev pub machine : Assignment → Machine Input Out State
+machine p = browser p.fuel
+
+-- a well spelled input, whose tag names a level
 pub record IsInput (order : Order) (i : Input) : Type 0 where
   pub tag_is : IsTagged order i
-  pub built : IsBuilt i
+  pub spelled : IsWellSpelledInput i

@@ -1,4 +1,5 @@
-//! The levels of a policy as those of a multi-executed browser, and the law that they fit it.
+//! The levels of a policy as those of a multi-executed browser, the machine with its fuel, and the law
+//! that they fit each other.
 #![tactic(auto)]
 
 mod law;

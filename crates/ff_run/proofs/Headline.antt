@@ -3,10 +3,9 @@ use Rattle.std.proofs.Common.{ℕ, List}
 use Rattle.ff_io.specs.Port.{Told}
 use Rattle.ff_io.specs.Shelf.{ShelfTold}
 use Rattle.ff_reactive.specs.Laws.{IsProjection, IsSecure, IsPrecise}
-use Rattle.ff_core.specs.Machine.{machine}
 use Rattle.ff_value.specs.declared.input.Input.{Input}
 use Rattle.ff_policy.specs.Assignment.{Assignment, IsAssignment}
-use Rattle.ff_levels.specs.Levels.{levels, IsInput}
+use Rattle.ff_levels.specs.Levels.{levels, machine, IsInput}
 use Rattle.ff_session.specs.Works.{Exchanged, Claims, IsAnswered}
 use Rattle.ff_session.specs.declared.work.Work.TheVariants.{Multi}
 use Rattle.ff_session.proofs.Headline.{projection, security, precision}
@@ -33,11 +32,11 @@ module _ (name : List ℕ) (shelf shelf_now : ShelfTold) (before now : Told) (tu
   under_of NoMemory answered obeys = absurd answered
 
   module _ (s : Status) (answered : IsAnswered s) (obeys : Obeys multi name shelf shelf_now before now turns_before turns_now s) where
-    pub projection_under : ClaimsUnder shelf name before now (λ p is put. IsProjection machine (levels p) is put)
-    projection_under = claimed (λ p is put. IsProjection machine (levels p) is put) s (under_of s answered obeys) (λ p valid run. projection p s run valid answered)
+    pub projection_under : ClaimsUnder shelf name before now (λ p is put. IsProjection (machine p) (levels p) is put)
+    projection_under = claimed (λ p is put. IsProjection (machine p) (levels p) is put) s (under_of s answered obeys) (λ p valid run. projection p s run valid answered)
 
-    pub security_under : ClaimsUnder shelf name before now (λ p is put. IsSecure machine (levels p) (IsInput p.order) is put)
-    security_under = claimed (λ p is put. IsSecure machine (levels p) (IsInput p.order) is put) s (under_of s answered obeys) (λ p valid run. security p s run valid answered)
+    pub security_under : ClaimsUnder shelf name before now (λ p is put. IsSecure (machine p) (levels p) (IsInput p.order) is put)
+    security_under = claimed (λ p is put. IsSecure (machine p) (levels p) (IsInput p.order) is put) s (under_of s answered obeys) (λ p valid run. security p s run valid answered)
 
-    pub precision_under : ClaimsUnder shelf name before now (λ p is put. IsPrecise machine (levels p) is put)
-    precision_under = claimed (λ p is put. IsPrecise machine (levels p) is put) s (under_of s answered obeys) (λ p valid run. precision p s run valid answered)
+    pub precision_under : ClaimsUnder shelf name before now (λ p is put. IsPrecise (machine p) (levels p) is put)
+    precision_under = claimed (λ p is put. IsPrecise (machine p) (levels p) is put) s (under_of s answered obeys) (λ p valid run. precision p s run valid answered)

@@ -1,9 +1,8 @@
-ghost use Rattle.std.specs.Prelude.{◌≡◌, ◌≢◌, ℕ, ◌⊎◌, List};
+ghost use Rattle.std.specs.Prelude.{◌≡◌, ◌≢◌, ◌≤◌, ℕ, ◌⊎◌, List};
 ghost use Rattle.ff_reactive.specs.Laws.{IsProjection, IsSecure, IsPrecise};
-ghost use Rattle.ff_core.specs.Machine.{machine};
 ghost use Rattle.ff_policy.specs.Assignment.{Assignment, IsAssignment};
 ghost use Rattle.ff_policy.specs.declared.fault.PolicyFault.{PolicyFault};
-ghost use Rattle.ff_levels.specs.Levels.{levels, IsInput};
+ghost use Rattle.ff_levels.specs.Levels.{levels, machine, IsInput};
 ghost use Rattle.ff_session.specs.Works.{IsAnswered};
 ghost use Rattle.ff_status.specs.Words.{error_line};
 ghost use Rattle.ff_run.specs.Words.{Asks, dash, multi};
@@ -34,8 +33,8 @@ use std::sync::ledger::Ledger;
 /// of words is `Usage`.
 ///
 /// `words` doesn't hold the program's name. Each status but `Done` puts its one line on the error
-/// sink; a fault of that sink changes no status. `turns` counts the turns of all browsers. `copies`
-/// counts nothing yet: no copy shares anything.
+/// sink; a fault of that sink changes no status. `turns` counts the turns of all browsers, and
+/// `copies` the cells that they copy.
 pub fn run<S: Shelf, P: Port, E: Sink, C: Ledger, L: Ledger>(
     alloc: Global,
     words: &[String],
@@ -53,11 +52,11 @@ pub fn run<S: Shelf, P: Port, E: Sink, C: Ledger, L: Ledger>(
     // The headline of `multi`: each level's lines, the view of each level, and where precision
     // holds, for every policy.
     ensures projected { (name : List ℕ) → Asks words.now multi name → IsAnswered result
-        → ClaimsUnder (S.told shelf.old) name (P.told port.old) (P.told port.new) (λ p is put. IsProjection machine (levels p) is put) }
+        → ClaimsUnder (S.told shelf.old) name (P.told port.old) (P.told port.new) (λ p is put. IsProjection (machine p) (levels p) is put) }
     ensures secure { (name : List ℕ) → Asks words.now multi name → IsAnswered result
-        → ClaimsUnder (S.told shelf.old) name (P.told port.old) (P.told port.new) (λ p is put. IsSecure machine (levels p) (IsInput p.order) is put) }
+        → ClaimsUnder (S.told shelf.old) name (P.told port.old) (P.told port.new) (λ p is put. IsSecure (machine p) (levels p) (IsInput p.order) is put) }
     ensures precise { (name : List ℕ) → Asks words.now multi name → IsAnswered result
-        → ClaimsUnder (S.told shelf.old) name (P.told port.old) (P.told port.new) (λ p is put. IsPrecise machine (levels p) is put) }
+        → ClaimsUnder (S.told shelf.old) name (P.told port.old) (P.told port.new) (λ p is put. IsPrecise (machine p) (levels p) is put) }
 
     // What comes of the words, where nothing failed, and of a policy that is known.
     ensures usage { Suits result words.now }
@@ -74,24 +73,25 @@ pub fn run<S: Shelf, P: Port, E: Sink, C: Ledger, L: Ledger>(
     ensures untouched { IsEarly result → (port.new ≡ port.old) × (turns.new ≡ turns.old) }
     ensures no_shelf { result ≡ Status.Usage → shelf.new ≡ shelf.old }
     ensures no_fetch { (command : Command) → Asks words.now command dash → shelf.new ≡ shelf.old }
-    ensures copies { copies.new ≡ copies.old }
+    ensures no_copies { IsEarly result → copies.new ≡ copies.old }
+    ensures copies { copies.old ≤ copies.new }
 
     // The line on the error sink.
     ensures error_line { Reports (E.told err.old) (E.told err.new) (error_line result) }
     ensures silent { result ≡ Status.Done → err.new ≡ err.old }
 {
-    let _ = copies;
-    let status = answer(alloc, words, shelf, port, turns);
+    let status = answer(alloc, words, shelf, port, copies, turns);
     status.report(err);
     status
 }
 
 /// Obeys the command that the words are.
-fn answer<S: Shelf, P: Port, L: Ledger>(
+fn answer<S: Shelf, P: Port, C: Ledger, L: Ledger>(
     alloc: Global,
     words: &[String],
     shelf: &mut S,
     port: &mut P,
+    copies: &mut Steps<C>,
     turns: &mut Steps<L>,
 ) -> Status
     ensures obeys { (command : Command) (name : List ℕ) → Asks words.now command name
@@ -106,20 +106,23 @@ fn answer<S: Shelf, P: Port, L: Ledger>(
     ensures untouched { IsEarly result → (port.new ≡ port.old) × (turns.new ≡ turns.old) }
     ensures no_shelf { result ≡ Status.Usage → shelf.new ≡ shelf.old }
     ensures no_fetch { (command : Command) → Asks words.now command dash → shelf.new ≡ shelf.old }
+    ensures no_copies { IsEarly result → copies.new ≡ copies.old }
+    ensures copies { copies.old ≤ copies.new }
 {
     match command_of(words) {
-        Some((command, name)) => obey(alloc, command, name, shelf, port, turns),
+        Some((command, name)) => obey(alloc, command, name, shelf, port, copies, turns),
         None => Status::Usage,
     }
 }
 
 /// Obeys a command under the policy of this name.
-fn obey<S: Shelf, P: Port, L: Ledger>(
+fn obey<S: Shelf, P: Port, C: Ledger, L: Ledger>(
     alloc: Global,
     command: Command,
     name: &str,
     shelf: &mut S,
     port: &mut P,
+    copies: &mut Steps<C>,
     turns: &mut Steps<L>,
 ) -> Status
     ensures obeys { Obeys command name.now (S.told shelf.old) (S.told shelf.new) (P.told port.old) (P.told port.new) turns.old turns.new result }
@@ -129,27 +132,31 @@ fn obey<S: Shelf, P: Port, L: Ledger>(
     ensures good_policy { (p : Assignment) → IsKnown (S.told shelf.old) name.now → NamesPolicy (S.told shelf.old) name.now p → ¬ FetchFailed name.now (S.told shelf.old) (S.told shelf.new) → ¬ IsEarly result }
     ensures untouched { IsEarly result → (port.new ≡ port.old) × (turns.new ≡ turns.old) }
     ensures no_fetch { name.now ≡ dash → shelf.new ≡ shelf.old }
+    ensures no_copies { IsEarly result → copies.new ≡ copies.old }
+    ensures copies { copies.old ≤ copies.new }
 {
     match find_policy(alloc, shelf, name) {
-        Ok(policy) => perform(alloc, command, &policy, port, turns),
+        Ok(policy) => perform(alloc, command, &policy, port, copies, turns),
         Err(status) => status,
     }
 }
 
 /// Carries out a command under a policy.
-fn perform<P: Port, L: Ledger>(
+fn perform<P: Port, C: Ledger, L: Ledger>(
     alloc: Global,
     command: Command,
     policy: &Policy,
     port: &mut P,
+    copies: &mut Steps<C>,
     turns: &mut Steps<L>,
 ) -> Status
     ensures performs { Performs command policy.now (P.told port.old) (P.told port.new) turns.old turns.new result }
     ensures valid { IsAssignment policy.now }
+    ensures copies { copies.old ≤ copies.new }
 {
     let lattice = policy.lattice();
     match command {
         Command::Check => check(alloc, lattice, port),
-        Command::Trace(work) => walk(alloc, work, policy, port, turns),
+        Command::Trace(work) => walk(alloc, work, policy, port, copies, turns),
     }
 }

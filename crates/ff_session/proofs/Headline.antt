@@ -6,9 +6,8 @@ use Rattle.ff_io.specs.Port.{Told}
 use Rattle.ff_reactive.specs.Laws.{IsProjection, IsSecure, IsPrecise}
 use Rattle.ff_reactive.proofs.Laws.{projected, secured, precised}
 use Rattle.ff_value.specs.declared.input.Input.{Input}
-use Rattle.ff_core.specs.Machine.{machine}
 use Rattle.ff_policy.specs.Assignment.{Assignment, IsAssignment}
-use Rattle.ff_levels.specs.Levels.{levels, IsInput}
+use Rattle.ff_levels.specs.Levels.{levels, machine, IsInput}
 use Rattle.ff_levels.proofs.Inputs.{input_is}
 use Rattle.ff_levels.proofs.Lawful.{lawful}
 use Rattle.ff_status.specs.declared.status.Status.{Status}
@@ -25,7 +24,7 @@ use Rattle.ff_session.proofs.Giving.{is_taken}
 
 -- an input that a line gives is one that the levels and the browser take
 is_input : (p : Assignment) (line : List ℕ) (i : Input) → Gives true p.order line (Ok (Some i)) → IsInput p.order i
-is_input p line i gives = let taken = is_taken true p.order line i gives in input_is p.order i taken.input_of taken.takes
+is_input p line i gives = let taken = is_taken true p.order line i gives in input_is p.order i taken.input_of
 
 module _ {before now : Told} {turns_before turns_now : ℕ} (p : Assignment) (s : Status) (run : Exchanged Multi p before now turns_before turns_now s) where
   text_is : (other : Option (BadLine TraceFault)) → IsOwed Multi p run.pieces other turns_before turns_now → (is : List Input) (bad : Option (BadLine TraceFault)) → AreInputsGot Multi p run.pieces is bad → put_of run.pieces ≡ multi_text p is
@@ -49,11 +48,11 @@ module _ {before now : Told} {turns_before turns_now : ℕ} (p : Assignment) (s 
     held = λ is bad reads. follows is (put_of run.pieces) (reads_each (IsInput p.order) (is_input p) (has_end run.pieces) 1 0 (got_of run.pieces) is bad reads) (from s answered run.written is bad reads);
   }
 
-  pub projection : IsAssignment p → IsAnswered s → Claims Multi p before now (λ is put. IsProjection machine (levels p) is put)
-  projection valid answered = claimed (λ is put. IsProjection machine (levels p) is put) answered (λ is put fit text. projected (lawful p valid) is put fit text)
+  pub projection : IsAssignment p → IsAnswered s → Claims Multi p before now (λ is put. IsProjection (machine p) (levels p) is put)
+  projection valid answered = claimed (λ is put. IsProjection (machine p) (levels p) is put) answered (λ is put fit text. projected (lawful p valid) is put fit text)
 
-  pub security : IsAssignment p → IsAnswered s → Claims Multi p before now (λ is put. IsSecure machine (levels p) (IsInput p.order) is put)
-  security valid answered = claimed (λ is put. IsSecure machine (levels p) (IsInput p.order) is put) answered (λ is put fit text. secured (lawful p valid) is put fit text)
+  pub security : IsAssignment p → IsAnswered s → Claims Multi p before now (λ is put. IsSecure (machine p) (levels p) (IsInput p.order) is put)
+  security valid answered = claimed (λ is put. IsSecure (machine p) (levels p) (IsInput p.order) is put) answered (λ is put fit text. secured (lawful p valid) is put fit text)
 
-  pub precision : IsAssignment p → IsAnswered s → Claims Multi p before now (λ is put. IsPrecise machine (levels p) is put)
-  precision valid answered = claimed (λ is put. IsPrecise machine (levels p) is put) answered (λ is put fit text. precised (lawful p valid) is put fit text)
+  pub precision : IsAssignment p → IsAnswered s → Claims Multi p before now (λ is put. IsPrecise (machine p) (levels p) is put)
+  precision valid answered = claimed (λ is put. IsPrecise (machine p) (levels p) is put) answered (λ is put fit text. precised (lawful p valid) is put fit text)

@@ -10,10 +10,9 @@ use Rattle.ff_io.specs.Fronts.{IsFront, IsProperFront}
 use Rattle.ff_reactive.specs.Runs.{work_plain}
 use Rattle.ff_reactive.proofs.Runs.{work_plain_start, work_plain_more}
 use Rattle.ff_reactive.proofs.Loops.{text_start, text_more, plain_text_start, plain_text_more}
-use Rattle.ff_core.specs.Machine.{machine}
 use Rattle.ff_value.specs.declared.input.Input.{Input}
 use Rattle.ff_policy.specs.Assignment.{Assignment}
-use Rattle.ff_levels.specs.Levels.{levels}
+use Rattle.ff_levels.specs.Levels.{levels, machine}
 use Rattle.ff_status.specs.declared.status.Status.{Status}
 use Rattle.ff_status.specs.declared.status.Status.TheVariants as status
 use Rattle.ff_status.specs.declared.status.TraceFault.{TraceFault}
@@ -37,15 +36,15 @@ use Rattle.ff_session.proofs.Feeding.{multi_turns_start, multi_turns_more}
 
 -- the text for inputs is that of one after another
 pub same_text : (work : Work) (p : Assignment) (is : List Input) → owed.text_of (entry_for work p) is ≡ text_for work p is
-same_text Multi p is = text_by_steps (copies_entry p) (text_for Multi p) (text_start machine (levels p)) (text_more machine (levels p)) is
-same_text Plain p is = text_by_steps (plain_entry p) (text_for Plain p) (plain_text_start machine (levels p)) (plain_text_more machine (levels p)) is
+same_text Multi p is = text_by_steps (copies_entry p) (text_for Multi p) (text_start (machine p) (levels p)) (text_more (machine p) (levels p)) is
+same_text Plain p is = text_by_steps (plain_entry p) (text_for Plain p) (plain_text_start (machine p) (levels p)) (plain_text_more (machine p) (levels p)) is
 same_text Format p is = text_by_steps (format_entry p.order) (text_for Format p) refl
     (λ js i. flat_map-append (input_line p.order) js (i ∷ []) ∙ ap (λ t. flat_map (input_line p.order) js ++ t) (flat_map-cons (input_line p.order) i [] ∙ append-nil (input_line p.order i))) is
 
 -- and so are the turns
 pub same_turns : (work : Work) (p : Assignment) (is : List Input) → owed.turns_of (entry_turns work p) is ≡ turns_for work p is
 same_turns Multi p is = turns_by_steps (copies_turns p) (multi_turns p) (multi_turns_start p) (multi_turns_more p) is
-same_turns Plain p is = turns_by_steps plain_turns (work_plain machine) (work_plain_start machine) (work_plain_more machine) is
+same_turns Plain p is = turns_by_steps (plain_turns p) (work_plain (machine p)) (work_plain_start (machine p)) (work_plain_more (machine p)) is
 same_turns Format p is = turns_by_steps no_turns (λ js. 0) refl (λ js i. omega arith) is
 
 -- a longer text has the same front

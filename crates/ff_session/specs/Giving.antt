@@ -2,15 +2,21 @@
 use Rattle.std.specs.Prelude.{ℕ, Bool, true, false, Option, Some, None, Result, Ok, Err, List, ⊤}
 use Rattle.ff_lattice.specs.Order.{Order}
 use Rattle.ff_value.specs.declared.input.Input.{Input}
-use Rattle.ff_core.specs.Machine.{IsBuilt}
+use Rattle.ff_value.specs.declared.input.Act.{Act}
+use Rattle.ff_value.specs.declared.input.Act.TheVariants.{Opens}
 use Rattle.ff_trace.specs.Lines.{ReadsLine, IsInputOf}
 use Rattle.ff_trace.specs.declared.fault.LineFault.{LineFault}
 use Rattle.ff_status.specs.declared.status.TraceFault.{TraceFault}
 use Rattle.ff_status.specs.declared.status.TraceFault.TheVariants as fault
 
+-- an act of a kind that is built: it opens a window
+abbrev pub IsBuilt : Act → Type 0
+IsBuilt (Opens url) = ⊤
+IsBuilt other = ⊥
+
 -- the inputs that are taken: those of the kinds that are built, or all
 abbrev pub Takes : Bool → Input → Type 0
-Takes true i = IsBuilt i
+Takes true i = IsBuilt i.act
 Takes false i = ⊤
 
 pub record IsTaken (built_only : Bool) (order : Order) (i : Input) : Type 0 where

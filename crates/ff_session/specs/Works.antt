@@ -6,7 +6,6 @@ use Rattle.ff_io.specs.Port.{Told, Passes}
 use Rattle.ff_io.specs.Fronts.{IsFront, IsProperFront}
 use Rattle.ff_reactive.specs.Runs.{work_plain}
 use Rattle.ff_value.specs.declared.input.Input.{Input}
-use Rattle.ff_core.specs.Machine.{machine}
 use Rattle.ff_policy.specs.Assignment.{Assignment}
 use Rattle.ff_status.specs.declared.status.Status.{Status}
 use Rattle.ff_status.specs.declared.status.Status.TheVariants.{Done, Trace, ReadFault, WriteFault, NoMemory}
@@ -19,6 +18,7 @@ use Rattle.ff_stream.specs.declared.end.Fault.{Fault}
 use Rattle.ff_stream.specs.declared.end.Fault.TheVariants.{TooLong, TooMuch, Line}
 use Rattle.ff_stream.specs.declared.end.End as stream
 use Rattle.ff_stream.specs.declared.end.End.TheVariants as end
+use Rattle.ff_levels.specs.Levels.{machine}
 use Rattle.ff_session.specs.Giving.{Gives}
 use Rattle.ff_session.specs.Formatting.{format_entry, format_text, no_turns}
 use Rattle.ff_session.specs.Plain.{plain_entry, plain_text, plain_turns}
@@ -41,7 +41,7 @@ text_for Format p is = format_text p.order is
 -- the turns for inputs
 abbrev pub turns_for : Work → Assignment → List Input → ℕ
 turns_for Multi p is = multi_turns p is
-turns_for Plain p is = work_plain machine is
+turns_for Plain p is = work_plain (machine p) is
 turns_for Format p is = 0
 
 -- the text for an input after the inputs before it, and its turns
@@ -52,7 +52,7 @@ entry_for Format p = format_entry p.order
 
 abbrev pub entry_turns : Work → Assignment → List Input → Input → ℕ
 entry_turns Multi p = copies_turns p
-entry_turns Plain p = plain_turns
+entry_turns Plain p = plain_turns p
 entry_turns Format p = no_turns
 
 -- these bytes of a trace, of which `ended` says whether they are all, give these inputs up to the

@@ -40,12 +40,13 @@ impl Taker for Formatting<'_> {
     ghost is_at = { λ taker state inputs. ⊤ };
 
     #[tactic(auto, using(crate::proofs::Texts::formatted))]
-    fn take<L: Ledger>(
+    fn take<C: Ledger, L: Ledger>(
         &self,
         _alloc: Global,
         _state: &mut (),
         item: &Input,
         text: &mut Vec<u8>,
+        _copies: &mut Steps<C>,
         _steps: &mut Steps<L>,
     ) -> Result<(), AllocError> {
         print_input(item, self.lattice, text)
@@ -54,15 +55,17 @@ impl Taker for Formatting<'_> {
 
 /// Writes each input of the trace that the port gives in its canonical form.
 #[tactic(auto, using(crate::proofs::Giving::is_taken))]
-pub(crate) fn walk_format<P: Port, L: Ledger>(
+pub(crate) fn walk_format<P: Port, C: Ledger, L: Ledger>(
     alloc: Global,
     lattice: &Lattice,
     port: &mut P,
+    copies: &mut Steps<C>,
     turns: &mut Steps<L>,
 ) -> End<TraceFault>
     ensures streams { Streams (Gives false lattice.now) (format_entry lattice.now) no_turns (λ is. ⊤)
         (P.log port.old) (P.log port.new) (P.rest port.old) (P.rest port.new) turns.old turns.new result }
     ensures later { turns.old ≤ turns.new }
+    ensures later_copies { copies.old ≤ copies.new }
     ensures read_fault { result ≡ End.ReadFault → Rose (P.read_faults port.old) (P.read_faults port.new) }
     ensures write_fault { result ≡ End.WriteFault → Rose (P.write_faults port.old) (P.write_faults port.new) }
 {
@@ -76,6 +79,7 @@ pub(crate) fn walk_format<P: Port, L: Ledger>(
         &Formatting { lattice },
         &mut (),
         port,
+        copies,
         turns,
     )
 }

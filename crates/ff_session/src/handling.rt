@@ -1,5 +1,6 @@
-ghost use Rattle.std.specs.Prelude.{◌≡◌, ◌≤◌, ◌+◌, IfOk, OnOk};
-ghost use Rattle.ff_core.specs.Machine.{IsBuilt, IsQuiet, machine};
+ghost use Rattle.std.specs.Prelude.{◌≡◌, ◌≤◌, ◌+◌, true, IfOk, OnOk};
+ghost use Rattle.ff_value.specs.Spelled.{IsWellSpelledInput};
+ghost use Rattle.ff_session.specs.Handling.{IsReady, handled};
 
 use ff_core::Browser;
 use ff_steps::Steps;
@@ -9,24 +10,27 @@ use std::sync::ledger::Ledger;
 
 /// Lets a quiet browser take an input and make its turns until it is quiet again: the outputs in
 /// their order.
-#[tactic(auto, using(crate::proofs::Turning::one_turn, crate::proofs::Turning::some_turns))]
-pub(crate) fn handle<L: Ledger>(
+pub(crate) fn handle<C: Ledger, L: Ledger>(
     alloc: Global,
     browser: &mut Browser,
     input: &Input,
+    copies: &mut Steps<C>,
     turns: &mut Steps<L>,
 ) -> Result<Vec<Out>, AllocError>
-    requires input { IsBuilt input.now }
-    requires quiet { IsQuiet browser.old }
-    ensures outputs { IfOk result (λ outs. outs.items ≡ (machine.handle browser.old input.now).outputs) }
-    ensures state { OnOk result (browser.new ≡ (machine.handle browser.old input.now).after) }
-    ensures quiet { OnOk result (IsQuiet browser.new) }
-    ensures count { OnOk result (turns.new ≡ turns.old + (machine.handle browser.old input.now).turns) }
+    requires input { IsWellSpelledInput input.now }
+    requires quiet { browser.old.quiet ≡ true }
+    ensures outputs { IfOk result (λ outs. outs.items ≡ (handled browser.old input.now).outputs) }
+    ensures state { OnOk result (browser.new ≡ (handled browser.old input.now).after) }
+    ensures ready { OnOk result (IsReady browser.old.budget browser.new) }
+    ensures count { OnOk result (turns.new ≡ turns.old + (handled browser.old input.now).turns) }
     ensures later { turns.old ≤ turns.new }
-    ensures most { turns.new ≤ turns.old + (machine.handle browser.old input.now).turns }
+    ensures most { turns.new ≤ turns.old + (handled browser.old input.now).turns }
+    ensures later_copies { copies.old ≤ copies.new }
 {
     let mut outs = Vec::new(alloc);
-    browser.accept(input, &mut outs)?;
-    browser.turn(turns);
+    browser.accept(input, &mut outs, copies)?;
+    'turning: while !browser.quiet() {
+        browser.turn(&mut outs, copies, turns)?;
+    }
     Ok(outs)
 }

@@ -1,6 +1,5 @@
 ghost use Rattle.std.specs.Prelude.{◌≡◌, ◌≤◌, ℕ, List, Option, Result, Ok, Err, Some, None, length, IfOk, true};
 ghost use Rattle.ff_lattice.specs.Order.{Order};
-ghost use Rattle.ff_value.specs.Spelled.{IsWellSpelledInput};
 ghost use Rattle.ff_trace.specs.Lines.{IsInputOf, ReadsLine};
 ghost use Rattle.ff_session.specs.Giving.{Gives, Takes};
 
@@ -75,7 +74,7 @@ fn taken(built_only: bool, input: Input) -> Result<Option<Input>, TraceFault>
 
 /// Whether an input is taken: the browser can open windows alone yet.
 fn is_taken(built_only: bool, input: &Input) -> bool
-    ensures taken { result ≡ true → IsWellSpelledInput input.now → Takes built_only input.now }
+    ensures taken { result ≡ true → Takes built_only input.now }
     ensures refused { Takes built_only input.now → result ≡ true }
 {
     if built_only {

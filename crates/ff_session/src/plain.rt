@@ -1,7 +1,6 @@
 ghost use Rattle.std.specs.Prelude.{◌≡◌, ◌≤◌, ◌+◌, ◌++◌, ◌∷◌, [], ℕ, List, OnOk, true, ⊤};
 ghost use Rattle.ff_io.specs.Counts.{Rose};
 ghost use Rattle.ff_reactive.specs.Text.{text_of};
-ghost use Rattle.ff_core.specs.Machine.{machine};
 ghost use Rattle.ff_value.specs.declared.input.Input.{Input};
 ghost use Rattle.ff_stream.specs.Owed.{Streams};
 ghost use Rattle.ff_session.specs.Giving.{Gives};
@@ -40,34 +39,37 @@ impl Taker for Plain<'_> {
 
     ghost entry = { λ taker. plain_entry taker.policy.now };
 
-    ghost turns = { λ taker. plain_turns };
+    ghost turns = { λ taker. plain_turns taker.policy.now };
 
-    ghost is_at = { λ taker. IsPlainAt };
+    ghost is_at = { λ taker. IsPlainAt taker.policy.now };
 
-    fn take<L: Ledger>(
+    fn take<C: Ledger, L: Ledger>(
         &self,
         alloc: Global,
         state: &mut Browser,
         item: &Input,
         text: &mut Vec<u8>,
+        copies: &mut Steps<C>,
         steps: &mut Steps<L>,
     ) -> Result<(), AllocError> {
-        let outs = handle(alloc, state, item, steps)?;
+        let outs = handle(alloc, state, item, copies, steps)?;
         print_all(self.policy, outs.as_slice(), text)
     }
 }
 
 /// Runs one browser over the trace that the port gives.
 #[tactic(auto, using(crate::proofs::Giving::is_taken))]
-pub(crate) fn walk_plain<P: Port, L: Ledger>(
+pub(crate) fn walk_plain<P: Port, C: Ledger, L: Ledger>(
     alloc: Global,
     policy: &Policy,
     port: &mut P,
+    copies: &mut Steps<C>,
     turns: &mut Steps<L>,
 ) -> End<TraceFault>
-    ensures streams { Streams (Gives true policy.now.order) (plain_entry policy.now) plain_turns (λ is. ⊤)
+    ensures streams { Streams (Gives true policy.now.order) (plain_entry policy.now) (plain_turns policy.now) (λ is. ⊤)
         (P.log port.old) (P.log port.new) (P.rest port.old) (P.rest port.new) turns.old turns.new result }
     ensures later { turns.old ≤ turns.new }
+    ensures later_copies { copies.old ≤ copies.new }
     ensures read_fault { result ≡ End.ReadFault → Rose (P.read_faults port.old) (P.read_faults port.new) }
     ensures write_fault { result ≡ End.WriteFault → Rose (P.write_faults port.old) (P.write_faults port.new) }
 {
@@ -76,6 +78,14 @@ pub(crate) fn walk_plain<P: Port, L: Ledger>(
         lattice,
         built_only: true,
     };
-    let mut browser = Browser::new(alloc);
-    stream(alloc, &reader, &Plain { policy }, &mut browser, port, turns)
+    let mut browser = Browser::new(alloc, policy.fuel());
+    stream(
+        alloc,
+        &reader,
+        &Plain { policy },
+        &mut browser,
+        port,
+        copies,
+        turns,
+    )
 }

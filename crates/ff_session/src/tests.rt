@@ -10,19 +10,24 @@ use std::sync::ledger::{Blank, Ledger};
 use std::test::Fail;
 
 /// Does the work under the built-in policy: the number that it ends with.
-fn start<L: Ledger, P: Port>(
+fn start<C: Ledger, L: Ledger, P: Port>(
     alloc: Global,
     work: Work,
     port: &mut P,
+    copies: Blank,
     turns: Blank,
 ) -> Result<u8, AllocError>
+    requires copies_name { copies.name ≡ C.name }
+    requires copies_parts { copies.parts ≡ C.parts }
+    requires some_copies { 0 < copies.parts }
     requires name { turns.name ≡ L.name }
     requires parts { turns.parts ≡ L.parts }
     requires some { 0 < turns.parts }
 {
     let policy = Policy::builtin(alloc)?;
+    let mut copied = Steps::<C>::new(copies);
     let mut made = Steps::<L>::new(turns);
-    Ok(walk(alloc, work, &policy, port, &mut made).number())
+    Ok(walk(alloc, work, &policy, port, &mut copied, &mut made).number())
 }
 
 fn pieces_of(alloc: Global, texts: &[&str]) -> Result<Vec<Vec<u8>>, AllocError> {
@@ -44,7 +49,13 @@ fn ends(
     let pieces = pieces_of(alloc, texts)?;
     let bad_reads = Vec::from_slice(alloc, bad_reads)?;
     let mut port = MemPort::new(alloc, pieces, bad_reads, Vec::new(alloc), 65_536);
-    let number = start::<Brand, MemPort>(alloc, work, &mut port, Blank::new(1))?;
+    let number = start::<Brand, Brand, MemPort>(
+        alloc,
+        work,
+        &mut port,
+        Blank::new(1),
+        Blank::new(1),
+    )?;
     Ok((number, Vec::from_slice(alloc, port.put_bytes())?))
 }
 

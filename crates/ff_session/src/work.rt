@@ -1,9 +1,8 @@
-ghost use Rattle.std.specs.Prelude.{◌≡◌};
+ghost use Rattle.std.specs.Prelude.{◌≡◌, ◌≤◌};
 ghost use Rattle.ff_io.specs.Counts.{Rose};
 ghost use Rattle.ff_reactive.specs.Laws.{IsProjection, IsSecure, IsPrecise};
-ghost use Rattle.ff_core.specs.Machine.{machine};
 ghost use Rattle.ff_policy.specs.Assignment.{IsAssignment};
-ghost use Rattle.ff_levels.specs.Levels.{levels, IsInput};
+ghost use Rattle.ff_levels.specs.Levels.{levels, machine, IsInput};
 ghost use Rattle.ff_session.specs.Works.{Exchanged, Claims, IsAnswered, status_as, fault_as};
 
 use crate::format::walk_format;
@@ -29,25 +28,28 @@ pub enum Work {
 }
 
 /// Does the work over the trace that the port gives, line by line: before the port is read again,
-/// the whole text of the lines that were got is written. `turns` counts the turns of all browsers.
-pub fn walk<P: Port, L: Ledger>(
+/// the whole text of the lines that were got is written. `turns` counts the turns of all
+/// browsers, and `copies` the cells that are copied.
+pub fn walk<P: Port, C: Ledger, L: Ledger>(
     alloc: Global,
     work: Work,
     policy: &Policy,
     port: &mut P,
+    copies: &mut Steps<C>,
     turns: &mut Steps<L>,
 ) -> Status
     ensures exchanged { Exchanged work policy.now (P.told port.old) (P.told port.new) turns.old turns.new result }
-    ensures projected { work ≡ Work.Multi → IsAnswered result → Claims Work.Multi policy.now (P.told port.old) (P.told port.new) (λ is put. IsProjection machine (levels policy.now) is put) }
-    ensures secure { work ≡ Work.Multi → IsAnswered result → Claims Work.Multi policy.now (P.told port.old) (P.told port.new) (λ is put. IsSecure machine (levels policy.now) (IsInput policy.now.order) is put) }
-    ensures precise { work ≡ Work.Multi → IsAnswered result → Claims Work.Multi policy.now (P.told port.old) (P.told port.new) (λ is put. IsPrecise machine (levels policy.now) is put) }
+    ensures projected { work ≡ Work.Multi → IsAnswered result → Claims Work.Multi policy.now (P.told port.old) (P.told port.new) (λ is put. IsProjection (machine policy.now) (levels policy.now) is put) }
+    ensures secure { work ≡ Work.Multi → IsAnswered result → Claims Work.Multi policy.now (P.told port.old) (P.told port.new) (λ is put. IsSecure (machine policy.now) (levels policy.now) (IsInput policy.now.order) is put) }
+    ensures precise { work ≡ Work.Multi → IsAnswered result → Claims Work.Multi policy.now (P.told port.old) (P.told port.new) (λ is put. IsPrecise (machine policy.now) (levels policy.now) is put) }
     ensures valid { IsAssignment policy.now }
+    ensures later_copies { copies.old ≤ copies.new }
 {
     let lattice = policy.lattice();
     match work {
-        Work::Multi => status_of(walk_multi(alloc, policy, port, turns)),
-        Work::Plain => status_of(walk_plain(alloc, policy, port, turns)),
-        Work::Format => status_of(walk_format(alloc, lattice, port, turns)),
+        Work::Multi => status_of(walk_multi(alloc, policy, port, copies, turns)),
+        Work::Plain => status_of(walk_plain(alloc, policy, port, copies, turns)),
+        Work::Format => status_of(walk_format(alloc, lattice, port, copies, turns)),
     }
 }
 

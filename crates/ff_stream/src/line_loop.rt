@@ -20,12 +20,13 @@ use std::sync::ledger::Ledger;
 /// write or memory fails; what the earlier lines gave stays taken and written.
 ///
 /// It holds the bytes of one line and of one read, and the text of one item.
-pub fn stream<R: Reader, T: Taker<Item = R::Item>, P: Port, L: Ledger>(
+pub fn stream<R: Reader, T: Taker<Item = R::Item>, P: Port, C: Ledger, L: Ledger>(
     alloc: Global,
     reader: &R,
     taker: &T,
     state: &mut T::State,
     port: &mut P,
+    copies: &mut Steps<C>,
     steps: &mut Steps<L>,
 ) -> End<R::Fault>
     requires start { T.is_at taker.now state.old [] }
@@ -35,6 +36,7 @@ pub fn stream<R: Reader, T: Taker<Item = R::Item>, P: Port, L: Ledger>(
         (T.is_at taker.now state.new) (P.log port.old) (P.log port.new) (P.rest port.old)
         (P.rest port.new) steps.old steps.new result }
     ensures later { steps.old ≤ steps.new }
+    ensures later_copies { copies.old ≤ copies.new }
     ensures read_fault { result ≡ End.ReadFault
         → Rose (P.read_faults port.old) (P.read_faults port.new) }
     ensures write_fault { result ≡ End.WriteFault
@@ -48,7 +50,7 @@ pub fn stream<R: Reader, T: Taker<Item = R::Item>, P: Port, L: Ledger>(
             Ok(item) => item,
             Err(end) => return end,
         };
-        match take_item(alloc, taker, state, item, &mut text, port, steps) {
+        match take_item(alloc, taker, state, item, &mut text, port, copies, steps) {
             Ok(()) => (),
             Err(end) => return end,
         }
@@ -108,13 +110,14 @@ fn end_of<F>(number: u64, fail: LineFail) -> End<F>
 }
 
 // Takes the item that a line gave, where it gave one, and writes its text.
-fn take_item<F, T: Taker, P: Port, L: Ledger>(
+fn take_item<F, T: Taker, P: Port, C: Ledger, L: Ledger>(
     alloc: Global,
     taker: &T,
     state: &mut T::State,
     item: Option<T::Item>,
     text: &mut Vec<u8>,
     port: &mut P,
+    copies: &mut Steps<C>,
     steps: &mut Steps<L>,
 ) -> Result<(), End<F>>
     requires accepts { ForSome item (T.accepts taker.now) }
@@ -125,6 +128,7 @@ fn take_item<F, T: Taker, P: Port, L: Ledger>(
     ensures others { P.read_faults port.new ≡ P.read_faults port.old }
     ensures later { P.write_faults port.old ≤ P.write_faults port.new }
     ensures later_turns { steps.old ≤ steps.new }
+    ensures later_copies { copies.old ≤ copies.new }
     ensures no_read { result ≢ Err End.ReadFault }
     ensures cause { result ≡ Err End.WriteFault
         → Rose (P.write_faults port.old) (P.write_faults port.new) }
@@ -133,7 +137,7 @@ fn take_item<F, T: Taker, P: Port, L: Ledger>(
         return Ok(());
     };
     text.clear();
-    match taker.take(alloc, state, &item, text, steps) {
+    match taker.take(alloc, state, &item, text, copies, steps) {
         Ok(()) => match put_all(port, text) {
             Ok(()) => Ok(()),
             Err(_) => Err(End::WriteFault),

@@ -54,12 +54,13 @@ impl Taker for Growing {
 
     ghost is_at = { λ taker state bytes. state.items ≡ bytes };
 
-    fn take<L: Ledger>(
+    fn take<C: Ledger, L: Ledger>(
         &self,
         _alloc: Global,
         state: &mut Vec<u8>,
         item: &u8,
         text: &mut Vec<u8>,
+        _copies: &mut Steps<C>,
         steps: &mut Steps<L>,
     ) -> Result<(), AllocError> {
         text.extend_from_slice(state)?;
@@ -122,20 +123,37 @@ fn port_of(
 }
 
 /// Goes through a trace, and answers how it ended and which bytes were taken.
-fn go<L: Ledger, P: Port>(alloc: Global, port: &mut P, turns: Blank) -> (End<usize>, Vec<u8>)
+fn go<C: Ledger, L: Ledger, P: Port>(
+    alloc: Global,
+    port: &mut P,
+    copies: Blank,
+    turns: Blank,
+) -> (End<usize>, Vec<u8>)
+    requires copies_name { copies.name ≡ C.name }
+    requires copies_parts { copies.parts ≡ C.parts }
+    requires some_copies { 0 < copies.parts }
     requires name { turns.name ≡ L.name }
     requires parts { turns.parts ≡ L.parts }
     requires some { 0 < turns.parts }
 {
+    let mut copies = Steps::<C>::new(copies);
     let mut steps = Steps::<L>::new(turns);
     let mut taken = Vec::new(alloc);
-    let end = stream(alloc, &Firsts, &Growing, &mut taken, port, &mut steps);
+    let end = stream(
+        alloc,
+        &Firsts,
+        &Growing,
+        &mut taken,
+        port,
+        &mut copies,
+        &mut steps,
+    );
     (end, taken)
 }
 
-/// Goes through a trace with a counter of turns of its own.
+/// Goes through a trace with counters of its own.
 fn went<P: Port>(alloc: Global, port: &mut P) -> (End<usize>, Vec<u8>) {
-    go::<Brand, P>(alloc, port, Blank::new(1))
+    go::<Brand, Brand, P>(alloc, port, Blank::new(1), Blank::new(1))
 }
 
 fn bad_line(number: u64, fault: Fault<usize>) -> End<usize> {

@@ -7,6 +7,7 @@ loop-item-init g c = record {
   so_far = streaming_start _ _ _ _ _ _ _ _ c.new-lines.ensures c.requires.start;
   later = omega arith;
   later_turns = omega arith;
+  later_copies = omega arith;
   later_writes = omega arith;
 }
 
@@ -18,6 +19,7 @@ loop-item-preserved g c = record {
   so_far = rw c.in-Ok.ensures.counted (streaming_taken c.loop-item.invariant.so_far (rw c.in-Ok.ensures.counted at c.in-Ok.ensures.reads) (g.met.R.Reader.once c.args.reader.now) c.in-Ok.item refl c.in-Ok-take_item.ensures.takes);
   later = search rules;
   later_turns = search rules;
+  later_copies = search rules;
   later_writes = search rules;
 }
 

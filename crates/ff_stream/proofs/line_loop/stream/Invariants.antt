@@ -8,6 +8,7 @@ invariant-loop-item g l = record {
   so_far : IsStreaming (g.R.Reader.gives l.reader) (g.T.Taker.entry l.taker) (g.T.Taker.turns l.taker) (g.T.Taker.is_at l.taker l.state) (g.P.Port.log l.fn.port) (g.P.Port.log l.port) (g.P.Port.rest l.fn.port) (g.P.Port.rest l.port) l.fn.steps l.steps (l.number + 1) l.lines;
   later : g.P.Port.read_faults l.fn.port ≤ g.P.Port.read_faults l.port;
   later_turns : l.fn.steps ≤ l.steps;
+  later_copies : l.fn.copies ≤ l.copies;
   later_writes : g.P.Port.write_faults l.fn.port ≤ g.P.Port.write_faults l.port;
 }
 

@@ -1,0 +1,26 @@
+use Rattle.std.proofs.Common.{◌≡◌, false, ◌++◌, ap, ◌∙◌, subst, sym, arith, ◌<◌}
+use Rattle.ff_reactive.specs.Turns.{turns_left}
+use Rattle.ff_core.specs.State.{IsState}
+use Rattle.ff_core.specs.Machine.{begin, reactor}
+use Rattle.ff_session.proofs.Turning.{handling_start, handling_turn, handling_falls}
+use Rattle.ff_session.proofs.handling.handle.Goals as goal
+
+pub turning-init : goal.turning-init
+turning-init g c =
+    let outs = c.in_ok-accept.ensures.outputs ∙ ap (λ os. os ++ (begin c.args.browser.now c.args.input.now).outputs) c.new-outs.ensures.items in
+    (handling_start c.args.browser.now c.args.input.now c.args.turns.now c.accept.new.self c.accept.new.outs.items c.in_ok-accept.ensures.done outs c.in_ok-accept.ensures.valid, c.in_ok-accept.ensures.later)
+
+pub turning-smaller : goal.turning-smaller
+turning-smaller g c =
+    let busy : c.turning.browser.quiet ≡ false = cc in
+    let falls = handling_falls c.args.browser.now c.args.input.now c.args.turns.now c.turning.browser c.turning.outs.items c.turning.turns c.turning.invariant.0 busy in
+    subst (λ s. turns_left (reactor c.args.browser.now.budget) (λ t. t.fuel) s < turns_left (reactor c.args.browser.now.budget) (λ t. t.fuel) c.turning.browser) (sym c.in_ok-turn.ensures.done) falls
+
+pub turning-preserved : goal.turning-preserved
+turning-preserved g c =
+    let busy : c.turning.browser.quiet ≡ false = cc in
+    let valid = subst (λ budget. IsState budget c.turn.new.self) (c.turning.invariant.0.valid.budget_is) c.in_ok-turn.ensures.valid in (
+      handling_turn c.args.browser.now c.args.input.now c.args.turns.now c.turning.browser c.turning.outs.items c.turning.turns c.turning.invariant.0 c.turn.new.self c.turn.new.outs.items c.turn.new.turns
+          busy c.in_ok-turn.ensures.done c.in_ok-turn.ensures.outputs c.in_ok-turn.ensures.counted valid,
+      omega arith,
+    )

@@ -1,0 +1,11 @@
+use Rattle.std.proofs.Common.{◌≤◌}
+use Rattle.ff_reactive.specs.Turns.{turns_left}
+use Rattle.ff_core.specs.Machine.{reactor}
+use Rattle.ff_session.proofs.Turning.{IsHandling}
+use Rattle.ff_session.proofs.handling.handle.Given as goal
+
+abbrev pub invariant-turning : goal.invariant-turning
+invariant-turning g l = IsHandling l.fn.browser l.input l.fn.turns l.browser l.outs.items l.turns × (l.fn.copies ≤ l.copies)
+
+abbrev pub decreases-turning : goal.decreases-turning
+decreases-turning g l = turns_left (reactor l.fn.browser.budget) (λ s. s.fuel) l.browser
