@@ -1,1 +1,5 @@
 pub mod Marking
+pub mod Below
+pub mod Searching
+pub mod Lacking
+pub mod KindWords

@@ -9,9 +9,14 @@
 #![tactic(auto)]
 
 mod cell;
+mod change;
+mod climb;
+mod listed;
 mod marks;
 mod node;
 mod nodes;
+mod read;
+mod search;
 #[cfg(test)]
 mod tests;
 
