@@ -1,9 +1,10 @@
 -- Where a bit isn't set in the marks of a node, no node at or below it has that name or kind.
-use Rattle.std.proofs.Common.{◌≡◌, ℕ, zero, suc, ◌<◌, ◌≤◌, Bool, true, false, cond, Option, Some, None, List, [], ◌∷◌, ◌++◌, length, flat_map, find, filter, get_or, arith, refl, sym, subst, ap, ◌∙◌}
+use Rattle.std.proofs.Common.{◌≡◌, ℕ, zero, suc, ◌<◌, ◌≤◌, Bool, true, false, cond, not, IsTrue, Option, Some, None, List, [], ◌∷◌, ◌++◌, length, flat_map, find, filter, get_or, arith, refl, sym, subst, ap, ◌∙◌}
 use Rattle.std.specs.Int.{bit_at}
 use Rattle.std.specs.List.{AllByRecursion}
 use Rattle.std.specs.Str.{bytes_eq}
 use Rattle.std.proofs.Math.ListN.{get_or-map}
+use Rattle.std.proofs.lemmas.Bool.{false≢true}
 use Rattle.std.proofs.lemmas.List.{length-map}
 use Rattle.std.proofs.lemmas.List.Elements.{recursion_from_All}
 use Rattle.std.proofs.lemmas.Slice.Eq.{bytes_eq-Decides}
@@ -50,6 +51,11 @@ none_kept : {X : Type 0} (p : X → Bool) (xs : List X) → AllByRecursion (λ x
 none_kept p [] h = refl
 none_kept p (x ∷ xs) h = ap (λ b. cond b (x ∷ filter p xs) (filter p xs)) h.0 ∙ none_kept p xs h.1
 
+-- a test isn't both
+pub not_both : (b : Bool) → IsTrue b → IsTrue (not b) → ⊥
+not_both true h k = absurd (false≢true k)
+not_both false h k = absurd (false≢true h)
+
 unless : (b : Bool) → (b ≡ true → ⊥) → b ≡ false
 unless true h = absurd (h refl)
 unless false h = refl
@@ -76,7 +82,8 @@ module _ (cells : List NodeCell) (are : AreCells cells) where
   unfolding Walk
   walked n lives = walk_marked (suc MOST_TREE_DEPTH) n lives
 
-  own : (m : NodeId) → m.0 < length nodes → IsOwn (node_at nodes m) (cell_at cells m).marks
+  -- the marks of a node hold its own bits
+  pub own : (m : NodeId) → m.0 < length nodes → IsOwn (node_at nodes m) (cell_at cells m).marks
   own m lives = subst (λ (node : Node). IsOwn node (cell_at cells m).marks) (sym (node_of_cell cells m)) (are.marks.own m (let e = count_cells cells in omega (arith, e, lives)))
 
   named : (x : List ℕ) (m : NodeId) (o : Option (List ℕ)) → m.0 < length nodes → name_of (node_at nodes m).shape ≡ o → is_name x o ≡ true → bit_at (cell_at cells m).marks.names (name_bit x) ≡ 1

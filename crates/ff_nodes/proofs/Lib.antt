@@ -3,3 +3,5 @@ pub mod Below
 pub mod Searching
 pub mod Lacking
 pub mod KindWords
+pub mod CellChanges
+pub mod Rest
