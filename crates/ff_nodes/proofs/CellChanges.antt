@@ -65,12 +65,12 @@ module _ (cells : List NodeCell) (are : AreCells cells) (n : NodeId) (node : Nod
   }
 
 -- what is so at the nodes of the cells is so where they are seen
-pub written : (cells new : List NodeCell) (all : List Node) → AreCells cells → nodes_of cells ≡ all → (n : NodeId) (node : Node) (cell : NodeCell) → Some cell ≡ slice_get cells n.0 → n.0 < length all → IsNode node
+pub written : (cells cells' : List NodeCell) (all : List Node) → AreCells cells → nodes_of cells ≡ all → (n : NodeId) (node : Node) (cell : NodeCell) → Some cell ≡ slice_get cells n.0 → n.0 < length all → IsNode node
     → node.children ≡ children all n → node.parent ≡ parent all n → kind_of node.shape ≡ kind_of (node_at all n).shape → name_of node.shape ≡ name_of (node_at all n).shape
-    → new ≡ set cells n.0 (record { node = node; marks = cell.marks }) → AreCells new
-written cells new all are view n node cell at lives is kids up kind name e =
+    → cells' ≡ set cells n.0 (record { node = node; marks = cell.marks }) → AreCells cells'
+written cells cells' all are view n node cell at lives is kids up kind name e =
     let old : (cell_at cells n).marks ≡ cell.marks = ap (λ (k : NodeCell). k.marks) (get_or_from_slice_get cells n.0 cell no_cell (sym at)) in
-    let is_new : new ≡ set cells n.0 (record { node = node; marks = (cell_at cells n).marks }) = e ∙ ap (λ (m : Marks). let x : NodeCell = record { node = node; marks = m } in set cells n.0 x) (sym old) in
+    let is_new : cells' ≡ set cells n.0 (record { node = node; marks = (cell_at cells n).marks }) = e ∙ ap (λ (m : Marks). let x : NodeCell = record { node = node; marks = m } in set cells n.0 x) (sym old) in
     subst AreCells (sym is_new) (cell_set cells are n node
       (subst (λ (ns : List Node). n.0 < length ns) (sym view) lives) is
       (subst (λ (ns : List Node). node.children ≡ children ns n) (sym view) kids)
@@ -79,8 +79,8 @@ written cells new all are view n node cell at lives is kids up kind name e =
       (subst (λ (ns : List Node). name_of node.shape ≡ name_of (node_at ns n).shape) (sym view) name))
 
 -- and the nodes are the old ones but for that one
-pub written_nodes : (cells new : List NodeCell) (all : List Node) → nodes_of cells ≡ all → (n : NodeId) (node : Node) (marks : Marks) → new ≡ set cells n.0 (record { node = node; marks = marks }) → nodes_of new ≡ set_node all n node
-written_nodes cells new all view n node marks e = ap nodes_of e ∙ nodes_set cells n.0 (record { node = node; marks = marks }) ∙ ap (λ (ns : List Node). set_node ns n node) view
+pub written_nodes : (cells cells' : List NodeCell) (all : List Node) → nodes_of cells ≡ all → (n : NodeId) (node : Node) (marks : Marks) → cells' ≡ set cells n.0 (record { node = node; marks = marks }) → nodes_of cells' ≡ set_node all n node
+written_nodes cells cells' all view n node marks e = ap nodes_of e ∙ nodes_set cells n.0 (record { node = node; marks = marks }) ∙ ap (λ (ns : List Node). set_node ns n node) view
 
 -- no fault forbids a handler
 pub no_handler_fault : (all : List Node) (n : NodeId) (code : Code) → may_have_handlers (node_at all n).shape ≡ true → length code.params ≡ 1 → length (node_at all n).handlers < 16 → handler_fault all n code ≡ None

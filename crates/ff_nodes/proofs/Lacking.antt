@@ -11,9 +11,12 @@ use Rattle.std.proofs.lemmas.Slice.Eq.{bytes_eq-Decides}
 use Rattle.std.proofs.lemmas.Nat.Bits.{bit_at-lt}
 use Rattle.ff_value.specs.declared.ids.NodeId.{NodeId}
 use Rattle.ff_machine.specs.declared.kinds.Kind.{Kind}
+use Rattle.ff_machine.specs.declared.kinds.Kind.TheVariants as kind
+use Rattle.ff_machine.specs.declared.records.Shape.{Shape}
+use Rattle.ff_machine.specs.declared.records.Shape.TheVariants as shape
 use Rattle.ff_machine.specs.declared.limits.TheConstants.{MOST_TREE_DEPTH}
-use Rattle.ff_machine.specs.Shapes.{kind_of, kind_word, name_of}
-use Rattle.ff_machine.specs.Nodes.{Node, Walk, walk_within, node_at, no_node, children, is_name, by_name, of_word}
+use Rattle.ff_machine.specs.Shapes.{kind_of, kind_word, name_of, is_unstarted}
+use Rattle.ff_machine.specs.Nodes.{Node, Walk, walk_within, node_at, no_node, children, is_name, by_name, of_word, scripts}
 use Rattle.ff_nodes.specs.declared.cell.NodeCell.{NodeCell}
 use Rattle.ff_nodes.specs.declared.marks.Marks.{Marks}
 use Rattle.ff_nodes.specs.Marked.{name_bit, kind_bit, IsOwn, AreWithin}
@@ -101,11 +104,37 @@ module _ (cells : List NodeCell) (are : AreCells cells) where
           unset (omega (arith, set, less, bit_at-lt (cell_at cells n).marks.names (name_bit x))))) (Walk nodes n) (walked n lives))
 
   -- no node is of that kind
-  pub no_kind : (n : NodeId) (kind : Kind) → n.0 < length nodes → (bit_at (cell_at cells n).marks.kinds (kind_bit kind) ≡ 1 → ⊥) → of_word nodes n (kind_word kind) ≡ []
-  no_kind n kind lives unset =
-      none_kept (λ m. bytes_eq (kind_word (kind_of (node_at nodes m).shape)) (kind_word kind)) (Walk nodes n) (weaker (IsUnder (cell_at cells n).marks) (λ m. bytes_eq (kind_word (kind_of (node_at nodes m).shape)) (kind_word kind) ≡ false) (λ m under. unless (bytes_eq (kind_word (kind_of (node_at nodes m).shape)) (kind_word kind)) (λ is.
-          let words : kind_word (kind_of (node_at nodes m).shape) ≡ kind_word kind = grind (arith, bytes_eq-Decides (kind_word (kind_of (node_at nodes m).shape)) (kind_word kind), is) in
-          let same = same_kind (kind_of (node_at nodes m).shape) kind words in
-          let set : bit_at (cell_at cells m).marks.kinds (kind_bit kind) ≡ 1 = subst (λ (k : Kind). bit_at (cell_at cells m).marks.kinds (kind_bit k) ≡ 1) same (own m under.lives).kind in
-          let less = under.within.kinds (kind_bit kind) in
-          unset (omega (arith, set, less, bit_at-lt (cell_at cells n).marks.kinds (kind_bit kind))))) (Walk nodes n) (walked n lives))
+  pub no_kind : (n : NodeId) (k : Kind) → n.0 < length nodes → (bit_at (cell_at cells n).marks.kinds (kind_bit k) ≡ 1 → ⊥) → of_word nodes n (kind_word k) ≡ []
+  no_kind n k lives unset =
+      none_kept (λ m. bytes_eq (kind_word (kind_of (node_at nodes m).shape)) (kind_word k)) (Walk nodes n) (weaker (IsUnder (cell_at cells n).marks) (λ m. bytes_eq (kind_word (kind_of (node_at nodes m).shape)) (kind_word k) ≡ false) (λ m under. unless (bytes_eq (kind_word (kind_of (node_at nodes m).shape)) (kind_word k)) (λ is.
+          let words : kind_word (kind_of (node_at nodes m).shape) ≡ kind_word k = grind (arith, bytes_eq-Decides (kind_word (kind_of (node_at nodes m).shape)) (kind_word k), is) in
+          let same = same_kind (kind_of (node_at nodes m).shape) k words in
+          let set : bit_at (cell_at cells m).marks.kinds (kind_bit k) ≡ 1 = subst (λ (j : Kind). bit_at (cell_at cells m).marks.kinds (kind_bit j) ≡ 1) same (own m under.lives).kind in
+          let less = under.within.kinds (kind_bit k) in
+          unset (omega (arith, set, less, bit_at-lt (cell_at cells n).marks.kinds (kind_bit k))))) (Walk nodes n) (walked n lives))
+
+-- Scripts.
+
+each_false : {X : Type 0} (p : X → Bool) (xs : List X) → filter p xs ≡ [] → AllByRecursion (λ x. p x ≡ false) xs
+each_false p [] h = tt
+each_false p (x ∷ xs) h = by (p x) refl (each_false p xs) where
+  by : (b : Bool) → p x ≡ b → (filter p xs ≡ [] → AllByRecursion (λ y. p y ≡ false) xs) → AllByRecursion (λ y. p y ≡ false) (x ∷ xs)
+  by true e rest = absurd (let full : x ∷ filter p xs ≡ [] = ap (λ b. cond b (x ∷ filter p xs) (filter p xs)) (sym e) ∙ h in cc)
+  by false e rest = (e, rest (ap (λ b. cond b (x ∷ filter p xs) (filter p xs)) (sym e) ∙ h))
+
+neither : (s : Shape) → bytes_eq (kind_word (kind_of s)) (kind_word kind.Script) ≡ false → bytes_eq (kind_word (kind_of s)) (kind_word kind.Src) ≡ false → is_unstarted s ≡ false
+neither (shape.Script x started body) a b = cc
+neither (shape.Src x started url) a b = cc
+neither other a b = refl
+
+all_neither : (nodes : List Node) (xs : List NodeId) → AllByRecursion (λ m. bytes_eq (kind_word (kind_of (node_at nodes m).shape)) (kind_word kind.Script) ≡ false) xs
+    → AllByRecursion (λ m. bytes_eq (kind_word (kind_of (node_at nodes m).shape)) (kind_word kind.Src) ≡ false) xs → AllByRecursion (λ m. is_unstarted (node_at nodes m).shape ≡ false) xs
+all_neither nodes [] a b = tt
+all_neither nodes (m ∷ xs) a b = (neither (node_at nodes m).shape a.0 b.0, all_neither nodes xs a.1 b.1)
+
+-- where there is neither a script nor the address of one, there is none that wasn't started
+pub no_scripts : (nodes : List Node) (n : NodeId) → of_word nodes n (kind_word kind.Script) ≡ [] → of_word nodes n (kind_word kind.Src) ≡ [] → scripts nodes n ≡ []
+no_scripts nodes n a b =
+    none_kept (λ m. is_unstarted (node_at nodes m).shape) (Walk nodes n) (all_neither nodes (Walk nodes n)
+      (each_false (λ m. bytes_eq (kind_word (kind_of (node_at nodes m).shape)) (kind_word kind.Script)) (Walk nodes n) a)
+      (each_false (λ m. bytes_eq (kind_word (kind_of (node_at nodes m).shape)) (kind_word kind.Src)) (Walk nodes n) b))

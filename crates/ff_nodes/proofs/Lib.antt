@@ -5,3 +5,4 @@ pub mod Lacking
 pub mod KindWords
 pub mod CellChanges
 pub mod Rest
+pub mod Turns
