@@ -127,10 +127,10 @@ neither (shape.Script x started body) a b = cc
 neither (shape.Src x started url) a b = cc
 neither other a b = refl
 
-all_neither : (nodes : List Node) (xs : List NodeId) → AllByRecursion (λ m. bytes_eq (kind_word (kind_of (node_at nodes m).shape)) (kind_word kind.Script) ≡ false) xs
-    → AllByRecursion (λ m. bytes_eq (kind_word (kind_of (node_at nodes m).shape)) (kind_word kind.Src) ≡ false) xs → AllByRecursion (λ m. is_unstarted (node_at nodes m).shape ≡ false) xs
-all_neither nodes [] a b = tt
-all_neither nodes (m ∷ xs) a b = (neither (node_at nodes m).shape a.0 b.0, all_neither nodes xs a.1 b.1)
+all_neither : (all : List Node) (xs : List NodeId) → AllByRecursion (λ m. bytes_eq (kind_word (kind_of (node_at all m).shape)) (kind_word kind.Script) ≡ false) xs
+    → AllByRecursion (λ m. bytes_eq (kind_word (kind_of (node_at all m).shape)) (kind_word kind.Src) ≡ false) xs → AllByRecursion (λ m. is_unstarted (node_at all m).shape ≡ false) xs
+all_neither all [] a b = tt
+all_neither all (m ∷ xs) a b = (neither (node_at all m).shape a.0 b.0, all_neither all xs a.1 b.1)
 
 -- where there is neither a script nor the address of one, there is none that wasn't started
 pub no_scripts : (nodes : List Node) (n : NodeId) → of_word nodes n (kind_word kind.Script) ≡ [] → of_word nodes n (kind_word kind.Src) ≡ [] → scripts nodes n ≡ []
