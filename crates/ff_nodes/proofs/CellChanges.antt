@@ -18,7 +18,7 @@ use Rattle.ff_nodes.specs.declared.cell.NodeCell.{NodeCell}
 use Rattle.ff_nodes.specs.declared.marks.Marks.{Marks}
 use Rattle.ff_nodes.specs.Marked.{kind_bit, IsOwn, AreWithin}
 use Rattle.ff_nodes.specs.Cells.{nodes_of, cell_at, no_cell, AreCells}
-use Rattle.ff_nodes.proofs.Lacking.{count_cells, own}
+use Rattle.ff_nodes.proofs.Lacking.{own}
 
 -- no cells
 pub no_cells : AreCells []
@@ -72,11 +72,11 @@ written cells cells' all are view n node cell at lives is kids up kind name e =
     let old : (cell_at cells n).marks ≡ cell.marks = ap (λ (k : NodeCell). k.marks) (get_or_from_slice_get cells n.0 cell no_cell (sym at)) in
     let is_new : cells' ≡ set cells n.0 (record { node = node; marks = (cell_at cells n).marks }) = e ∙ ap (λ (m : Marks). let x : NodeCell = record { node = node; marks = m } in set cells n.0 x) (sym old) in
     subst AreCells (sym is_new) (cell_set cells are n node
-      (subst (λ (ns : List Node). n.0 < length ns) (sym view) lives) is
-      (subst (λ (ns : List Node). node.children ≡ children ns n) (sym view) kids)
-      (subst (λ (ns : List Node). node.parent ≡ parent ns n) (sym view) up)
-      (subst (λ (ns : List Node). kind_of node.shape ≡ kind_of (node_at ns n).shape) (sym view) kind)
-      (subst (λ (ns : List Node). name_of node.shape ≡ name_of (node_at ns n).shape) (sym view) name))
+    (subst (λ (ns : List Node). n.0 < length ns) (sym view) lives) is
+    (subst (λ (ns : List Node). node.children ≡ children ns n) (sym view) kids)
+    (subst (λ (ns : List Node). node.parent ≡ parent ns n) (sym view) up)
+    (subst (λ (ns : List Node). kind_of node.shape ≡ kind_of (node_at ns n).shape) (sym view) kind)
+    (subst (λ (ns : List Node). name_of node.shape ≡ name_of (node_at ns n).shape) (sym view) name))
 
 -- and the nodes are the old ones but for that one
 pub written_nodes : (cells cells' : List NodeCell) (all : List Node) → nodes_of cells ≡ all → (n : NodeId) (node : Node) (marks : Marks) → cells' ≡ set cells n.0 (record { node = node; marks = marks }) → nodes_of cells' ≡ set_node all n node

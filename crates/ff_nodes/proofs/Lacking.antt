@@ -1,5 +1,5 @@
 -- Where a bit isn't set in the marks of a node, no node at or below it has that name or kind.
-use Rattle.std.proofs.Common.{◌≡◌, ℕ, zero, suc, ◌<◌, ◌≤◌, Bool, true, false, cond, not, IsTrue, Option, Some, None, List, [], ◌∷◌, ◌++◌, length, flat_map, find, filter, get_or, arith, refl, sym, subst, ap, ◌∙◌}
+use Rattle.std.proofs.Common.{◌≡◌, ℕ, zero, suc, ◌<◌, Bool, true, false, cond, not, IsTrue, Option, Some, None, List, [], ◌∷◌, ◌++◌, length, flat_map, find, filter, get_or, arith, refl, sym, subst, ap, ◌∙◌}
 use Rattle.std.specs.Int.{bit_at}
 use Rattle.std.specs.List.{AllByRecursion}
 use Rattle.std.specs.Str.{bytes_eq}
@@ -16,11 +16,11 @@ use Rattle.ff_machine.specs.declared.records.Shape.{Shape}
 use Rattle.ff_machine.specs.declared.records.Shape.TheVariants as shape
 use Rattle.ff_machine.specs.declared.limits.TheConstants.{MOST_TREE_DEPTH}
 use Rattle.ff_machine.specs.Shapes.{kind_of, kind_word, name_of, is_unstarted}
-use Rattle.ff_machine.specs.Nodes.{Node, Walk, walk_within, node_at, no_node, children, is_name, by_name, of_word, scripts}
+use Rattle.ff_machine.specs.Nodes.{Node, Walk, walk_within, node_at, children, is_name, by_name, of_word, scripts}
 use Rattle.ff_nodes.specs.declared.cell.NodeCell.{NodeCell}
 use Rattle.ff_nodes.specs.declared.marks.Marks.{Marks}
 use Rattle.ff_nodes.specs.Marked.{name_bit, kind_bit, IsOwn, AreWithin}
-use Rattle.ff_nodes.specs.Cells.{nodes_of, cell_at, no_cell, AreMarked, AreCells}
+use Rattle.ff_nodes.specs.Cells.{nodes_of, cell_at, no_cell, AreCells}
 use Rattle.ff_nodes.proofs.Marking.{within_itself, within_through}
 use Rattle.ff_nodes.proofs.KindWords.{same_kind}
 
@@ -74,12 +74,13 @@ module _ (cells : List NodeCell) (are : AreCells cells) where
 
   walk_marked : (k : ℕ) (n : NodeId) → n.0 < length nodes → AllByRecursion (IsUnder (cell_at cells n).marks) (walk_within k nodes n)
   walk_marked zero n lives = tt
-  walk_marked (suc k) n lives =
-      (record { lives = lives; within = within_itself (cell_at cells n).marks },
-      each (IsUnder (cell_at cells n).marks) (walk_within k nodes) (children nodes n) (recursion_from_All (λ c. AllByRecursion (IsUnder (cell_at cells n).marks) (walk_within k nodes c)) (children nodes n) (λ i d here.
-          let c = get_or (children nodes n) i d in
-          let inside = are.marks.within c n (are.nodes.trees.agree n i d here) in
-          weaker (IsUnder (cell_at cells c).marks) (IsUnder (cell_at cells n).marks) (λ m under. record { lives = under.lives; within = within_through (cell_at cells m).marks (cell_at cells c).marks (cell_at cells n).marks under.within inside }) (walk_within k nodes c) (walk_marked k c (are.nodes.trees.below n i d here)))))
+  walk_marked (suc k) n lives = (
+    record { lives = lives; within = within_itself (cell_at cells n).marks },
+    each (IsUnder (cell_at cells n).marks) (walk_within k nodes) (children nodes n) (recursion_from_All (λ c. AllByRecursion (IsUnder (cell_at cells n).marks) (walk_within k nodes c)) (children nodes n) (λ i d here.
+        let c = get_or (children nodes n) i d in
+        let inside = are.marks.within c n (are.nodes.trees.agree n i d here) in
+        weaker (IsUnder (cell_at cells c).marks) (IsUnder (cell_at cells n).marks) (λ m under. record { lives = under.lives; within = within_through (cell_at cells m).marks (cell_at cells c).marks (cell_at cells n).marks under.within inside }) (walk_within k nodes c) (walk_marked k c (are.nodes.trees.below n i d here)))),
+  )
 
   walked : (n : NodeId) → n.0 < length nodes → AllByRecursion (IsUnder (cell_at cells n).marks) (Walk nodes n)
   unfolding Walk
@@ -99,19 +100,19 @@ module _ (cells : List NodeCell) (are : AreCells cells) where
   pub no_name : (n : NodeId) (x : List ℕ) → n.0 < length nodes → (bit_at (cell_at cells n).marks.names (name_bit x) ≡ 1 → ⊥) → by_name nodes n x ≡ None
   no_name n x lives unset =
       none_found (λ m. is_name x (name_of (node_at nodes m).shape)) (Walk nodes n) (weaker (IsUnder (cell_at cells n).marks) (λ m. is_name x (name_of (node_at nodes m).shape) ≡ false) (λ m under. unless (is_name x (name_of (node_at nodes m).shape)) (λ is.
-          let set = named x m (name_of (node_at nodes m).shape) under.lives refl is in
-          let less = under.within.names (name_bit x) in
-          unset (omega (arith, set, less, bit_at-lt (cell_at cells n).marks.names (name_bit x))))) (Walk nodes n) (walked n lives))
+      let set = named x m (name_of (node_at nodes m).shape) under.lives refl is in
+      let less = under.within.names (name_bit x) in
+      unset (omega (arith, set, less, bit_at-lt (cell_at cells n).marks.names (name_bit x))))) (Walk nodes n) (walked n lives))
 
   -- no node is of that kind
   pub no_kind : (n : NodeId) (k : Kind) → n.0 < length nodes → (bit_at (cell_at cells n).marks.kinds (kind_bit k) ≡ 1 → ⊥) → of_word nodes n (kind_word k) ≡ []
   no_kind n k lives unset =
       none_kept (λ m. bytes_eq (kind_word (kind_of (node_at nodes m).shape)) (kind_word k)) (Walk nodes n) (weaker (IsUnder (cell_at cells n).marks) (λ m. bytes_eq (kind_word (kind_of (node_at nodes m).shape)) (kind_word k) ≡ false) (λ m under. unless (bytes_eq (kind_word (kind_of (node_at nodes m).shape)) (kind_word k)) (λ is.
-          let words : kind_word (kind_of (node_at nodes m).shape) ≡ kind_word k = grind (arith, bytes_eq-Decides (kind_word (kind_of (node_at nodes m).shape)) (kind_word k), is) in
-          let same = same_kind (kind_of (node_at nodes m).shape) k words in
-          let set : bit_at (cell_at cells m).marks.kinds (kind_bit k) ≡ 1 = subst (λ (j : Kind). bit_at (cell_at cells m).marks.kinds (kind_bit j) ≡ 1) same (own m under.lives).kind in
-          let less = under.within.kinds (kind_bit k) in
-          unset (omega (arith, set, less, bit_at-lt (cell_at cells n).marks.kinds (kind_bit k))))) (Walk nodes n) (walked n lives))
+      let words : kind_word (kind_of (node_at nodes m).shape) ≡ kind_word k = grind (arith, bytes_eq-Decides (kind_word (kind_of (node_at nodes m).shape)) (kind_word k), is) in
+      let same = same_kind (kind_of (node_at nodes m).shape) k words in
+      let set : bit_at (cell_at cells m).marks.kinds (kind_bit k) ≡ 1 = subst (λ (j : Kind). bit_at (cell_at cells m).marks.kinds (kind_bit j) ≡ 1) same (own m under.lives).kind in
+      let less = under.within.kinds (kind_bit k) in
+      unset (omega (arith, set, less, bit_at-lt (cell_at cells n).marks.kinds (kind_bit k))))) (Walk nodes n) (walked n lives))
 
 -- Scripts.
 
@@ -136,5 +137,5 @@ all_neither all (m ∷ xs) a b = (neither (node_at all m).shape a.0 b.0, all_nei
 pub no_scripts : (nodes : List Node) (n : NodeId) → of_word nodes n (kind_word kind.Script) ≡ [] → of_word nodes n (kind_word kind.Src) ≡ [] → scripts nodes n ≡ []
 no_scripts nodes n a b =
     none_kept (λ m. is_unstarted (node_at nodes m).shape) (Walk nodes n) (all_neither nodes (Walk nodes n)
-      (each_false (λ m. bytes_eq (kind_word (kind_of (node_at nodes m).shape)) (kind_word kind.Script)) (Walk nodes n) a)
-      (each_false (λ m. bytes_eq (kind_word (kind_of (node_at nodes m).shape)) (kind_word kind.Src)) (Walk nodes n) b))
+    (each_false (λ m. bytes_eq (kind_word (kind_of (node_at nodes m).shape)) (kind_word kind.Script)) (Walk nodes n) a)
+    (each_false (λ m. bytes_eq (kind_word (kind_of (node_at nodes m).shape)) (kind_word kind.Src)) (Walk nodes n) b))

@@ -1,8 +1,8 @@
 -- What one turn of a loop over the children of a node finds, and what it leaves.
-use Rattle.std.proofs.Common.{◌≡◌, ℕ, zero, suc, ◌+◌, ◌<◌, ◌≤◌, Bool, true, false, Option, Some, None, List, [], ◌∷◌, ◌++◌, length, flat_map, filter, get_or, drop, slice_get, arith, refl, sym, subst, ap, ◌∙◌, length-append}
+use Rattle.std.proofs.Common.{◌≡◌, ℕ, suc, ◌+◌, ◌<◌, ◌≤◌, Bool, true, false, Some, None, List, [], ◌∷◌, ◌++◌, length, filter, get_or, drop, slice_get, refl, sym, subst, ap, ◌∙◌, length-append}
 use Rattle.std.specs.Str.{bytes_eq}
 use Rattle.ff_value.specs.declared.ids.NodeId.{NodeId}
-use Rattle.ff_machine.specs.Shapes.{kind_of, kind_word, name_of, is_unstarted, seen_as}
+use Rattle.ff_machine.specs.Shapes.{kind_of, kind_word, name_of, is_unstarted}
 use Rattle.ff_machine.specs.Nodes.{Node, Walk, node_at, children, depth, is_name, by_name, of_word, scripts, shown}
 use Rattle.ff_machine.specs.Alone.{AreTrees}
 use Rattle.ff_nodes.proofs.Below.{depth_child, shown_out, seen}

@@ -1,4 +1,4 @@
-use Rattle.std.proofs.Common.{◌≡◌, Some, None, true, false, sym, ap, ◌∙◌, arith}
+use Rattle.std.proofs.Common.{◌≡◌, true, false, sym, ap, ◌∙◌, arith}
 use Rattle.ff_machine.specs.Shapes.{name_of}
 use Rattle.ff_machine.specs.Nodes.{Node, node_at, is_name, children}
 use Rattle.ff_nodes.proofs.Turns.{named_here, named_below, deeper, lives, named_in_next, named_after_next}

@@ -1,4 +1,4 @@
-use Rattle.std.proofs.Common.{◌≡◌, ℕ, Some, true, false, List, [], ◌∷◌, length, slice_get, sym, ap, ◌∙◌, arith}
+use Rattle.std.proofs.Common.{◌≡◌, ℕ, true, List, [], ◌∷◌, length, slice_get, sym, ap, ◌∙◌, arith}
 use Rattle.std.specs.Str.{bytes_eq}
 use Rattle.ff_value.specs.declared.ids.NodeId.{NodeId}
 use Rattle.ff_machine.specs.Shapes.{kind_of, kind_word}
@@ -26,19 +26,19 @@ loop-child-init t c =
     let test = sym (c.is_of_kind.ensures ∙ ap (λ (m : Node). bytes_eq (kind_word (kind_of m.shape)) word) c.at-node.ensures.value) in
     elim c.if-is_of_kind.branch [
       | then-is_of_kind+else-k-eq0 w ↦
-        let here = kind_here all trees c.args.root word (test ∙ w.if-is_of_kind.true) in
-        let count = ap length here in
-        record {
-          found = ap (λ (l : List NodeId). slice_get l c.args.k) here ∙ get_after (c.args.root ∷ []) rest c.args.k c.if-is_of_kind.left (omega arith);
-          passed = omega (arith, count);
-        }
+          let here = kind_here all trees c.args.root word (test ∙ w.if-is_of_kind.true) in
+          let count = ap length here in
+          record {
+            found = ap (λ (l : List NodeId). slice_get l c.args.k) here ∙ get_after (c.args.root ∷ []) rest c.args.k c.if-is_of_kind.left (omega arith);
+            passed = omega (arith, count);
+          }
       | else-is_of_kind w ↦
-        let below = kind_below all trees c.args.root word (test ∙ w.if-is_of_kind.false) in
-        let count = ap length below in
-        record {
-          found = ap (λ (l : List NodeId). slice_get l c.args.k) below ∙ ap (λ (k : ℕ). slice_get rest k) (sym w.left-is);
-          passed = omega (arith, count);
-        }
+          let below = kind_below all trees c.args.root word (test ∙ w.if-is_of_kind.false) in
+          let count = ap length below in
+          record {
+            found = ap (λ (l : List NodeId). slice_get l c.args.k) below ∙ ap (λ (k : ℕ). slice_get rest k) (sym w.left-is);
+            passed = omega (arith, count);
+          }
     ]
 
 pub nth_from-requires : goal.nth_from-requires

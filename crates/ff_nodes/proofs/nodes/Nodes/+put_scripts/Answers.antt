@@ -1,7 +1,7 @@
-use Rattle.std.proofs.Common.{◌≡◌, ◌≤◌, length, subst, Vec, Global, true, false, List, [], ◌∷◌, ◌++◌, sym, ap, ◌∙◌, arith, append_assoc, append-nil}
+use Rattle.std.proofs.Common.{◌≡◌, ◌≤◌, length, subst, Vec, Global, List, [], ◌∷◌, ◌++◌, sym, ap, ◌∙◌, arith, append_assoc, append-nil}
 use Rattle.ff_value.specs.declared.ids.NodeId.{NodeId}
 use Rattle.ff_machine.specs.Shapes.{is_unstarted}
-use Rattle.ff_machine.specs.Nodes.{Node, node_at, children}
+use Rattle.ff_machine.specs.Nodes.{Node, children}
 use Rattle.ff_nodes.proofs.Lacking.{no_scripts}
 use Rattle.ff_nodes.proofs.Rest.{scripts_from}
 use Rattle.ff_nodes.proofs.Turns.{scripts_here, scripts_below, scripts_past, deeper, lives}
@@ -35,9 +35,9 @@ returns t c =
     let test = sym (c.is_unstarted.ensures ∙ ap (λ (m : Node). is_unstarted m.shape) c.at-node.ensures.value) in
     elim c.if-is_unstarted.branch [
       | then-is_unstarted+in_ok-push w ↦
-        let start : c.if-is_unstarted.found.items ≡ old ++ c.args.root ∷ [] = ap (λ (v : Vec NodeId Global). v.items) w.found-is ∙ w.in_ok-push.ensures.items in
-        found ∙ ap (λ (l : List NodeId). l ++ scripts_from all cs) start ∙ append_assoc old (c.args.root ∷ []) (scripts_from all cs) ∙ ap (λ (l : List NodeId). old ++ l) (sym (scripts_here all trees c.args.root (test ∙ w.if-is_unstarted.true)))
+          let start : c.if-is_unstarted.found.items ≡ old ++ c.args.root ∷ [] = ap (λ (v : Vec NodeId Global). v.items) w.found-is ∙ w.in_ok-push.ensures.items in
+          found ∙ ap (λ (l : List NodeId). l ++ scripts_from all cs) start ∙ append_assoc old (c.args.root ∷ []) (scripts_from all cs) ∙ ap (λ (l : List NodeId). old ++ l) (sym (scripts_here all trees c.args.root (test ∙ w.if-is_unstarted.true)))
       | else-is_unstarted w ↦
-        let start : c.if-is_unstarted.found.items ≡ old = ap (λ (v : Vec NodeId Global). v.items) w.found-is in
-        found ∙ ap (λ (l : List NodeId). l ++ scripts_from all cs) start ∙ ap (λ (l : List NodeId). old ++ l) (sym (scripts_below all trees c.args.root (test ∙ w.if-is_unstarted.false)))
+          let start : c.if-is_unstarted.found.items ≡ old = ap (λ (v : Vec NodeId Global). v.items) w.found-is in
+          found ∙ ap (λ (l : List NodeId). l ++ scripts_from all cs) start ∙ ap (λ (l : List NodeId). old ++ l) (sym (scripts_below all trees c.args.root (test ∙ w.if-is_unstarted.false)))
     ]
