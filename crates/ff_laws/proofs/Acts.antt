@@ -13,7 +13,6 @@ use Rattle.ff_value.specs.declared.ids.ActId.{ActId}
 use Rattle.ff_value.specs.declared.value.Val.{Val}
 use Rattle.ff_value.specs.Spelled.{IsWellSpelledVal}
 use Rattle.ff_machine.specs.declared.limits.TheConstants.{MOST_VARS}
-use Rattle.ff_machine.specs.Faults.{limit_unless}
 use Rattle.ff_machine.specs.Windows.{Activation, Vars, act_at, vars_of, no_act, set_var, may_declare, declare_fault, count_vars, holder_within, holder, assigned, assign_fault}
 use Rattle.ff_machine.specs.Stores.{Stores}
 use Rattle.ff_machine.specs.Reduction.{with_acts}
@@ -24,7 +23,8 @@ use Rattle.ff_laws.specs.Keeps.{Keeps}
 use Rattle.ff_laws.proofs.Growing as growing
 use Rattle.ff_machine.proofs.Lists.{at_set}
 use Rattle.ff_machine.proofs.ActChanges as changes
-use Rattle.ff_machine.proofs.ActChanges.{within, var_set}
+use Rattle.ff_machine.proofs.Changes.{within}
+use Rattle.ff_machine.proofs.ActChanges.{var_set}
 use Rattle.ff_machine.proofs.WindowChanges.{acts_set}
 
 -- what a change of activations has to keep: at least as many, each valid, and each referring to

@@ -17,15 +17,11 @@ use Rattle.ff_machine.specs.declared.limits.TheConstants.{MOST_ACTS, MOST_VARS}
 use Rattle.ff_machine.specs.Faults.{limit_unless}
 use Rattle.ff_machine.specs.Windows.{Activation, Vars, act_at, vars_of, no_act, set_var, may_declare, declare_fault, count_vars, holder_within, holder, assigned, with_act, call_fault}
 use Rattle.ff_machine.specs.Alone.{IsAct, AreActs}
+use Rattle.ff_machine.proofs.Changes.{within}
 use Rattle.ff_machine.proofs.Lists.{at_set, at_pushed}
 
 none_some : {A : Type 0} {x : A} → None ≡ Some x → ⊥
 none_some e = cc
-
--- a limit that isn't reached
-pub within : (b : Bool) → limit_unless b ≡ None → b ≡ true
-within true e = refl
-within false e = cc
 
 -- Variables.
 

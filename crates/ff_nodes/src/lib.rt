@@ -1,0 +1,23 @@
+//! Node trees by number.
+//!
+//! [`Nodes`] is seen as the list of the nodes by their numbers. What makes such a store valid
+//! (children and parents agree, a node stands once, no chain of parents is too long, each kind has
+//! the parts that are its own) is the type's own invariant. The nodes are held as cells of a list
+//! that forks share until one of them writes. Each cell has marks beside its node: which names and
+//! kinds may stand at and below it, by which a search passes over a tree where it would find
+//! nothing. No clause of a public call speaks of marks.
+#![tactic(auto)]
+
+mod cell;
+mod change;
+mod climb;
+mod listed;
+mod marks;
+mod node;
+mod nodes;
+mod read;
+mod search;
+#[cfg(test)]
+mod tests;
+
+pub use nodes::Nodes;
