@@ -9,9 +9,13 @@
 #![tactic(auto)]
 
 mod cell;
+mod laying;
+mod making;
 mod marks;
 mod node;
 mod nodes;
+mod raising;
+mod room;
 #[cfg(test)]
 mod tests;
 
