@@ -22,7 +22,8 @@ use Rattle.ff_machine.specs.References.{Made, Grows, made, ValRefers, ActRefers}
 use Rattle.ff_machine.specs.Valid.{IsVal, IsStores}
 use Rattle.ff_laws.specs.Keeps.{Keeps}
 use Rattle.ff_laws.proofs.Growing as growing
-use Rattle.ff_laws.proofs.Lists.{at_set}
+use Rattle.ff_machine.proofs.Changes.{within}
+use Rattle.ff_machine.proofs.Lists.{at_set}
 
 -- what a change of activations has to keep: at least as many, each valid, and each referring to
 -- what was made
@@ -62,11 +63,6 @@ acts_changed s acts valid kept =
     }
 
 -- Variables.
-
--- a limit that isn't reached
-pub within : (b : Bool) → limit_unless b ≡ None → b ≡ true
-within true e = refl
-within false e = cc
 
 -- two names that the order doesn't tell apart are equal
 pub same_name : (x y : List ℕ) → eq_by_cmp (slice_cmp nat_cmp) x y ≡ true → x ≡ y

@@ -20,7 +20,8 @@ use Rattle.ff_machine.specs.Valid.{IsVal, IsStores}
 use Rattle.ff_laws.specs.Keeps.{Keeps}
 use Rattle.ff_laws.proofs.Growing as growing
 use Rattle.ff_laws.proofs.Lists.{at_pushed}
-use Rattle.ff_laws.proofs.Acts.{AreKept, acts_changed, within, var_set}
+use Rattle.ff_machine.proofs.Changes.{within}
+use Rattle.ff_laws.proofs.Acts.{AreKept, acts_changed, var_set}
 
 -- the variables of a call: each parameter with its argument
 abbrev passed : List (List ℕ) → List Val → Vars

@@ -25,7 +25,8 @@ use Rattle.ff_machine.specs.References.{made}
 use Rattle.ff_machine.specs.Valid.{IsStores}
 use Rattle.ff_laws.specs.Keeps.{Keeps}
 use Rattle.ff_laws.proofs.Growing.{as_many}
-use Rattle.ff_laws.proofs.Acts.{within, same_name}
+use Rattle.ff_machine.proofs.Changes.{within}
+use Rattle.ff_laws.proofs.Acts.{same_name}
 use Rattle.ff_laws.proofs.Sums.{if_so, count_put, count_where}
 use Rattle.ff_laws.proofs.Removing.{others, entries-removed}
 

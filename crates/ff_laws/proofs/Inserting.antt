@@ -14,7 +14,7 @@ use Rattle.ff_machine.specs.References.{Grows, made, NodeRefers}
 use Rattle.ff_machine.specs.Valid.{IsStores}
 use Rattle.ff_laws.specs.Keeps.{Keeps}
 use Rattle.ff_laws.proofs.Growing as growing
-use Rattle.ff_laws.proofs.Lists.{at_set}
+use Rattle.ff_machine.proofs.Lists.{at_set}
 use Rattle.ff_laws.proofs.Sums.{if_so}
 use Rattle.ff_laws.proofs.Simple.{touched_changed, touched_at_refers, root_page_lives}
 use Rattle.ff_laws.proofs.NodeChanges.{rooted_same}

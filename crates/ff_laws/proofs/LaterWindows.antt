@@ -8,7 +8,8 @@ use Rattle.ff_value.specs.declared.ids.PageId.{PageId}
 use Rattle.ff_value.specs.declared.ids.NodeId.{NodeId}
 use Rattle.ff_machine.specs.Windows.{Windows, Window, Page, Activation, no_window, no_page, no_act, window_at, page_at, next_win, next_act, is_win, new_page, with_page, with_window, page_shown, closed, set_page, with_acts}
 use Rattle.ff_laws.specs.Later.{IsSamePage, AreLaterWindows}
-use Rattle.ff_laws.proofs.Lists.{at_set, at_pushed, any_less, any_pushed, any_filtered}
+use Rattle.ff_machine.proofs.Lists.{at_set}
+use Rattle.ff_laws.proofs.Lists.{at_pushed, any_less, any_pushed, any_filtered}
 
 -- a page is the page that it was
 pub same_page : (page : Page) → IsSamePage page page

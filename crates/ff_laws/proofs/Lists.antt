@@ -3,14 +3,6 @@ use Rattle.std.proofs.Common.{◌≡◌, ℕ, zero, suc, Bool, true, false, cond
 use Rattle.std.proofs.lemmas.Bool.{or_parts, or_from}
 use Rattle.std.specs.List.{list_any}
 
--- the item at a number after another item was set at any number
-pub at_set : {X : Type 0} (P : ℕ → X → Type 0) (xs : List X) (i j : ℕ) (y d : X) → P i y → P j (get_or xs j d) → P j (get_or (set xs i y) j d)
-at_set P [] i j y d new old = old
-at_set P (x ∷ xs) zero zero y d new old = new
-at_set P (x ∷ xs) zero (suc j) y d new old = old
-at_set P (x ∷ xs) (suc i) zero y d new old = old
-at_set P (x ∷ xs) (suc i) (suc j) y d new old = at_set (λ k. P (suc k)) xs i j y d new old
-
 -- the item at a number after one was put last
 pub at_pushed : {X : Type 0} (P : ℕ → X → Type 0) (xs : List X) (j : ℕ) (y d : X) → P (length xs) y → P j (get_or xs j d) → P j (get_or (xs ++ y ∷ []) j d)
 at_pushed P [] zero y d new old = new

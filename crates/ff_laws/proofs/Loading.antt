@@ -28,7 +28,7 @@ use Rattle.ff_machine.specs.Alone.{IsWindow, AreOpen}
 use Rattle.ff_machine.specs.Valid.{IsStores}
 use Rattle.ff_laws.specs.Keeps.{Keeps, KeepsIfMade}
 use Rattle.ff_laws.proofs.Growing.{window_grows}
-use Rattle.ff_laws.proofs.Lists.{at_set}
+use Rattle.ff_machine.proofs.Lists.{at_set}
 use Rattle.ff_laws.proofs.Asking.{sent_valid}
 use Rattle.ff_laws.proofs.Starting.{kept, kept_twice, start_valid}
 use Rattle.ff_laws.proofs.Paging.{page_made, old_page, next_is}

@@ -28,7 +28,7 @@ use Rattle.ff_machine.specs.Valid.{IsStores, count_started}
 use Rattle.ff_laws.specs.Keeps.{Keeps}
 use Rattle.ff_laws.specs.Reduced.{KeepsUnlessFault}
 use Rattle.ff_laws.proofs.Growing as growing
-use Rattle.ff_laws.proofs.Acts.{within}
+use Rattle.ff_machine.proofs.Changes.{within}
 use Rattle.ff_laws.proofs.Sums.{if_so}
 use Rattle.ff_laws.proofs.Simple.{weighed_valid}
 use Rattle.ff_machine.proofs.LaidDocs.{IsGood, doc_laid, doc_good}

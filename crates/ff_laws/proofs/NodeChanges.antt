@@ -1,4 +1,4 @@
--- A node whose links stay may be another: texts, handlers and started scripts keep stores valid.
+-- A node whose links stay may be another: texts and started scripts keep stores valid.
 use Rattle.std.proofs.Common.{◌≡◌, ℕ, zero, suc, ◌<◌, ◌≤◌, Bool, true, false, eqb, Option, Some, None, IsSome, List, length, get_or, count_by, All, refl, sym, ap, subst, ◌∙◌, arith, length-set}
 use Rattle.std.proofs.lemmas.List.Elements.{All-weaker, All-set}
 use Rattle.std.proofs.lemmas.List.Sums.{sum_by-set}
@@ -14,76 +14,45 @@ use Rattle.ff_machine.specs.Nodes.{Node, no_node, node_at, children, parent, dep
 use Rattle.ff_machine.specs.Windows.{Page, nth_page}
 use Rattle.ff_machine.specs.Stores.{Stores}
 use Rattle.ff_machine.specs.Alone.{IsShape, IsNode, AreTrees}
+use Rattle.ff_machine.proofs.Changes.{IsAlike, alike_itself, with_text_alike, as_started_alike, node_set, text_node, started_node}
+use Rattle.ff_machine.proofs.Lists.{at_set}
 use Rattle.ff_machine.specs.References.{Made, Grows, made, ShapeRefers, NodeRefers}
 use Rattle.ff_machine.specs.Valid.{IsStores, AreRooted}
 use Rattle.ff_laws.specs.Keeps.{Keeps}
 use Rattle.ff_laws.proofs.Growing as growing
-use Rattle.ff_laws.proofs.Lists.{at_set}
 use Rattle.ff_laws.proofs.Sums.{if_so}
-
--- Nodes with the same links.
-
--- the nodes have the same children and parents as others
-pub record SameLinks (all new : List Node) : Type 0 where
-  pub size : length new ≡ length all
-  pub same_children : (n : NodeId) → children new n ≡ children all n
-  pub same_parent : (n : NodeId) → parent new n ≡ parent all n
-
-at_same : {X : Type 0} (f g : NodeId → X) (here : X) (o : Option NodeId) → ((p : NodeId) → f p ≡ g p) → at_parent here f o ≡ at_parent here g o
-at_same f g here None below = refl
-at_same f g here (Some p) below = below p
-
-depth_same : (k : ℕ) (all new : List Node) → SameLinks all new → (n : NodeId) → depth_within k new n ≡ depth_within k all n
-depth_same zero all new same n = refl
-depth_same (suc k) all new same n =
-    ap (at_parent 0 (λ p. suc (depth_within k new p))) (same.same_parent n)
-    ∙ at_same (λ p. suc (depth_within k new p)) (λ p. suc (depth_within k all p)) 0 (parent all n) (λ p. ap suc (depth_same k all new same p))
-
--- and stand in valid trees, if those do
-pub same_trees : (all new : List Node) → SameLinks all new → AreTrees all → AreTrees new
-unfolding depth
-same_trees all new same trees = record {
-  below = λ n. subst (All (λ c. c.0 < length new)) (sym (same.same_children n)) (All-weaker (λ c. c.0 < length all) (λ c. c.0 < length new) (λ c h. omega (arith, h, same.size)) (children all n) (trees.below n));
-  agree = λ n. subst (All (λ c. parent new c ≡ Some n)) (sym (same.same_children n)) (All-weaker (λ c. parent all c ≡ Some n) (λ c. parent new c ≡ Some n) (λ c h. same.same_parent c ∙ h) (children all n) (trees.agree n));
-  once = λ n p e. ap (count_by (λ c. eqb c.0 n.0)) (same.same_children p) ∙ trees.once n p (sym (same.same_parent n) ∙ e);
-  ends = λ n. subst (λ (d : ℕ). d ≤ MOST_TREE_DEPTH) (sym (depth_same (suc MOST_TREE_DEPTH) all new same n)) (trees.ends n);
-}
-
--- a node is replaced by one with the same links
-pub links_set : (all : List Node) (n : NodeId) (node : Node) → node.children ≡ children all n → node.parent ≡ parent all n → SameLinks all (set_node all n node)
-links_set all n node kids up = record {
-  size = length-set all n.0 node;
-  same_children = λ m. at_set (λ i x. x.children ≡ (get_or all i no_node).children) all n.0 m.0 node no_node kids refl;
-  same_parent = λ m. at_set (λ i x. x.parent ≡ (get_or all i no_node).parent) all n.0 m.0 node no_node up refl;
-}
 
 -- Shapes alike.
 
--- the shapes are of the same kind, roots of the same page, and what was started still is
+-- the shapes are alike, and what was started still is
 pub record IsLike (old new : Shape) : Type 0 where
-  pub handlers : may_have_handlers new ≡ may_have_handlers old
-  pub children : may_have_children new ≡ may_have_children old
-  pub page : page_of new ≡ page_of old
+  pub alike : IsAlike old new
   pub started : if_so (is_started old) ≤ if_so (is_started new)
 
 -- a shape is like itself
 pub like_itself : (s : Shape) → IsLike s s
-like_itself s = record { handlers = refl; children = refl; page = refl; started = omega arith }
+like_itself s = record { alike = alike_itself s; started = omega arith }
+
+with_text_same : (s : Shape) (text : List ℕ) → is_started (with_text s text) ≡ is_started s
+with_text_same (shape.Page page) text = refl
+with_text_same other text = refl
 
 -- a shape with another text is like it
 pub with_text_like : (s : Shape) (text : List ℕ) → IsLike s (with_text s text)
-with_text_like (shape.Page page) text = like_itself (shape.Page page)
-with_text_like other text = record { handlers = refl; children = refl; page = refl; started = omega arith }
+with_text_like s text = record { alike = with_text_alike s text; started = let same = ap if_so (with_text_same s text) in omega (arith, same) }
 
 at_most_one : (b : Bool) → if_so b ≤ 1
 at_most_one true = omega arith
 at_most_one false = omega arith
 
+started_more : (s : Shape) → if_so (is_started s) ≤ if_so (is_started (as_started s))
+started_more (shape.Script x started body) = at_most_one started
+started_more (shape.Src x started url) = at_most_one started
+started_more other = omega arith
+
 -- so is one that was started
 pub as_started_like : (s : Shape) → IsLike s (as_started s)
-as_started_like (shape.Script x started body) = record { handlers = refl; children = refl; page = refl; started = at_most_one started }
-as_started_like (shape.Src x started url) = record { handlers = refl; children = refl; page = refl; started = at_most_one started }
-as_started_like other = record { handlers = refl; children = refl; page = refl; started = omega arith }
+as_started_like s = record { alike = as_started_alike s; started = started_more s }
 
 -- Stores with another node.
 
@@ -111,11 +80,7 @@ node_changed s n node valid lives kids up like is refers =
     let count = sum_by-set (λ (x : Node). if_so (is_started x.shape)) all n.0 node no_node lives in
     record {
       stores = record {
-        nodes = record {
-          each = All-set IsNode all n.0 node is valid.nodes.each;
-          trees = same_trees all (set_node all n node) (links_set all n node kids up) valid.nodes.trees;
-          few = omega (arith, size, valid.nodes.few);
-        };
+        nodes = node_set all n node valid.nodes kids up is;
         windows = valid.windows;
         jar = valid.jar;
         requests = valid.requests;
@@ -126,40 +91,16 @@ node_changed s n node valid lives kids up like is refers =
           requests = refer.requests;
           touched = refer.touched;
         };
-        rooted = rooted_same all (set_node all n node) s.windows.pages (λ m. at_set (λ i x. page_of x.shape ≡ page_of (get_or all i no_node).shape) all n.0 m.0 node no_node like.page refl) valid.rooted;
+        rooted = rooted_same all (set_node all n node) s.windows.pages (λ m. at_set (λ i x. page_of x.shape ≡ page_of (get_or all i no_node).shape) all n.0 m.0 node no_node like.alike.page refl) valid.rooted;
         queued = record { entries = omega (arith, count, like.started, valid.queued.entries); slots = omega (arith, count, like.started, valid.queued.slots) };
         light = valid.light;
       };
       grows = grows;
     }
 
--- a node of another shape that is like the old one
-reshaped : (node : Node) (s : Shape) → IsNode node → IsLike node.shape s → IsShape s → IsNode (record node { shape = s })
-reshaped node s is like spelled = record {
-  shape = spelled;
-  handlers = is.handlers;
-  form = record {
-    few_handlers = is.form.few_handlers;
-    no_handlers = λ e. is.form.no_handlers (sym like.handlers ∙ e);
-    no_children = λ e. is.form.no_children (sym like.children ∙ e);
-    no_parent = λ h. is.form.no_parent (subst (λ (o : Option PageId). IsSome o) like.page h);
-  };
-}
-
-with_text_spelled : (s : Shape) (text : List ℕ) → IsShape s → IsUtf8 text → IsShape (with_text s text)
-with_text_spelled (shape.Text x old) text h is = (h.0, is)
-with_text_spelled (shape.Link x url old) text h is = (h.0, h.1, is)
-with_text_spelled (shape.TextBox x old) text h is = (h.0, is)
-with_text_spelled (shape.Button x old) text h is = (h.0, is)
-with_text_spelled other text h is = h
-
 with_text_refers : (m : Made) (s : Shape) (text : List ℕ) → ShapeRefers m s → ShapeRefers m (with_text s text)
 with_text_refers m (shape.Page page) text h = h
 with_text_refers m other text h = tt
-
-as_started_spelled : (s : Shape) → IsShape s → IsShape (as_started s)
-as_started_spelled (shape.Page page) h = h
-as_started_spelled other h = h
 
 as_started_refers : (m : Made) (s : Shape) → ShapeRefers m s → ShapeRefers m (as_started s)
 as_started_refers m (shape.Page page) h = h
@@ -173,7 +114,7 @@ started_valid s n valid lives =
     let refers : NodeRefers (made s) node = valid.refer.nodes n.0 no_node lives in
     let like = as_started_like node.shape in
     node_changed s n (record node { shape = as_started node.shape }) valid lives refl refl like
-    (reshaped node (as_started node.shape) is like (as_started_spelled node.shape is.shape))
+    (started_node node is)
     (record { shape = as_started_refers (made s) node.shape refers.shape; handlers = refers.handlers })
 
 -- a node with another text keeps stores valid
@@ -184,5 +125,5 @@ text_set_valid s n text valid lives is_text =
     let refers : NodeRefers (made s) node = valid.refer.nodes n.0 no_node lives in
     let like = with_text_like node.shape text in
     node_changed s n (record node { shape = with_text node.shape text }) valid lives refl refl like
-    (reshaped node (with_text node.shape text) is like (with_text_spelled node.shape text is.shape is_text))
+    (text_node node text is is_text)
     (record { shape = with_text_refers (made s) node.shape text refers.shape; handlers = refers.handlers })

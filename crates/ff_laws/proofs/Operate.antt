@@ -43,7 +43,8 @@ use Rattle.ff_laws.proofs.Loading.{if_room, opened_valid, go_valid}
 use Rattle.ff_laws.proofs.Operating.{value_given, unless_fault, or_limit, one_outcome, with_open, with_url, applied, on_none, on_str, on_strs, on_win, on_win_str, on_node, on_node_str, on_node_num, on_node_str_num, on_nodes_num, on_node_code, on_strs_code}
 use Rattle.ff_laws.proofs.Slots.{closed_valid}
 use Rattle.ff_laws.proofs.Starting.{kept, kept_twice}
-use Rattle.ff_laws.proofs.Texts.{takes_one, text_may, with_text_valid, handler_added_valid}
+use Rattle.ff_machine.proofs.Changes.{takes_one}
+use Rattle.ff_laws.proofs.Texts.{text_may, with_text_valid, handler_added_valid}
 use Rattle.ff_laws.proofs.Readings.{url_domain, shape_text, found_item, walked_below, item_below, or_null_valid, cookie_of}
 use Rattle.ff_laws.proofs.LaterOperators.{made as made_weighs, apply as apply_weighs}
 use Rattle.ff_machine.proofs.Pure.{made_valid, apply_valid}

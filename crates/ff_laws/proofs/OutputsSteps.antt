@@ -39,7 +39,7 @@ use Rattle.ff_machine.specs.Valid.{IsStores}
 use Rattle.ff_machine.proofs.MadeTrees.{page_made as page_nodes}
 use Rattle.ff_laws.specs.Puts.{IsOut, AreOuts}
 use Rattle.ff_laws.proofs.Inputs.{shape_url, no_url}
-use Rattle.ff_laws.proofs.Lists.{at_set}
+use Rattle.ff_machine.proofs.Lists.{at_set}
 use Rattle.ff_laws.proofs.Paging.{all_spelled, all_shallow}
 use Rattle.ff_laws.proofs.Simple.{at_any}
 use Rattle.ff_laws.proofs.OutputsRead.{pairs_spelled, pairs_ordered, shown_spelled, place_fits}

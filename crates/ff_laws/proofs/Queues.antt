@@ -28,7 +28,7 @@ use Rattle.ff_machine.specs.Valid.{IsStores, count_started}
 use Rattle.ff_laws.specs.Keeps.{Keeps}
 use Rattle.ff_laws.specs.Later.{IsSamePage}
 use Rattle.ff_laws.proofs.Growing as growing
-use Rattle.ff_laws.proofs.Lists.{at_set}
+use Rattle.ff_machine.proofs.Lists.{at_set}
 
 -- what a changed page has to keep
 pub record IsQueued (s : Stores) (p : PageId) (page : Page) : Type 0 where

@@ -36,7 +36,7 @@ use Rattle.ff_machine.specs.References.{made}
 use Rattle.ff_machine.specs.Valid.{IsStores, count_started}
 use Rattle.ff_laws.specs.Keeps.{Keeps}
 use Rattle.ff_laws.proofs.Growing.{as_many, grown}
-use Rattle.ff_laws.proofs.Lists.{at_set}
+use Rattle.ff_machine.proofs.Lists.{at_set}
 use Rattle.ff_laws.proofs.Sums.{if_so}
 use Rattle.ff_laws.proofs.Asking.{sent_valid}
 use Rattle.ff_laws.proofs.NodeChanges.{started_valid}

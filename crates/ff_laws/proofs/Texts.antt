@@ -16,10 +16,10 @@ use Rattle.ff_machine.specs.Nodes.{Node, no_node, node_at, handler_fault}
 use Rattle.ff_machine.specs.Stores as stores
 use Rattle.ff_machine.specs.Stores.{Stores, may_weigh}
 use Rattle.ff_machine.specs.Alone.{IsHandler, IsNode}
+use Rattle.ff_machine.proofs.Changes.{within, handler_node}
 use Rattle.ff_machine.specs.References.{made, CodeRefers, NodeRefers}
 use Rattle.ff_machine.specs.Valid.{IsCode, IsStores}
 use Rattle.ff_laws.specs.Keeps.{Keeps}
-use Rattle.ff_laws.proofs.Acts.{within}
 use Rattle.ff_laws.proofs.Simple.{weighed_valid, touched_changed, touched_at_refers}
 use Rattle.ff_laws.proofs.NodeChanges.{like_itself, node_changed, text_set_valid}
 
@@ -46,17 +46,6 @@ text_may s n text e = within _ (no_first (nodes.text_fault s.nodes n) (limit_unl
 
 -- Handlers.
 
--- a function of one parameter takes one
-pub takes_one : (code : Code) (xs : List (List ℕ)) → code.params ≡ xs → length xs ≡ 1 → TakesOne code
-takes_one code [] e h = absurd (omega (arith, h))
-takes_one code (x ∷ []) e h = record { param = x; params = e }
-takes_one code (x ∷ y ∷ xs) e h = absurd (omega (arith, h))
-
-fits_kind : (a b : Bool) (o : Option Fault) → cond (not a) (Some fault.Kind) (cond (not b) (Some fault.Kind) o) ≡ None → (a ≡ true) × (b ≡ true) × (o ≡ None)
-fits_kind true true o e = (refl, refl, e)
-fits_kind true false o e = cc
-fits_kind false b o e = cc
-
 -- a node that gets a handler without a fault keeps stores valid
 pub handler_added_valid : (s : Stores) (n : NodeId) (code : Code) → IsStores s → n.0 < length s.nodes → IsCode (made s) code → handler_fault s.nodes n code ≡ None
     → Keeps s (record s { nodes = nodes.handler_added s.nodes n code })
@@ -64,17 +53,6 @@ handler_added_valid s n code valid lives is no_fault =
     let old = node_at s.nodes n in
     let is_node : IsNode old = valid.nodes.each n.0 no_node lives in
     let refers : NodeRefers (made s) old = valid.refer.nodes n.0 no_node lives in
-    let fits = fits_kind (may_have_handlers old.shape) (length code.params == 1) _ no_fault in
-    let few : length old.handlers < MOST_HANDLERS = ltb-true (length old.handlers) MOST_HANDLERS (within _ fits.2) in
     node_changed s n (record old { handlers = old.handlers ++ code ∷ [] }) valid lives refl refl (like_itself old.shape)
-    (record {
-      shape = is_node.shape;
-      handlers = All-push IsHandler old.handlers code is_node.handlers (record { spelled = is.0; takes_one = takes_one code code.params refl (eqb-true (length code.params) 1 fits.1) });
-      form = record {
-        few_handlers = omega (arith, few, length-append old.handlers (code ∷ []));
-        no_handlers = λ e. absurd (true≢false (sym fits.0 ∙ e));
-        no_children = is_node.form.no_children;
-        no_parent = is_node.form.no_parent;
-      };
-    })
+    (handler_node s.nodes n code is_node is.0 no_fault)
     (record { shape = refers.shape; handlers = All-push (CodeRefers (made s)) old.handlers code refers.handlers is.1 })

@@ -1,11 +1,12 @@
 -- Depths, roots and walks of trees, by a node's parent.
-use Rattle.std.proofs.Common.{◌≡◌, ℕ, zero, suc, ◌-◌, ◌≤◌, ◌⊎◌, inl, inr, ◌==◌, Bool, true, false, cond, Option, Some, None, List, [], ◌∷◌, ◌++◌, map, flat_map, arith, refl, sym, subst, ap, ◌∙◌}
+use Rattle.std.proofs.Common.{◌≡◌, ℕ, zero, suc, ◌-◌, ◌<◌, ◌≤◌, ◌⊎◌, inl, inr, ◌==◌, nat_lt, Bool, true, false, cond, Option, Some, None, List, [], ◌∷◌, ◌++◌, map, flat_map, length, arith, refl, sym, subst, ap, ◌∙◌}
 use Rattle.std.proofs.lemmas.Bool.Decides.{nat_tests}
+use Rattle.std.proofs.lemmas.List.{get_or_past}
 use Rattle.std.proofs.lemmas.List.Sums.{sum_by-cons}
 use Rattle.ff_tree.specs.Spelled.{most}
 use Rattle.ff_value.specs.declared.ids.NodeId.{NodeId}
 use Rattle.ff_machine.specs.declared.limits.TheConstants.{MOST_TREE_DEPTH}
-use Rattle.ff_machine.specs.Nodes.{Node, Walk, walk_within, children, parent, at_parent, depth, depth_within, root, root_within, height}
+use Rattle.ff_machine.specs.Nodes.{Node, no_node, Walk, walk_within, children, parent, at_parent, depth, depth_within, root, root_within, height}
 use Rattle.ff_machine.specs.Alone.{AreTrees}
 use Rattle.ff_machine.proofs.Numbers.{more, more_is}
 use Rattle.ff_machine.proofs.Parts.{times}
@@ -86,6 +87,16 @@ module _ (nodes : List Node) where
     by (Some q) g rest = rest q (omega (arith, g))
 
   module _ (trees : AreTrees nodes) where
+    -- a parent was made
+    pub parent_made : (n p : NodeId) → parent nodes n ≡ Some p → p.0 < length nodes
+    parent_made n p e = by (nat_lt p.0 (length nodes)) refl where
+      by : (b : Bool) → nat_lt p.0 (length nodes) ≡ b → p.0 < length nodes
+      by true t = grind (arith, nat_tests, t)
+      by false t =
+          let none : children nodes p ≡ [] = ap (λ (m : Node). m.children) (get_or_past nodes p.0 no_node (grind (arith, nat_tests, t))) in
+          let zero_times : 0 ≡ 1 = ap (times n) (sym none) ∙ trees.once n p e in
+          absurd (omega (arith, zero_times))
+
     -- below its parent a node stands one deeper
     pub depth_up : (n q : NodeId) → parent nodes n ≡ Some q → depth nodes n ≡ suc (depth nodes q)
     unfolding depth

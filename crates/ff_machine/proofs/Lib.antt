@@ -20,6 +20,7 @@ pub mod MoreTrees
 pub mod LaidDocs
 pub mod MadeTrees
 pub mod Depths
+pub mod Changes
 pub mod Joining
 pub mod Empty
 pub mod Stays

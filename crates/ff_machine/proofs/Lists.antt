@@ -1,5 +1,5 @@
--- What holds of each element of a list holds of those that are read off it.
-use Rattle.std.proofs.Common.{◌≡◌, ℕ, zero, suc, ℤ, pos, ◌||◌, Bool, true, false, cond, Some, None, List, [], ◌∷◌, find, filter, slice_get, nat_abs, int_lt, refl, sym, subst, ap, ◌∙◌}
+-- What holds of each element of a list holds of those that are read off it, also where one was set.
+use Rattle.std.proofs.Common.{◌≡◌, ℕ, zero, suc, ℤ, pos, ◌||◌, Bool, true, false, cond, Some, None, List, [], ◌∷◌, find, filter, get_or, set, slice_get, nat_abs, int_lt, refl, sym, subst, ap, ◌∙◌}
 use Rattle.std.specs.List.{AllByRecursion, list_any}
 use Rattle.std.specs.Option.{ForSome}
 use Rattle.ff_machine.specs.Operators.{item_at}
@@ -40,3 +40,11 @@ item_holds P xs k h = by (int_lt k (pos 0)) where
   by : (b : Bool) → ForSome (cond b None (slice_get xs (nat_abs k))) P
   by true x e = cc
   by false x e = nth_holds P xs (nat_abs k) h x e
+
+-- the item at a number after another item was set at any number
+pub at_set : {X : Type 0} (P : ℕ → X → Type 0) (xs : List X) (i j : ℕ) (y d : X) → P i y → P j (get_or xs j d) → P j (get_or (set xs i y) j d)
+at_set P [] i j y d new old = old
+at_set P (x ∷ xs) zero zero y d new old = new
+at_set P (x ∷ xs) zero (suc j) y d new old = old
+at_set P (x ∷ xs) (suc i) zero y d new old = old
+at_set P (x ∷ xs) (suc i) (suc j) y d new old = at_set (λ k. P (suc k)) xs i j y d new old

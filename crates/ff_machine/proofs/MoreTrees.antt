@@ -9,6 +9,7 @@ use Rattle.ff_machine.specs.declared.limits.TheConstants.{MOST_TREE_DEPTH}
 use Rattle.ff_machine.specs.Nodes.{Node, node_at, no_node, children, parent, at_parent, depth, depth_within}
 use Rattle.ff_machine.specs.Documents.{Laid, with_tree}
 use Rattle.ff_machine.specs.Alone.{AreTrees}
+use Rattle.ff_machine.proofs.Depths.{parent_made}
 use Rattle.ff_machine.proofs.Numbers.{node}
 use Rattle.ff_machine.proofs.Parts.{IsIn, IsPart, IsTop, IsChild, IsLaid, times}
 
@@ -42,23 +43,13 @@ module _ (nodes : List Node) (trees : AreTrees nodes) (d : Laid) (h : ℕ) (is :
     by true e = old n (grind (arith, nat_tests, e))
     by false e = later (grind (arith, nat_tests, e)) (nat_lt n.0 (length nodes + d.size)) refl
 
-  -- the parent of an old node is an old one
-  parent_old : (n p : NodeId) → parent nodes n ≡ Some p → p.0 < length nodes
-  parent_old n p e = by (nat_lt p.0 (length nodes)) refl where
-    by : (b : Bool) → nat_lt p.0 (length nodes) ≡ b → p.0 < length nodes
-    by true t = grind (arith, nat_tests, t)
-    by false t =
-        let none : children nodes p ≡ [] = ap (λ (m : Node). m.children) (past_node nodes p (grind (arith, nat_tests, t))) in
-        let zero_times : 0 ≡ 1 = ap (times n) (sym none) ∙ trees.once n p e in
-        absurd (omega (arith, zero_times))
-
   depth_old : (f : ℕ) (n : NodeId) → n.0 < length nodes → depth_within f all n ≡ depth_within f nodes n
   depth_old zero n less = refl
   depth_old (suc f) n less = ap (at_parent 0 (λ p. suc (depth_within f all p))) (ap (λ (m : Node). m.parent) (old_node n less)) ∙ by (parent nodes n) refl (depth_old f) where
     by : (o : Option NodeId) → parent nodes n ≡ o → ((p : NodeId) → p.0 < length nodes → depth_within f all p ≡ depth_within f nodes p)
         → at_parent 0 (λ p. suc (depth_within f all p)) o ≡ at_parent 0 (λ p. suc (depth_within f nodes p)) o
     by None e rest = refl
-    by (Some p) e rest = ap (λ k. suc k) (rest p (parent_old n p e))
+    by (Some p) e rest = ap (λ k. suc k) (rest p (parent_made nodes trees n p e))
 
   below : (n : NodeId) → All (λ c. c.0 < length all) (children all n)
   below = by_age (λ n. All (λ c. c.0 < length all) (children all n))
@@ -79,7 +70,7 @@ module _ (nodes : List Node) (trees : AreTrees nodes) (d : Laid) (h : ℕ) (is :
   old_once : (n p : NodeId) → n.0 < length nodes → parent all n ≡ Some p → times n (children all p) ≡ 1
   old_once n p less e =
       let before : parent nodes n ≡ Some p = sym (ap (λ (m : Node). m.parent) (old_node n less)) ∙ e in
-      ap (times n) (ap (λ (m : Node). m.children) (old_node p (parent_old n p before))) ∙ trees.once n p before
+      ap (times n) (ap (λ (m : Node). m.children) (old_node p (parent_made nodes trees n p before))) ∙ trees.once n p before
 
   once : (n p : NodeId) → parent all n ≡ Some p → times n (children all p) ≡ 1
   once n p = by_age (λ n. parent all n ≡ Some p → times n (children all p) ≡ 1)

@@ -1,6 +1,10 @@
 pub mod Marking
+pub mod Below
+pub mod KindWords
+pub mod Lacking
 pub mod LaidUp
 pub mod MadeCells
 pub mod NewCells
 pub mod RaisedCells
 pub mod Rooms
+pub mod Searching

@@ -1,7 +1,7 @@
 -- Marks: what is within what.
-use Rattle.std.proofs.Common.{◌≡◌, ◌<◌, ◌≤◌, ℕ, Some, List, arith, sym, ◌∙◌}
+use Rattle.std.proofs.Common.{◌≡◌, ◌≤◌, ℕ, Some, List, bit_or, arith}
 use Rattle.std.specs.Int.{bit_at}
-use Rattle.std.proofs.lemmas.Nat.Bits.{bit_at-lt}
+use Rattle.std.proofs.lemmas.Nat.Bits.{bit_at-lt, bit_at_or}
 use Rattle.ff_machine.specs.Nodes.{Node}
 use Rattle.ff_machine.specs.Shapes.{kind_of, name_of}
 use Rattle.ff_nodes.specs.declared.marks.Marks.{Marks}
@@ -27,3 +27,10 @@ own_within node a b own within = record {
   name = λ x is. set_within a.names b.names (name_bit x) (own.name x is) (within.names (name_bit x));
   kind = set_within a.kinds b.kinds (kind_bit (kind_of node.shape)) own.kind (within.kinds (kind_bit (kind_of node.shape)));
 }
+
+-- marks put together hold both
+pub within_first : (a b : ℕ) → IsWithin a (bit_or a b)
+within_first a b i = let both = bit_at_or a b i in grind (arith, both)
+
+pub within_second : (a b : ℕ) → IsWithin b (bit_or a b)
+within_second a b i = let both = bit_at_or a b i in grind (arith, both)

@@ -9,13 +9,18 @@
 #![tactic(auto)]
 
 mod cell;
+mod change;
+mod climb;
 mod laying;
+mod listed;
 mod making;
 mod marks;
 mod node;
 mod nodes;
 mod raising;
+mod read;
 mod room;
+mod search;
 #[cfg(test)]
 mod tests;
 

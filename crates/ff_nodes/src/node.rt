@@ -1,10 +1,13 @@
 //! One node of a tree.
-ghost use Rattle.std.specs.Prelude.{◌≡◌, IfOk};
+ghost use Rattle.std.specs.Prelude.{◌≡◌, ◌++◌, ◌∷◌, [], IfOk};
+ghost use Rattle.std.specs.Str.{IsUtf8, bytes_eq};
 ghost use Rattle.std.specs.Option.{option_copied};
+ghost use Rattle.ff_machine.specs.Nodes.{is_name};
 ghost use Rattle.ff_machine.specs.Shapes as shapes;
 
 use ff_machine::{Kind, Shape};
-use ff_value::{Body, Codes, Ids, NoMemory, NodeId, PageId, Text, Url};
+use ff_value::{Body, Code, Codes, Ids, NoMemory, NodeId, PageId, Text, Url};
+use std::alloc::Global;
 use std::marker::Model;
 
 /// A node: what it is, its handlers in order, its children in order, and the node that it is a
@@ -213,5 +216,76 @@ impl Node {
             Shape::Src(_, _, _) => false,
             Shape::Div(_) => false,
         }
+    }
+
+    pub(crate) fn is_named(&self, name: &[u8]) -> bool
+        ensures { result ≡ is_name name.now (shapes.name_of self.now.shape) }
+    {
+        match self.name() {
+            Some(own) => own == name,
+            None => false,
+        }
+    }
+
+    pub(crate) fn is_of_kind(&self, kind: Kind) -> bool
+        ensures { result ≡ bytes_eq (shapes.kind_word (shapes.kind_of self.now.shape)) (shapes.kind_word kind) }
+    {
+        self.kind() == kind
+    }
+
+    /// The node with another text or label, where its kind has one.
+    pub(crate) fn with_text(&self, text: &Text) -> Result<Node, NoMemory>
+        ensures value { IfOk result (λ node. node ≡ record self.now { shape = shapes.with_text self.now.shape text.now }) }
+        ensures utf8 { IsUtf8 text.now }
+    {
+        let _utf8 = text.as_bytes();
+        let shape = match &self.shape {
+            Shape::Text(name, _) => Shape::Text(name.copy()?, text.copy()?),
+            Shape::Link(name, url, _) => Shape::Link(name.copy()?, url.copy()?, text.copy()?),
+            Shape::TextBox(name, _) => Shape::TextBox(name.copy()?, text.copy()?),
+            Shape::Button(name, _) => Shape::Button(name.copy()?, text.copy()?),
+            other => other.copy()?,
+        };
+        self.with_shape(shape)
+    }
+
+    /// The node as one that was started, where its kind is.
+    pub(crate) fn as_started(&self) -> Result<Node, NoMemory>
+        ensures { IfOk result (λ node. node ≡ record self.now { shape = shapes.as_started self.now.shape }) }
+    {
+        let shape = match &self.shape {
+            Shape::Script(name, _, body) => Shape::Script(name.copy()?, true, body.copy()?),
+            Shape::Src(name, _, url) => Shape::Src(name.copy()?, true, url.copy()?),
+            other => other.copy()?,
+        };
+        self.with_shape(shape)
+    }
+
+    fn with_shape(&self, shape: Shape) -> Result<Node, NoMemory>
+        ensures { IfOk result (λ node. node ≡ record self.now { shape = shape }) }
+    {
+        Ok(Node {
+            shape,
+            handlers: self.handlers.copy()?,
+            children: self.children.copy()?,
+            parent: self.parent,
+        })
+    }
+
+    /// The node with a handler more, the last.
+    pub(crate) fn with_handler(&self, alloc: Global, code: &Code) -> Result<Node, NoMemory>
+        ensures { IfOk result (λ node. node ≡ record self.now { handlers = self.now.handlers ++ code.now ∷ [] }) }
+    {
+        let mut handlers = Vec::new(alloc);
+        for handler in self.handlers.as_slice() {
+            handlers.push(handler.copy()?)?;
+        }
+        handlers.push(code.copy()?)?;
+        Ok(Node {
+            shape: self.shape.copy()?,
+            handlers: Codes::from_vec(alloc, handlers)?,
+            children: self.children.copy()?,
+            parent: self.parent,
+        })
     }
 }

@@ -1,0 +1,104 @@
+-- Where a bit isn't set in the marks of a node, no node at or below it has that name or kind.
+use Rattle.std.proofs.Common.{◌≡◌, ℕ, zero, suc, ◌<◌, ◌≤◌, Bool, true, false, cond, Option, Some, None, List, [], ◌∷◌, ◌++◌, length, flat_map, find, filter, get_or, arith, refl, sym, subst, ap, ◌∙◌}
+use Rattle.std.specs.Int.{bit_at}
+use Rattle.std.specs.List.{AllByRecursion}
+use Rattle.std.specs.Str.{bytes_eq}
+use Rattle.std.proofs.Math.ListN.{get_or-map}
+use Rattle.std.proofs.lemmas.List.{length-map}
+use Rattle.std.proofs.lemmas.List.Elements.{recursion_from_All}
+use Rattle.std.proofs.lemmas.Slice.Eq.{bytes_eq-Decides}
+use Rattle.std.proofs.lemmas.Nat.Bits.{bit_at-lt}
+use Rattle.ff_value.specs.declared.ids.NodeId.{NodeId}
+use Rattle.ff_machine.specs.declared.kinds.Kind.{Kind}
+use Rattle.ff_machine.specs.declared.limits.TheConstants.{MOST_TREE_DEPTH}
+use Rattle.ff_machine.specs.Shapes.{kind_of, kind_word, name_of}
+use Rattle.ff_machine.specs.Nodes.{Node, Walk, walk_within, node_at, no_node, children, is_name, by_name, of_word}
+use Rattle.ff_nodes.specs.declared.cell.NodeCell.{NodeCell}
+use Rattle.ff_nodes.specs.declared.marks.Marks.{Marks}
+use Rattle.ff_nodes.specs.Marked.{name_bit, kind_bit, IsOwn, AreWithin}
+use Rattle.ff_nodes.specs.Cells.{nodes_of, cell_at, no_cell, AreMarked, AreCells}
+use Rattle.ff_nodes.proofs.Marking.{within_itself, within_through}
+use Rattle.ff_nodes.proofs.KindWords.{same_kind}
+
+-- the node of a number is that of its cell
+pub node_of_cell : (cells : List NodeCell) (n : NodeId) → node_at (nodes_of cells) n ≡ (cell_at cells n).node
+node_of_cell cells n = get_or-map (λ (c : NodeCell). c.node) cells n.0 no_cell
+
+-- there are as many nodes as cells
+pub count_cells : (cells : List NodeCell) → length (nodes_of cells) ≡ length cells
+count_cells cells = length-map cells (λ (c : NodeCell). c.node)
+
+-- Lists.
+
+both : {X : Type 0} (P : X → Type 0) (xs ys : List X) → AllByRecursion P xs → AllByRecursion P ys → AllByRecursion P (xs ++ ys)
+both P [] ys h k = k
+both P (x ∷ xs) ys h k = (h.0, both P xs ys h.1 k)
+
+each : {X Y : Type 0} (P : Y → Type 0) (f : X → List Y) (xs : List X) → AllByRecursion (λ x. AllByRecursion P (f x)) xs → AllByRecursion P (flat_map f xs)
+each P f [] h = tt
+each P f (x ∷ xs) h = both P (f x) (flat_map f xs) h.0 (each P f xs h.1)
+
+weaker : {X : Type 0} (P Q : X → Type 0) → ((x : X) → P x → Q x) → (xs : List X) → AllByRecursion P xs → AllByRecursion Q xs
+weaker P Q f [] h = tt
+weaker P Q f (x ∷ xs) h = (f x h.0, weaker P Q f xs h.1)
+
+none_found : {X : Type 0} (p : X → Bool) (xs : List X) → AllByRecursion (λ x. p x ≡ false) xs → find p xs ≡ None
+none_found p [] h = refl
+none_found p (x ∷ xs) h = ap (λ b. cond b (Some x) (find p xs)) h.0 ∙ none_found p xs h.1
+
+none_kept : {X : Type 0} (p : X → Bool) (xs : List X) → AllByRecursion (λ x. p x ≡ false) xs → filter p xs ≡ []
+none_kept p [] h = refl
+none_kept p (x ∷ xs) h = ap (λ b. cond b (x ∷ filter p xs) (filter p xs)) h.0 ∙ none_kept p xs h.1
+
+unless : (b : Bool) → (b ≡ true → ⊥) → b ≡ false
+unless true h = absurd (h refl)
+unless false h = refl
+
+module _ (cells : List NodeCell) (are : AreCells cells) where
+  abbrev nodes : List Node
+  nodes = nodes_of cells
+
+  -- a node that was made, and whose marks are within these
+  record IsUnder (marks : Marks) (m : NodeId) : Type 0 where
+    lives : m.0 < length nodes
+    within : AreWithin (cell_at cells m).marks marks
+
+  walk_marked : (k : ℕ) (n : NodeId) → n.0 < length nodes → AllByRecursion (IsUnder (cell_at cells n).marks) (walk_within k nodes n)
+  walk_marked zero n lives = tt
+  walk_marked (suc k) n lives =
+      (record { lives = lives; within = within_itself (cell_at cells n).marks },
+      each (IsUnder (cell_at cells n).marks) (walk_within k nodes) (children nodes n) (recursion_from_All (λ c. AllByRecursion (IsUnder (cell_at cells n).marks) (walk_within k nodes c)) (children nodes n) (λ i d here.
+          let c = get_or (children nodes n) i d in
+          let inside = are.marks.within c n (are.nodes.trees.agree n i d here) in
+          weaker (IsUnder (cell_at cells c).marks) (IsUnder (cell_at cells n).marks) (λ m under. record { lives = under.lives; within = within_through (cell_at cells m).marks (cell_at cells c).marks (cell_at cells n).marks under.within inside }) (walk_within k nodes c) (walk_marked k c (are.nodes.trees.below n i d here)))))
+
+  walked : (n : NodeId) → n.0 < length nodes → AllByRecursion (IsUnder (cell_at cells n).marks) (Walk nodes n)
+  unfolding Walk
+  walked n lives = walk_marked (suc MOST_TREE_DEPTH) n lives
+
+  own : (m : NodeId) → m.0 < length nodes → IsOwn (node_at nodes m) (cell_at cells m).marks
+  own m lives = subst (λ (node : Node). IsOwn node (cell_at cells m).marks) (sym (node_of_cell cells m)) (are.marks.own m (let e = count_cells cells in omega (arith, e, lives)))
+
+  named : (x : List ℕ) (m : NodeId) (o : Option (List ℕ)) → m.0 < length nodes → name_of (node_at nodes m).shape ≡ o → is_name x o ≡ true → bit_at (cell_at cells m).marks.names (name_bit x) ≡ 1
+  named x m None lives e is = cc
+  named x m (Some y) lives e is =
+      let same : y ≡ x = grind (arith, bytes_eq-Decides y x, is) in
+      (own m lives).name x (e ∙ ap Some same)
+
+  -- no node has that name
+  pub no_name : (n : NodeId) (x : List ℕ) → n.0 < length nodes → (bit_at (cell_at cells n).marks.names (name_bit x) ≡ 1 → ⊥) → by_name nodes n x ≡ None
+  no_name n x lives unset =
+      none_found (λ m. is_name x (name_of (node_at nodes m).shape)) (Walk nodes n) (weaker (IsUnder (cell_at cells n).marks) (λ m. is_name x (name_of (node_at nodes m).shape) ≡ false) (λ m under. unless (is_name x (name_of (node_at nodes m).shape)) (λ is.
+          let set = named x m (name_of (node_at nodes m).shape) under.lives refl is in
+          let less = under.within.names (name_bit x) in
+          unset (omega (arith, set, less, bit_at-lt (cell_at cells n).marks.names (name_bit x))))) (Walk nodes n) (walked n lives))
+
+  -- no node is of that kind
+  pub no_kind : (n : NodeId) (kind : Kind) → n.0 < length nodes → (bit_at (cell_at cells n).marks.kinds (kind_bit kind) ≡ 1 → ⊥) → of_word nodes n (kind_word kind) ≡ []
+  no_kind n kind lives unset =
+      none_kept (λ m. bytes_eq (kind_word (kind_of (node_at nodes m).shape)) (kind_word kind)) (Walk nodes n) (weaker (IsUnder (cell_at cells n).marks) (λ m. bytes_eq (kind_word (kind_of (node_at nodes m).shape)) (kind_word kind) ≡ false) (λ m under. unless (bytes_eq (kind_word (kind_of (node_at nodes m).shape)) (kind_word kind)) (λ is.
+          let words : kind_word (kind_of (node_at nodes m).shape) ≡ kind_word kind = grind (arith, bytes_eq-Decides (kind_word (kind_of (node_at nodes m).shape)) (kind_word kind), is) in
+          let same = same_kind (kind_of (node_at nodes m).shape) kind words in
+          let set : bit_at (cell_at cells m).marks.kinds (kind_bit kind) ≡ 1 = subst (λ (k : Kind). bit_at (cell_at cells m).marks.kinds (kind_bit k) ≡ 1) same (own m under.lives).kind in
+          let less = under.within.kinds (kind_bit kind) in
+          unset (omega (arith, set, less, bit_at-lt (cell_at cells n).marks.kinds (kind_bit kind))))) (Walk nodes n) (walked n lives))

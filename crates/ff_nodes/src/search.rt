@@ -1,0 +1,91 @@
+//! Searches of trees. They take no memory, and pass over a tree whose marks say that nothing can be
+//! found there.
+ghost use Rattle.std.specs.Prelude.{◌≡◌, ◌+◌, ◌<◌, [], IsTrue, Some, None, IfOk, IfErr, length};
+ghost use Rattle.ff_machine.specs.Nodes as nodes;
+ghost use Rattle.ff_machine.specs.Shapes.{kind_word};
+
+use crate::nodes::Nodes;
+use ff_machine::Kind;
+use ff_value::NodeId;
+
+impl Nodes {
+    /// The first node of a name in the tree of a node, the node itself first, then its children in
+    /// their order, each with what stands below it.
+    pub fn by_name(&self, root: NodeId, name: &[u8]) -> Option<NodeId>
+        requires { root.0 < length self.now }
+        ensures { result ≡ nodes.by_name self.now root name.now }
+    {
+        if self.lacks_name(root, name) {
+            return None;
+        }
+        let node = self.at(root);
+        if node.is_named(name) {
+            return Some(root);
+        }
+        for child in node.children().as_slice() {
+            if let Some(found) = self.by_name(*child, name) {
+                return Some(found);
+            }
+        }
+        None
+    }
+
+    /// The node of a kind and a number, counted from 0 in the same order.
+    pub fn nth(&self, root: NodeId, kind: Kind, k: u32) -> Option<NodeId>
+        requires { root.0 < length self.now }
+        ensures { result ≡ nodes.nth self.now root kind k }
+    {
+        match self.nth_from(root, kind, k) {
+            Ok(found) => Some(found),
+            Err(_left) => None,
+        }
+    }
+
+    /// The same, or else how many are left to count.
+    fn nth_from(&self, root: NodeId, kind: Kind, k: u32) -> Result<NodeId, u32>
+        requires { root.0 < length self.now }
+        ensures found { IfOk result (λ m. nodes.nth self.now root kind k ≡ Some m) }
+        ensures passed { IfErr result (λ left. left + length (nodes.of_word self.now root (kind_word kind)) ≡ k) }
+    {
+        if self.lacks_kind(root, kind) {
+            return Err(k);
+        }
+        let node = self.at(root);
+        let mut left = k;
+        if node.is_of_kind(kind) {
+            if k == 0 {
+                return Ok(root);
+            }
+            left = k - 1;
+        }
+        for child in node.children().as_slice() {
+            match self.nth_from(*child, kind, left) {
+                Ok(found) => return Ok(found),
+                Err(rest) => left = rest,
+            }
+        }
+        Err(left)
+    }
+
+    /// Whether the marks say that no node of this name is in the tree.
+    pub(crate) fn lacks_name(&self, root: NodeId, name: &[u8]) -> bool
+        requires { root.0 < length self.now }
+        ensures { IsTrue result → nodes.by_name self.now root name.now ≡ None }
+    {
+        match self.cells.get(root.0) {
+            Some(cell) => !cell.marks.may_have_name(name),
+            None => unreachable!(),
+        }
+    }
+
+    /// Whether the marks say that no node of this kind is in the tree.
+    pub(crate) fn lacks_kind(&self, root: NodeId, kind: Kind) -> bool
+        requires { root.0 < length self.now }
+        ensures { IsTrue result → nodes.of_word self.now root (kind_word kind) ≡ [] }
+    {
+        match self.cells.get(root.0) {
+            Some(cell) => !cell.marks.may_have_kind(kind),
+            None => unreachable!(),
+        }
+    }
+}
