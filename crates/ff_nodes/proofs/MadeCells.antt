@@ -5,25 +5,13 @@ use Rattle.std.proofs.lemmas.Bool.Decides.{nat_tests}
 use Rattle.std.proofs.lemmas.List.{length-map, length-append, get_or_append_left, get_or-append-add, get_or_past}
 use Rattle.ff_value.specs.declared.ids.NodeId.{NodeId}
 use Rattle.ff_machine.specs.Nodes.{Node, no_node, node_at, children, parent}
-use Rattle.ff_machine.specs.Alone.{AreTrees}
-use Rattle.ff_machine.proofs.Parts.{times}
+use Rattle.ff_machine.proofs.Depths.{parent_made}
 use Rattle.ff_nodes.specs.declared.cell.NodeCell.{NodeCell}
 use Rattle.ff_nodes.specs.Cells.{AreCells, cell_at, no_cell, nodes_of}
 use Rattle.ff_nodes.specs.Laying.{AreNew, HasOwn}
 use Rattle.ff_nodes.specs.Marked.{IsOwn, AreWithin}
 use Rattle.ff_nodes.specs.Raised.{AreMarkedUpTo}
 use Rattle.ff_nodes.proofs.NewCells.{new_length, new_nodes}
-
--- where a node has a parent, that one was made
-pub parent_lives : (nodes : List Node) → AreTrees nodes → (n p : NodeId) → parent nodes n ≡ Some p → p.0 < length nodes
-parent_lives nodes trees n p e = by (nat_lt p.0 (length nodes)) refl where
-  by : (b : Bool) → nat_lt p.0 (length nodes) ≡ b → p.0 < length nodes
-  by true t = grind (arith, nat_tests, t)
-  by false t =
-      let past : length nodes ≤ p.0 = grind (arith, nat_tests, t) in
-      let none : children nodes p ≡ [] = ap (λ (m : Node). m.children) (get_or_past nodes p.0 no_node past) in
-      let zero_times : 0 ≡ 1 = ap (times n) (sym none) ∙ trees.once n p e in
-      absurd (omega (arith, zero_times))
 
 -- a node that has a parent was made
 pub child_lives : (nodes : List Node) (n p : NodeId) → parent nodes n ≡ Some p → n.0 < length nodes
@@ -64,7 +52,7 @@ module _ (old new : List NodeCell) (ns : List Node) (are : AreCells old) (laid :
       let count : length (nodes_of old) ≡ length old = length-map old (λ (c : NodeCell). c.node) in
       let same : node_at (nodes_of new) m ≡ node_at (nodes_of old) m = ap (λ nodes. node_at nodes m) (new_nodes old new ns laid) ∙ get_or_append_left (nodes_of old) ns no_node m.0 (omega (arith, count, less)) in
       let before : parent (nodes_of old) m ≡ Some q = ap (λ (n : Node). n.parent) (sym same) ∙ is in
-      let up : q.0 < length old = let lives = parent_lives (nodes_of old) are.nodes.trees m q before in omega (arith, lives, count) in
+      let up : q.0 < length old = let lives = parent_made (nodes_of old) are.nodes.trees m q before in omega (arith, lives, count) in
       subst (λ (c : NodeCell). AreWithin c.marks (cell_at new q).marks) (sym (old_cell m less)) (subst (λ (c : NodeCell). AreWithin (cell_at old m).marks c.marks) (sym (old_cell q up)) (are.marks.within m q before))
 
   -- marks of made nodes are still to be raised
