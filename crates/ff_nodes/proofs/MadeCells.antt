@@ -1,17 +1,24 @@
 -- Cells with those of a made tree behind them.
-use Rattle.std.proofs.Common.{◌≡◌, ◌≢◌, ℕ, zero, suc, ◌+◌, ◌-◌, ◌<◌, ◌≤◌, ◌⊎◌, inl, inr, nat_lt, ◌==◌, Bool, true, false, cond, Option, Some, None, List, [], ◌∷◌, ◌++◌, length, get_or, arith, refl, sym, subst, ap, ◌∙◌}
+use Rattle.std.proofs.Common.{◌≡◌, ◌≢◌, ℕ, zero, suc, ◌+◌, ◌-◌, ◌<◌, ◌≤◌, ◌⊎◌, inl, inr, nat_lt, ◌==◌, Bool, true, false, cond, Option, Some, None, is_some, List, [], ◌∷◌, ◌++◌, length, get_or, arith, refl, sym, subst, ap, ◌∙◌}
 use Rattle.std.specs.List.{AllByRecursion}
 use Rattle.std.proofs.lemmas.Bool.Decides.{nat_tests}
 use Rattle.std.proofs.lemmas.List.{length-map, length-append, get_or_append_left, get_or-append-add, get_or_past}
 use Rattle.ff_value.specs.declared.ids.NodeId.{NodeId}
-use Rattle.ff_machine.specs.Nodes.{Node, no_node, node_at, children, parent}
+use Rattle.ff_machine.specs.declared.limits.TheConstants.{MOST_NODES}
+use Rattle.ff_machine.specs.Alone.{AreNodes}
+use Rattle.ff_machine.specs.Documents.{Laid, with_tree}
+use Rattle.ff_machine.specs.Nodes.{Node, has_room, no_node, node_at, parent}
 use Rattle.ff_machine.proofs.Depths.{parent_made}
 use Rattle.ff_nodes.specs.declared.cell.NodeCell.{NodeCell}
-use Rattle.ff_nodes.specs.Cells.{AreCells, cell_at, no_cell, nodes_of}
+use Rattle.ff_nodes.specs.Cells.{AreCells, AreMarked, cell_at, no_cell, nodes_of}
 use Rattle.ff_nodes.specs.Laying.{AreNew, HasOwn}
 use Rattle.ff_nodes.specs.Marked.{IsOwn, AreWithin}
-use Rattle.ff_nodes.specs.Raised.{AreMarkedUpTo}
+use Rattle.ff_nodes.specs.Raised.{AreMarkedUpTo, ArePast}
+use Rattle.ff_nodes.specs.Room.{room_left}
+use Rattle.ff_nodes.proofs.LaidUp.{AreUp, are_past}
+use Rattle.ff_nodes.proofs.Lacking.{count_cells}
 use Rattle.ff_nodes.proofs.NewCells.{new_length, new_nodes}
+use Rattle.ff_nodes.proofs.Rooms.{is_left, too_large}
 
 -- a node that has a parent was made
 pub child_lives : (nodes : List Node) (n p : NodeId) → parent nodes n ≡ Some p → n.0 < length nodes
@@ -68,3 +75,63 @@ module _ (old new : List NodeCell) (ns : List Node) (are : AreCells old) (laid :
           let count : length (nodes_of new) ≡ length new = length-map new (λ (c : NodeCell). c.node) in
           let lives = child_lives (nodes_of new) m q is in
           absurd (omega (arith, past, lives, count))
+
+-- A tree that is laid behind the nodes of a fork.
+
+-- the number of the first new node
+pub made_first : (old start : List NodeCell) (nodes : List Node) (n : ℕ) → nodes_of old ≡ nodes → start ≡ old → n ≡ length nodes → n ≡ length start
+made_first old start nodes n view same first = first ∙ ap length (sym view) ∙ count_cells old ∙ ap length (sym same)
+
+-- the parents of the new nodes stand before them
+pub made_past : (start laid : List NodeCell) (ns : List Node) (n : ℕ) → n ≡ length start → AreNew start laid ns → AreUp n n ns → ArePast n (nodes_of laid)
+made_past start laid ns n first new up =
+    let count : length (nodes_of start) ≡ n = count_cells start ∙ sym first in
+    let past = are_past (nodes_of start) ns (subst (λ k. AreUp k k ns) (sym count) up) in
+    subst (λ all. ArePast n all) (sym (new_nodes start laid ns new)) (subst (λ k. ArePast k (nodes_of start ++ ns)) count past)
+
+-- the marks of the new nodes are still to be raised
+pub made_marked : (old start laid : List NodeCell) (ns : List Node) (n : ℕ) → start ≡ old → n ≡ length start → AreCells old → AreNew start laid ns → AreMarkedUpTo n (length laid) laid
+made_marked old start laid ns n same first are new =
+    subst (λ k. AreMarkedUpTo k (length laid) laid) (sym first) (marked_new start laid ns (subst AreCells (sym same) are) new)
+
+-- how many cells there are then
+pub made_length : (start laid : List NodeCell) (d : Laid) (n : ℕ) → n ≡ length start → ((first : ℕ) (under : Option NodeId) → length (d.nodes first under) ≡ d.size) → AreNew start laid (d.nodes (length start) None) → length laid ≡ n + d.size
+made_length start laid d n first sized new =
+    let all = new_length start laid (d.nodes (length start) None) new in
+    let size = sized (length start) None in
+    omega (arith, all, size, first)
+
+-- the nodes are those before with the tree
+pub made_nodes : (old start laid done : List NodeCell) (nodes : List Node) (d : Laid) → nodes_of old ≡ nodes → start ≡ old → AreNew start laid (d.nodes (length start) None) → nodes_of done ≡ nodes_of laid → nodes_of done ≡ with_tree nodes d
+made_nodes old start laid done nodes d view same new raised =
+    let before : nodes_of start ≡ nodes = ap nodes_of same ∙ view in
+    let count : length start ≡ length nodes = sym (count_cells start) ∙ ap length before in
+    raised ∙ new_nodes start laid (d.nodes (length start) None) new
+    ∙ ap (λ ns. ns ++ d.nodes (length start) None) before
+    ∙ ap (λ k. nodes ++ d.nodes k None) count
+
+-- so they are valid cells
+pub made_cells : (old start laid done : List NodeCell) (nodes : List Node) (d : Laid) → nodes_of old ≡ nodes → start ≡ old → AreNew start laid (d.nodes (length start) None) → nodes_of done ≡ nodes_of laid → AreMarked done → AreNodes (with_tree nodes d) → AreCells done
+made_cells old start laid done nodes d view same new raised marked valid = record {
+  nodes = subst AreNodes (sym (made_nodes old start laid done nodes d view same new raised)) valid;
+  marks = marked;
+}
+
+-- Room.
+
+-- where something is left there is room
+pub room_there : (nodes : List Node) (size n : ℕ) (o : Option ℕ) → n ≡ length nodes → n ≤ MOST_NODES → o ≡ room_left (MOST_NODES - n) size → is_some o ≡ true → has_room nodes size ≡ true
+room_there nodes size n None count few left none = cc
+room_there nodes size n (Some rest) count few left none =
+    let is = is_left (MOST_NODES - n) size rest left in
+    let fits = is.fits in
+    let enough : length nodes + size ≤ MOST_NODES = omega (arith, count, few, fits) in
+    grind (arith, nat_tests, enough)
+
+-- and where nothing is there is none
+pub room_missing : (nodes : List Node) (size n : ℕ) (o : Option ℕ) → n ≡ length nodes → n ≤ MOST_NODES → o ≡ room_left (MOST_NODES - n) size → is_some o ≡ false → has_room nodes size ≡ false
+room_missing nodes size n (Some rest) count few left none = cc
+room_missing nodes size n None count few left none =
+    let large = too_large (MOST_NODES - n) size left in
+    let over : MOST_NODES < length nodes + size = omega (arith, count, few, large) in
+    grind (arith, nat_tests, over)

@@ -16,11 +16,12 @@ pub left_none : (room size : ℕ) → room < size → None ≡ room_left room si
 left_none room size less = let e : nat_le size room ≡ false = grind (arith, nat_tests, less) in ap (λ b. cond b (Some (room - size)) None) (sym e)
 
 -- what is left says how large the size is
-record IsLeft (room size left : ℕ) : Type 0 where
+pub record IsLeft (room size left : ℕ) : Type 0 where
   pub fits : size ≤ room
   pub rest : left + size ≡ room
 
-is_left : (room size left : ℕ) → Some left ≡ room_left room size → IsLeft room size left
+-- and how much
+pub is_left : (room size left : ℕ) → Some left ≡ room_left room size → IsLeft room size left
 is_left room size left e = by (nat_le size room) refl e where
   by : (b : Bool) → nat_le size room ≡ b → Some left ≡ cond b (Some (room - size)) None → IsLeft room size left
   by true t some =
@@ -29,7 +30,8 @@ is_left room size left e = by (nat_le size room) refl e where
       record { fits = le; rest = omega (arith, le, same) }
   by false t none = cc
 
-too_large : (room size : ℕ) → None ≡ room_left room size → room < size
+-- where nothing is left, the size is too large
+pub too_large : (room size : ℕ) → None ≡ room_left room size → room < size
 too_large room size e = by (nat_le size room) refl e where
   by : (b : Bool) → nat_le size room ≡ b → None ≡ cond b (Some (room - size)) None → room < size
   by true t some = cc
