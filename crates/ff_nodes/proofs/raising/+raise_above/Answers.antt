@@ -44,6 +44,6 @@ raise_above-requires g t c κs within =
     let count = count_cells c.args.cells.now in
     let count_new = raised_length c.args.cells.now c.raise.new.cells raised.nodes in
     (
-      ?,
-      (search rules, (omega (arith, made, count, count_new), (subst AreTrees (sym raised.nodes) trees, above_marked c.args.cells.now c.raise.new.cells c.args.n c.in-Some.p trees c.requires.lives up raised c.requires.marks))),
+      omega (arith, deep, same),
+      (within, (omega (arith, made, count, count_new), (subst AreTrees (sym raised.nodes) trees, above_marked c.args.cells.now c.raise.new.cells c.args.n c.in-Some.p trees c.requires.lives up raised c.requires.marks))),
     )
