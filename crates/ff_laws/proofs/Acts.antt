@@ -13,7 +13,6 @@ use Rattle.ff_value.specs.declared.ids.ActId.{ActId}
 use Rattle.ff_value.specs.declared.value.Val.{Val}
 use Rattle.ff_value.specs.Spelled.{IsWellSpelledVal}
 use Rattle.ff_machine.specs.declared.limits.TheConstants.{MOST_VARS}
-use Rattle.ff_machine.specs.Faults.{limit_unless}
 use Rattle.ff_machine.specs.Windows.{Activation, Vars, act_at, vars_of, no_act, set_var, may_declare, declare_fault, count_vars, holder_within, holder, assigned, assign_fault}
 use Rattle.ff_machine.specs.Stores.{Stores}
 use Rattle.ff_machine.specs.Reduction.{with_acts}

@@ -1,19 +1,18 @@
 -- A node whose links stay may be another: texts and started scripts keep stores valid.
-use Rattle.std.proofs.Common.{◌≡◌, ℕ, zero, suc, ◌<◌, ◌≤◌, Bool, true, false, eqb, Option, Some, None, IsSome, List, length, get_or, count_by, All, refl, sym, ap, subst, ◌∙◌, arith, length-set}
-use Rattle.std.proofs.lemmas.List.Elements.{All-weaker, All-set}
+use Rattle.std.proofs.Common.{◌≡◌, ℕ, ◌<◌, ◌≤◌, Bool, true, false, Some, List, length, get_or, refl, sym, ap, ◌∙◌, arith, length-set}
+use Rattle.std.proofs.lemmas.List.Elements.{All-set}
 use Rattle.std.proofs.lemmas.List.Sums.{sum_by-set}
 use Rattle.std.specs.Str.{IsUtf8}
 use Rattle.ff_value.specs.declared.ids.NodeId.{NodeId}
 use Rattle.ff_value.specs.declared.ids.PageId.{PageId}
 use Rattle.ff_machine.specs.declared.records.Shape.{Shape}
 use Rattle.ff_machine.specs.declared.records.Shape.TheVariants as shape
-use Rattle.ff_machine.specs.declared.limits.TheConstants.{MOST_TREE_DEPTH}
-use Rattle.ff_machine.specs.Shapes.{page_of, is_started, with_text, as_started, may_have_handlers, may_have_children}
+use Rattle.ff_machine.specs.Shapes.{page_of, is_started, with_text, as_started}
 use Rattle.ff_machine.specs.Nodes as nodes
 use Rattle.ff_machine.specs.Nodes.{Node, no_node, node_at, children, parent, depth, depth_within, at_parent, set_node, handler_fault}
 use Rattle.ff_machine.specs.Windows.{Page, nth_page}
 use Rattle.ff_machine.specs.Stores.{Stores}
-use Rattle.ff_machine.specs.Alone.{IsShape, IsNode, AreTrees}
+use Rattle.ff_machine.specs.Alone.{IsNode}
 use Rattle.ff_machine.proofs.Changes.{IsAlike, alike_itself, with_text_alike, as_started_alike, node_set, text_node, started_node}
 use Rattle.ff_machine.proofs.Lists.{at_set}
 use Rattle.ff_machine.specs.References.{Made, Grows, made, ShapeRefers, NodeRefers}

@@ -1,21 +1,17 @@
 -- A text that a node gets within the mass, and a handler more, keep stores valid.
-use Rattle.std.proofs.Common.{◌≡◌, ℕ, ◌<◌, Bool, true, false, cond, not, ◌==◌, Option, Some, None, List, [], ◌∷◌, ◌++◌, length, refl, sym, ◌∙◌, arith, length-set, ltb-true, length-append}
-use Rattle.std.proofs.lemmas.Bool.{true≢false, eqb-true}
+use Rattle.std.proofs.Common.{◌≡◌, ℕ, ◌<◌, true, Option, Some, None, List, [], ◌∷◌, ◌++◌, length, refl, arith, length-set}
 use Rattle.std.proofs.lemmas.List.Elements.{All-push}
 use Rattle.std.specs.Str.{IsUtf8}
-use Rattle.ff_tree.specs.declared.limits.TheConstants.{MOST_HANDLERS}
 use Rattle.ff_value.specs.declared.fault.Fault.{Fault}
-use Rattle.ff_value.specs.declared.fault.Fault.TheVariants as fault
 use Rattle.ff_value.specs.declared.ids.NodeId.{NodeId}
 use Rattle.ff_value.specs.declared.value.Code.{Code}
-use Rattle.ff_value.specs.Spelled.{TakesOne}
 use Rattle.ff_machine.specs.Faults.{limit_unless, first_fault}
-use Rattle.ff_machine.specs.Shapes.{with_text, may_have_handlers}
+use Rattle.ff_machine.specs.Shapes.{with_text}
 use Rattle.ff_machine.specs.Nodes as nodes
 use Rattle.ff_machine.specs.Nodes.{Node, no_node, node_at, handler_fault}
 use Rattle.ff_machine.specs.Stores as stores
 use Rattle.ff_machine.specs.Stores.{Stores, may_weigh}
-use Rattle.ff_machine.specs.Alone.{IsHandler, IsNode}
+use Rattle.ff_machine.specs.Alone.{IsNode}
 use Rattle.ff_machine.proofs.Changes.{within, handler_node}
 use Rattle.ff_machine.specs.References.{made, CodeRefers, NodeRefers}
 use Rattle.ff_machine.specs.Valid.{IsCode, IsStores}

@@ -1,10 +1,13 @@
 pub mod Marking
 pub mod Below
-pub mod KindWords
+pub mod Searching
 pub mod Lacking
+pub mod KindWords
+pub mod CellChanges
+pub mod Rest
+pub mod Turns
 pub mod LaidUp
 pub mod MadeCells
 pub mod NewCells
 pub mod RaisedCells
 pub mod Rooms
-pub mod Searching

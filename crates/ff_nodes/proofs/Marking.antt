@@ -1,9 +1,9 @@
 -- Marks: what is within what.
-use Rattle.std.proofs.Common.{◌≡◌, ◌≤◌, ℕ, Some, List, bit_or, arith}
+use Rattle.std.proofs.Common.{◌≡◌, ◌≤◌, ℕ, bit_or, arith}
 use Rattle.std.specs.Int.{bit_at}
 use Rattle.std.proofs.lemmas.Nat.Bits.{bit_at-lt, bit_at_or}
 use Rattle.ff_machine.specs.Nodes.{Node}
-use Rattle.ff_machine.specs.Shapes.{kind_of, name_of}
+use Rattle.ff_machine.specs.Shapes.{kind_of}
 use Rattle.ff_nodes.specs.declared.marks.Marks.{Marks}
 use Rattle.ff_nodes.specs.Marked.{name_bit, kind_bit, IsOwn, IsWithin, AreWithin}
 

@@ -1,5 +1,5 @@
 -- Searches of a walk: the node itself, and then the walks of its children, one after another.
-use Rattle.std.proofs.Common.{◌≡◌, ℕ, zero, suc, ◌+◌, ◌≤◌, ◌<◌, Bool, true, false, cond, Option, Some, None, List, [], ◌∷◌, ◌++◌, length, flat_map, find, filter, slice_get, get_or, drop, drop-cons, arith, refl, sym, ap, ◌∙◌, length-append, append_assoc}
+use Rattle.std.proofs.Common.{◌≡◌, ℕ, zero, suc, ◌+◌, ◌≤◌, ◌<◌, Bool, true, false, cond, Some, None, List, [], ◌∷◌, ◌++◌, length, flat_map, find, filter, slice_get, get_or, drop, drop-cons, arith, refl, ap, ◌∙◌}
 use Rattle.std.proofs.lemmas.List.Elements.{filter-append}
 use Rattle.std.proofs.lemmas.List.Folds.{find-append}
 use Rattle.std.specs.Option.{option_or}
@@ -53,16 +53,16 @@ module _ (nodes : List Node) (trees : AreTrees nodes) (p : NodeId → Bool) wher
   find_below n is = ap (find p) (walk_out nodes trees n) ∙ ap (λ b. cond b (Some n) (find p (walks (children nodes n)))) is
 
   -- it is in the walk of the next of some nodes
-  pub find_in_next : (cs : List NodeId) (i : ℕ) (c m : NodeId) → i < length cs → c ≡ get_or cs i c → find p (Walk nodes c) ≡ Some m → find p (walks (drop i cs)) ≡ Some m
-  find_in_next cs i c m here is found =
-      ap (find p) (each_next (Walk nodes) cs i (i + 1) c refl here) ∙ find-append p (Walk nodes (get_or cs i c)) (walks (drop (i + 1) cs))
-      ∙ ap (λ o. option_or o (find p (walks (drop (i + 1) cs)))) (ap (λ d. find p (Walk nodes d)) (sym is) ∙ found)
+  pub find_in_next : (cs : List NodeId) (i : ℕ) (d m : NodeId) → i < length cs → find p (Walk nodes (get_or cs i d)) ≡ Some m → find p (walks (drop i cs)) ≡ Some m
+  find_in_next cs i d m here found =
+      ap (find p) (each_next (Walk nodes) cs i (i + 1) d refl here) ∙ find-append p (Walk nodes (get_or cs i d)) (walks (drop (i + 1) cs))
+      ∙ ap (λ o. option_or o (find p (walks (drop (i + 1) cs)))) found
 
   -- or after it
-  pub find_after_next : (cs : List NodeId) (i : ℕ) (c : NodeId) → i < length cs → c ≡ get_or cs i c → find p (Walk nodes c) ≡ None → find p (walks (drop i cs)) ≡ find p (walks (drop (i + 1) cs))
-  find_after_next cs i c here is none =
-      ap (find p) (each_next (Walk nodes) cs i (i + 1) c refl here) ∙ find-append p (Walk nodes (get_or cs i c)) (walks (drop (i + 1) cs))
-      ∙ ap (λ o. option_or o (find p (walks (drop (i + 1) cs)))) (ap (λ d. find p (Walk nodes d)) (sym is) ∙ none)
+  pub find_after_next : (cs : List NodeId) (i : ℕ) (d : NodeId) → i < length cs → find p (Walk nodes (get_or cs i d)) ≡ None → find p (walks (drop i cs)) ≡ find p (walks (drop (i + 1) cs))
+  find_after_next cs i d here none =
+      ap (find p) (each_next (Walk nodes) cs i (i + 1) d refl here) ∙ find-append p (Walk nodes (get_or cs i d)) (walks (drop (i + 1) cs))
+      ∙ ap (λ o. option_or o (find p (walks (drop (i + 1) cs)))) none
 
   -- All of them.
 
@@ -75,7 +75,5 @@ module _ (nodes : List Node) (trees : AreTrees nodes) (p : NodeId → Bool) wher
   some_below n is = ap (filter p) (walk_out nodes trees n) ∙ ap (λ b. cond b (n ∷ filter p (walks (children nodes n))) (filter p (walks (children nodes n)))) is
 
   -- those of the next of some nodes, and those after it
-  pub some_next : (cs : List NodeId) (i : ℕ) (c : NodeId) → i < length cs → c ≡ get_or cs i c → filter p (walks (drop i cs)) ≡ filter p (Walk nodes c) ++ filter p (walks (drop (i + 1) cs))
-  some_next cs i c here is =
-      ap (filter p) (each_next (Walk nodes) cs i (i + 1) c refl here) ∙ filter-append p (Walk nodes (get_or cs i c)) (walks (drop (i + 1) cs))
-      ∙ ap (λ d. filter p (Walk nodes d) ++ filter p (walks (drop (i + 1) cs))) (sym is)
+  pub some_next : (cs : List NodeId) (i : ℕ) (d : NodeId) → i < length cs → filter p (walks (drop i cs)) ≡ filter p (Walk nodes (get_or cs i d)) ++ filter p (walks (drop (i + 1) cs))
+  some_next cs i d here = ap (filter p) (each_next (Walk nodes) cs i (i + 1) d refl here) ∙ filter-append p (Walk nodes (get_or cs i d)) (walks (drop (i + 1) cs))

@@ -1,5 +1,5 @@
 -- Cells: nodes with their marks.
-use Rattle.std.specs.Prelude.{◌≡◌, ◌<◌, ℕ, Some, List, map, length, slice_index_or}
+use Rattle.std.specs.Prelude.{◌≡◌, ◌<◌, Some, List, map, length, slice_index_or}
 use Rattle.ff_value.specs.declared.ids.NodeId.{NodeId}
 use Rattle.ff_machine.specs.Nodes.{Node, no_node, parent}
 use Rattle.ff_machine.specs.Alone.{AreNodes}

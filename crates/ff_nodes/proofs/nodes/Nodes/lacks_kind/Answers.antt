@@ -1,0 +1,17 @@
+use Rattle.std.proofs.Common.{◌≡◌, ◌<◌, [], List, length, sym, subst, ap, ◌∙◌}
+use Rattle.std.specs.Int.{bit_at}
+use Rattle.std.proofs.lemmas.Option.{get_or_from_slice_get}
+use Rattle.ff_machine.specs.Shapes.{kind_word}
+use Rattle.ff_machine.specs.Nodes.{Node, of_word}
+use Rattle.ff_nodes.specs.declared.cell.NodeCell.{NodeCell}
+use Rattle.ff_nodes.specs.Marked.{kind_bit}
+use Rattle.ff_nodes.specs.Cells.{nodes_of, cell_at, no_cell}
+use Rattle.ff_nodes.proofs.Lacking.{no_kind, not_both}
+use Rattle.ff_nodes.proofs.nodes.Nodes.lacks_kind.Goals as goal
+
+pub returns : goal.returns
+returns c unset =
+    let cells = c.self.inside.cells in
+    let cell : cell_at cells c.args.root ≡ c.in-Some.cell.now = get_or_from_slice_get cells c.args.root.0 c.in-Some.cell.now no_cell (sym c.in-Some.ensures) in
+    let lives : c.args.root.0 < length (nodes_of cells) = subst (λ (ns : List Node). c.args.root.0 < length ns) (sym c.self.view_is) c.requires in
+    subst (λ (ns : List Node). of_word ns c.args.root (kind_word c.args.kind) ≡ []) c.self.view_is (no_kind cells c.self.invariant c.args.root c.args.kind lives (λ set. not_both _ (c.may_have_kind.ensures.1 (sym (ap (λ (k : NodeCell). bit_at k.marks.kinds (kind_bit c.args.kind)) cell) ∙ set)) unset))
