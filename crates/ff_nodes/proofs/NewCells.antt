@@ -164,14 +164,14 @@ root_new env docs s hs ids under old mid last new blank node cell at here put la
     let plus : length old + 1 ≡ suc (length old) = omega arith in
     let count : length mid ≡ suc (length old) = new_length old mid (blank ∷ []) put ∙ plus in
     let kids : AreNew mid last (lay_all ds (suc (length old)) (Some (record { 0 = length old }))) =
-        subst (λ k. AreNew mid last (lay_all ds (suc (length old)) (Some (record { 0 = k })))) here
-        (subst (λ k. AreNew mid last (lay_all ds k (Some (record { 0 = at })))) count laid_kids) in
+    subst (λ k. AreNew mid last (lay_all ds (suc (length old)) (Some (record { 0 = k })))) here
+    (subst (λ k. AreNew mid last (lay_all ds k (Some (record { 0 = at })))) count laid_kids) in
     let all = new_through old mid last (blank ∷ []) (lay_all ds (suc (length old)) (Some (record { 0 = length old }))) put kids in
     let own_cell : HasOwn cell = subst (λ n. IsOwn n cell.marks) (sym cell_is) own in
     let root = new_root old last blank (lay_all ds (suc (length old)) (Some (record { 0 = length old }))) cell at (sym here) own_cell all in
     let is : cell.node ≡ record { shape = s; handlers = []; children = numbers ds (suc (length old)); parent = under } =
-        cell_is ∙ node_is
-        ∙ ap (λ h. let n : Node = record { shape = s; handlers = h; children = ids; parent = under } in n) no_handlers
-        ∙ ap (λ c. let n : Node = record { shape = s; handlers = []; children = c; parent = under } in n) (ids_are ∙ ap (numbers ds) count) in
+    cell_is ∙ node_is
+    ∙ ap (λ h. let n : Node = record { shape = s; handlers = h; children = ids; parent = under } in n) no_handlers
+    ∙ ap (λ c. let n : Node = record { shape = s; handlers = []; children = c; parent = under } in n) (ids_are ∙ ap (numbers ds) count) in
     subst (λ (l : List NodeCell). AreNew old l ((lay_over s ds).nodes (length old) under)) (sym written)
     (subst (λ (n : Node). AreNew old (set last at cell) (n ∷ lay_all ds (suc (length old)) (Some (record { 0 = length old })))) is root)

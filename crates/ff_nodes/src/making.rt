@@ -71,7 +71,15 @@ impl Nodes {
         }
         let mut next = self.cells.fork(copies)?;
         let shape = Shape::Page(page);
-        lay_over(docs.as_slice(), shape, None, env, self.alloc, &mut next, copies)?;
+        lay_over(
+            docs.as_slice(),
+            shape,
+            None,
+            env,
+            self.alloc,
+            &mut next,
+            copies,
+        )?;
         raise_from(&mut next, n, copies)?;
         self.cells = next;
         Ok(NodeId(n))

@@ -42,8 +42,7 @@ raise_above-requires g t c κs within =
     let deep = depth_up (nodes_of c.args.cells.now) trees c.args.n c.in-Some.p up in
     let same : depth (nodes_of c.raise.new.cells) c.in-Some.p ≡ depth (nodes_of c.args.cells.now) c.in-Some.p = ap (λ ns. depth ns c.in-Some.p) raised.nodes in
     let count = count_cells c.args.cells.now in
-    let count_new = raised_length c.args.cells.now c.raise.new.cells raised.nodes in
-    (
+    let count_new = raised_length c.args.cells.now c.raise.new.cells raised.nodes in (
       omega (arith, deep, same),
       (within, (omega (arith, made, count, count_new), (subst AreTrees (sym raised.nodes) trees, above_marked c.args.cells.now c.raise.new.cells c.args.n c.in-Some.p trees c.requires.lives up raised c.requires.marks))),
     )
