@@ -6,3 +6,8 @@ pub mod KindWords
 pub mod CellChanges
 pub mod Rest
 pub mod Turns
+pub mod LaidUp
+pub mod MadeCells
+pub mod NewCells
+pub mod RaisedCells
+pub mod Rooms

@@ -1,2 +1,5 @@
 pub mod Cells
+pub mod Laying
 pub mod Marked
+pub mod Raised
+pub mod Room

@@ -11,11 +11,15 @@
 mod cell;
 mod change;
 mod climb;
+mod laying;
 mod listed;
+mod making;
 mod marks;
 mod node;
 mod nodes;
+mod raising;
 mod read;
+mod room;
 mod search;
 #[cfg(test)]
 mod tests;

@@ -1,0 +1,176 @@
+//! Documents, laid as new nodes behind the ones that there are.
+ghost use Rattle.std.specs.Prelude.{◌≡◌, ◌+◌, ◌*◌, ◌≤◌, [], Some, length, map, IfOk, OnOk};
+ghost use Rattle.ff_machine.specs.Documents as documents;
+ghost use Rattle.ff_machine.specs.Documents.{laid, size_of, numbers, lay_all, handler_code};
+ghost use Rattle.ff_nodes.specs.Laying.{AreNew};
+ghost use Rattle.ff_nodes.specs.Marked.{IsOwn};
+
+use crate::cell::NodeCell;
+use crate::marks::Marks;
+use crate::node::Node;
+use ff_cow::CowVec;
+use ff_machine::Shape;
+use ff_steps::Steps;
+use ff_value::{ActId, Code, Codes, Doc, Handler, Ids, Names, NoMemory, NodeId};
+use std::alloc::{AllocError, Global};
+use std::sync::ledger::Ledger;
+
+/// Lays a document behind the nodes, its topmost node under the given one.
+#[cycle(laying)]
+pub(crate) fn lay_doc<C: Ledger>(
+    doc: &Doc,
+    under: Option<NodeId>,
+    env: ActId,
+    alloc: Global,
+    cells: &mut CowVec<NodeCell>,
+    copies: &mut Steps<C>,
+) -> Result<(), NoMemory>
+    ensures new { OnOk result (AreNew cells.old cells.new ((laid env doc.now).nodes (length cells.old) under)) }
+    ensures later { copies.old ≤ copies.new }
+    ensures copies { copies.new ≤ copies.old + 31 * (laid env doc.now).size }
+{
+    match doc {
+        Doc::Text(name, text) => {
+            let shape = Shape::Text(name.copy()?, text.copy()?);
+            lay_leaf(shape, no_codes(alloc)?, under, alloc, cells, copies)
+        }
+        Doc::Link(name, url, label) => {
+            let shape = Shape::Link(name.copy()?, url.copy()?, label.copy()?);
+            lay_leaf(shape, no_codes(alloc)?, under, alloc, cells, copies)
+        }
+        Doc::TextBox(name, text, handlers) => {
+            let shape = Shape::TextBox(name.copy()?, text.copy()?);
+            let codes = codes_of(handlers.as_slice(), env, alloc)?;
+            lay_leaf(shape, codes, under, alloc, cells, copies)
+        }
+        Doc::Button(name, label, handlers) => {
+            let shape = Shape::Button(name.copy()?, label.copy()?);
+            let codes = codes_of(handlers.as_slice(), env, alloc)?;
+            lay_leaf(shape, codes, under, alloc, cells, copies)
+        }
+        Doc::Script(name, body) => {
+            let shape = Shape::Script(name.copy()?, false, body.copy()?);
+            lay_leaf(shape, no_codes(alloc)?, under, alloc, cells, copies)
+        }
+        Doc::Src(name, url) => {
+            let shape = Shape::Src(name.copy()?, false, url.copy()?);
+            lay_leaf(shape, no_codes(alloc)?, under, alloc, cells, copies)
+        }
+        Doc::Div(name, docs) => {
+            let shape = Shape::Div(name.copy()?);
+            lay_over(docs.as_slice(), shape, under, env, alloc, cells, copies)
+        }
+    }
+}
+
+/// Lays a node and, under it, documents: the node is put there first, and gets the numbers of its
+/// children once they were laid.
+#[cycle(laying)]
+pub(crate) fn lay_over<C: Ledger>(
+    docs: &[Doc],
+    shape: Shape,
+    under: Option<NodeId>,
+    env: ActId,
+    alloc: Global,
+    cells: &mut CowVec<NodeCell>,
+    copies: &mut Steps<C>,
+) -> Result<(), NoMemory>
+    ensures new { OnOk result (AreNew cells.old cells.new ((documents.lay_over shape (map (laid env) docs.now)).nodes (length cells.old) under)) }
+    ensures later { copies.old ≤ copies.new }
+    ensures copies { copies.new ≤ copies.old + 31 * (documents.lay_over shape (map (laid env) docs.now)).size }
+{
+    let n = NodeId(cells.len());
+    let first = shape.copy()?;
+    lay_leaf(first, no_codes(alloc)?, under, alloc, cells, copies)?;
+    let children = lay_each(docs, n, env, alloc, cells, copies)?;
+    let node = Node::of(shape, no_codes(alloc)?, children, under);
+    let Ok(()) = cells.set(n.0, new_cell(node), copies) else {
+        return Err(AllocError);
+    };
+    Ok(())
+}
+
+/// Lays documents one after another, each under the node, and gives the numbers of their topmost
+/// nodes.
+#[cycle(laying)]
+fn lay_each<C: Ledger>(
+    docs: &[Doc],
+    under: NodeId,
+    env: ActId,
+    alloc: Global,
+    cells: &mut CowVec<NodeCell>,
+    copies: &mut Steps<C>,
+) -> Result<Ids, NoMemory>
+    ensures new { OnOk result (AreNew cells.old cells.new (lay_all (map (laid env) docs.now) (length cells.old) (Some under))) }
+    ensures numbers { IfOk result (λ ids. ids ≡ numbers (map (laid env) docs.now) (length cells.old)) }
+    ensures later { copies.old ≤ copies.new }
+    ensures copies { copies.new ≤ copies.old + 31 * size_of (map (laid env) docs.now) }
+{
+    let mut ids = Vec::new(alloc);
+    for doc in docs {
+        ids.push(NodeId(cells.len()))?;
+        lay_doc(doc, Some(under), env, alloc, cells, copies)?;
+    }
+    Ids::from_vec(alloc, ids)
+}
+
+/// Puts a node without children behind the nodes.
+fn lay_leaf<C: Ledger>(
+    shape: Shape,
+    handlers: Codes,
+    under: Option<NodeId>,
+    alloc: Global,
+    cells: &mut CowVec<NodeCell>,
+    copies: &mut Steps<C>,
+) -> Result<(), NoMemory>
+    ensures new { OnOk result (AreNew cells.old cells.new ((documents.lay_leaf shape handlers).nodes (length cells.old) under)) }
+    ensures later { copies.old ≤ copies.new }
+    ensures copies { copies.new ≤ copies.old + 15 }
+{
+    let children = Ids::from_vec(alloc, Vec::new(alloc))?;
+    let node = Node::of(shape, handlers, children, under);
+    let Ok(()) = cells.push(new_cell(node), copies) else {
+        return Err(AllocError);
+    };
+    Ok(())
+}
+
+/// The cell of a node that has its own marks only.
+fn new_cell(node: Node) -> NodeCell
+    ensures node { result.node ≡ node }
+    ensures own { IsOwn node result.marks }
+{
+    let marks = Marks::of(&node);
+    NodeCell { node, marks }
+}
+
+/// No handlers.
+fn no_codes(alloc: Global) -> Result<Codes, NoMemory>
+    ensures { IfOk result (λ codes. codes ≡ []) }
+{
+    Codes::from_vec(alloc, Vec::new(alloc))
+}
+
+/// Handlers as functions made in an activation.
+fn codes_of(handlers: &[Handler], env: ActId, alloc: Global) -> Result<Codes, NoMemory>
+    ensures { IfOk result (λ codes. codes ≡ map (handler_code env) handlers.now) }
+{
+    let mut codes = Vec::new(alloc);
+    for handler in handlers {
+        codes.push(code_of(handler, env, alloc)?)?;
+    }
+    Codes::from_vec(alloc, codes)
+}
+
+/// A handler as a function made in an activation.
+fn code_of(handler: &Handler, env: ActId, alloc: Global) -> Result<Code, NoMemory>
+    ensures { IfOk result (λ code. code ≡ handler_code env handler.now) }
+{
+    let mut params = Vec::new(alloc);
+    params.push(handler.param.copy()?)?;
+    Ok(Code {
+        params: Names::from_vec(alloc, params)?,
+        body: handler.body.copy()?,
+        env,
+    })
+}
