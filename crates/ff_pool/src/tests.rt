@@ -1,5 +1,6 @@
 //! Pools of two levels: the lower one is level 0.
-ghost use Rattle.std.specs.Prelude.{◌≡◌, ◌<◌, false, IsTrue, OnOk, OnTrue, IfOk};
+ghost use Rattle.std.specs.Prelude.{◌≡◌, ◌<◌, false, IfOk};
+ghost use Rattle.std.specs.Bool.{OnTrue};
 ghost use Rattle.ff_value.specs.Spelled.{IsWellSpelledInput};
 ghost use Rattle.ff_reactive.specs.Worlds.{OfferOk, AreOffers};
 ghost use Rattle.ff_pool.specs.Pooled.{size};
@@ -143,8 +144,11 @@ fn parts_in_the_middle<C: Ledger, L: Ledger>(
 
 #[test]
 fn a_class_parts_in_the_middle_of_an_input(rt: HostRuntime) -> Result<(), Fail> {
-    let (told, low, high) =
-        parts_in_the_middle::<Brand, Brand>(rt.alloc(), Blank::new(1), Blank::new(1))?;
+    let (told, low, high) = parts_in_the_middle::<Brand, Brand>(
+        rt.alloc(),
+        Blank::new(1),
+        Blank::new(1),
+    )?;
     let want = [
         Some((2, 2, true, true)),
         Some((2, 2, false, false)),
@@ -190,8 +194,11 @@ fn drained_and_forked<C: Ledger, L: Ledger>(
 
 #[test]
 fn a_level_is_taken_alone_and_a_fork_keeps_its_own(rt: HostRuntime) -> Result<(), Fail> {
-    let (told, windows, spent) =
-        drained_and_forked::<Brand, Brand>(rt.alloc(), Blank::new(1), Blank::new(1))?;
+    let (told, windows, spent) = drained_and_forked::<Brand, Brand>(
+        rt.alloc(),
+        Blank::new(1),
+        Blank::new(1),
+    )?;
     assert!(rt; told == Some((1, 1, true, true)));
     assert!(rt; windows == [2, 0, 1, 2]);
     assert!(rt; !spent);
