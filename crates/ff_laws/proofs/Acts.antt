@@ -1,22 +1,13 @@
 -- Changes of variables and activations keep stores valid.
-use Rattle.std.proofs.Common.{◌≡◌, ℕ, zero, suc, ◌+◌, ◌-◌, ◌<◌, ◌≤◌, ◌⊎◌, inl, inr, ⊎_elim, Bool, true, false, cond, ltb, ltb-true, Option, Some, None, List, length, slice_set, is_some, option_and_then, arith, refl, sym, subst, ap, ◌∙◌, length-set}
-use Rattle.std.proofs.lemmas.Bool.{false≢true, cases_lt}
-use Rattle.std.proofs.lemmas.List.{get_or_past}
-use Rattle.std.proofs.lemmas.List.Elements.{All-weaker}
-use Rattle.std.proofs.lemmas.List.Sums.{sum_by-set}
-use Rattle.std.specs.Cmp.{Equal-is}
-use Rattle.std.specs.Cmp.Lexicographic.{slice_cmp, nat_list_cmp_total}
-use Rattle.std.specs.Ordering.{nat_cmp, eq_by_cmp}
+use Rattle.std.proofs.Common.{◌≡◌, ℕ, ◌<◌, ◌≤◌, ⊎_elim, true, Option, Some, None, List, length, slice_set, option_and_then, arith, refl, sym, subst, length-set}
 use Rattle.std.specs.FinMap as finmap
 use Rattle.ff_tree.specs.Spelled.{IsVar}
 use Rattle.ff_value.specs.declared.ids.ActId.{ActId}
 use Rattle.ff_value.specs.declared.value.Val.{Val}
-use Rattle.ff_value.specs.Spelled.{IsWellSpelledVal}
-use Rattle.ff_machine.specs.declared.limits.TheConstants.{MOST_VARS}
-use Rattle.ff_machine.specs.Windows.{Activation, Vars, act_at, vars_of, no_act, set_var, may_declare, declare_fault, count_vars, holder_within, holder, assigned, assign_fault}
+use Rattle.ff_machine.specs.Windows.{Activation, act_at, vars_of, no_act, set_var, may_declare, declare_fault, holder, assigned, assign_fault}
 use Rattle.ff_machine.specs.Stores.{Stores}
 use Rattle.ff_machine.specs.Reduction.{with_acts}
-use Rattle.ff_machine.specs.Alone.{IsAct, AreActs, IsPage}
+use Rattle.ff_machine.specs.Alone.{AreActs}
 use Rattle.ff_machine.specs.References.{Made, Grows, made, ValRefers, ActRefers}
 use Rattle.ff_machine.specs.Valid.{IsVal, IsStores}
 use Rattle.ff_laws.specs.Keeps.{Keeps}

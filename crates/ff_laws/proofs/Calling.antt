@@ -1,22 +1,14 @@
 -- An activation in which a function runs keeps stores valid.
-use Rattle.std.proofs.Common.{◌≡◌, ℕ, suc, ◌+◌, ◌<◌, ◌≤◌, ⊎_elim, Bool, true, false, cond, ltb-true, Some, None, List, [], ◌∷◌, ◌++◌, length, zip, All, arith, sym, subst, ◌∙◌, length-append}
-use Rattle.std.proofs.lemmas.Bool.{leb-true, and_parts}
+use Rattle.std.proofs.Common.{◌≡◌, ℕ, ◌+◌, ◌<◌, Some, None, List, [], ◌∷◌, ◌++◌, length, All, arith, length-append}
 use Rattle.std.proofs.lemmas.List.Elements.{All-weaker}
-use Rattle.std.proofs.lemmas.List.Sums.{sum_by_push}
-use Rattle.std.specs.List.{AllByRecursion}
-use Rattle.std.specs.Cmp.Lexicographic.{slice_cmp, nat_list_cmp_total}
-use Rattle.std.specs.Ordering.{nat_cmp}
-use Rattle.std.specs.FinMap as finmap
-use Rattle.ff_tree.specs.Spelled.{IsVar, AreParams}
+use Rattle.ff_tree.specs.Spelled.{AreParams}
 use Rattle.ff_value.specs.declared.ids.ActId.{ActId}
 use Rattle.ff_value.specs.Spelled.{IsWellSpelledVal}
 use Rattle.ff_value.specs.declared.value.Val.{Val}
-use Rattle.ff_machine.specs.declared.limits.TheConstants.{MOST_ACTS, MOST_VARS}
-use Rattle.ff_machine.specs.Windows.{Activation, Vars, with_act, call_fault, count_vars, no_act}
+use Rattle.ff_machine.specs.Windows.{Activation, with_act, call_fault, no_act}
 use Rattle.ff_machine.specs.Stores.{Stores}
 use Rattle.ff_machine.specs.Reduction.{with_acts}
-use Rattle.ff_machine.specs.Alone.{IsAct}
-use Rattle.ff_machine.specs.References.{Made, Grows, made, ActRefers}
+use Rattle.ff_machine.specs.References.{Grows, made, ActRefers}
 use Rattle.ff_machine.specs.Valid.{IsVal, IsStores}
 use Rattle.ff_laws.specs.Keeps.{Keeps}
 use Rattle.ff_laws.proofs.Growing as growing

@@ -1,6 +1,5 @@
 -- What is valid by counts of what was made is valid by greater ones.
-use Rattle.std.proofs.Common.{◌≡◌, ℕ, ◌<◌, ◌≤◌, List, All, arith}
-use Rattle.std.specs.Option.{ForSome}
+use Rattle.std.proofs.Common.{◌≡◌, ◌<◌, List, All, arith}
 use Rattle.std.proofs.lemmas.List.Elements.{All-weaker}
 use Rattle.ff_value.specs.declared.ids.ActId.{ActId}
 use Rattle.ff_value.specs.declared.value.Code.{Code}
@@ -14,11 +13,10 @@ use Rattle.ff_machine.specs.declared.records.Pending.{Pending}
 use Rattle.ff_machine.specs.declared.records.Shape.{Shape}
 use Rattle.ff_machine.specs.declared.records.Shape.TheVariants as shape
 use Rattle.ff_machine.specs.Nodes.{Node}
-use Rattle.ff_machine.specs.Windows.{Window, Page, Activation, page_at, act_at}
+use Rattle.ff_machine.specs.Windows.{Page, Activation, page_at, act_at}
 use Rattle.ff_machine.specs.Net.{Requests, asked}
 use Rattle.ff_machine.specs.Stores.{Stores, Pages}
 use Rattle.ff_machine.specs.State.{Task}
-use Rattle.ff_machine.specs.Alone.{IsPage, IsWindow}
 use Rattle.ff_machine.specs.References.{Made, Grows, made, CodeRefers, ValRefers, ShapeRefers, NodeRefers, PageRefers, ActRefers, DstRefers, RequestsRefer, TouchedRefer, StoresRefer}
 use Rattle.ff_machine.specs.Valid.{IsCode, IsVal, IsRunning, IsTask, valid}
 

@@ -1,14 +1,11 @@
 -- Loading, opening windows, and going to addresses keep stores valid.
-use Rattle.std.proofs.Common.{◌≡◌, ℕ, ◌+◌, ◌<◌, ◌≤◌, ⊎_elim, Bool, true, false, cond, eqb, Option, Some, None, List, [], ◌∷◌, ◌++◌, map, length, slice_set, All, refl, sym, ap, subst, ◌∙◌, arith, length-append, length-set, ltb-true}
-use Rattle.std.specs.Prelude.{nat_eq, nat_lt}
-use Rattle.std.specs.List.{AllByRecursion, IsDistinct, list_any}
+use Rattle.std.proofs.Common.{◌≡◌, ℕ, ◌+◌, ◌<◌, ◌≤◌, Bool, true, false, cond, Option, Some, None, List, [], ◌∷◌, ◌++◌, length, slice_set, All, refl, sym, ap, subst, arith, length-append, length-set, ltb-true}
+use Rattle.std.specs.Prelude.{nat_lt}
+use Rattle.std.specs.List.{AllByRecursion}
 use Rattle.std.specs.Option.{ForSome}
 use Rattle.std.specs.Str.{IsUtf8}
-use Rattle.std.specs.Cmp.{nat_eq_equiv}
-use Rattle.std.proofs.lemmas.Bool.{and_parts, or_from, ne_eqb, cases_lt}
-use Rattle.std.proofs.lemmas.List.{get_or_append_left, get_or_push}
-use Rattle.std.proofs.lemmas.List.Elements.{All-set, All-push, All-weaker, All-head, All-tail}
-use Rattle.std.proofs.lemmas.Map.Keys.{IsDistinct-push}
+use Rattle.std.proofs.lemmas.Bool.{and_parts}
+use Rattle.std.proofs.lemmas.List.Elements.{All-set, All-push}
 use Rattle.ff_reactive.specs.Turns.{Stepped}
 use Rattle.ff_name.specs.Address.{IsWellSpelled}
 use Rattle.ff_name.specs.declared.urls.Url.{Url}
@@ -32,7 +29,7 @@ use Rattle.ff_machine.proofs.Opened.{one_opened}
 use Rattle.ff_machine.proofs.WindowChanges.{windows_grow, still_own, at_own}
 use Rattle.ff_laws.proofs.Asking.{sent_valid}
 use Rattle.ff_laws.proofs.Starting.{kept, kept_twice, start_valid}
-use Rattle.ff_laws.proofs.Paging.{page_made, old_page, next_is}
+use Rattle.ff_laws.proofs.Paging.{page_made, next_is}
 
 -- a step that is made where there is room
 pub if_room : (s : Stores) (b : Bool) (step : Stepped Out Stores) → (b ≡ true → Keeps s step.after) → KeepsIfMade s (cond b (Some step) None)

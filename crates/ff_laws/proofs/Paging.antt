@@ -1,12 +1,12 @@
 -- A page more, with its nodes and its activation, keeps stores valid, whatever windows show it.
-use Rattle.std.proofs.Common.{◌≡◌, ℕ, zero, suc, ◌+◌, ◌-◌, ◌<◌, ◌≤◌, ⊎_elim, true, Some, None, List, [], ◌∷◌, ◌++◌, map, length, get_or, All, refl, sym, ap, subst, ◌∙◌, arith, length-append, ltb-true}
-use Rattle.std.specs.List.{AllByRecursion, IsDistinct}
+use Rattle.std.proofs.Common.{◌≡◌, ℕ, zero, suc, ◌+◌, ◌-◌, ◌<◌, ◌≤◌, ⊎_elim, true, Some, None, List, [], ◌∷◌, ◌++◌, map, length, get_or, All, refl, sym, ap, subst, ◌∙◌, arith, length-append}
+use Rattle.std.specs.List.{AllByRecursion}
 use Rattle.std.specs.Cmp.Lexicographic.{slice_cmp}
 use Rattle.std.specs.Ordering.{nat_cmp}
 use Rattle.std.specs.FinMap as finmap
 use Rattle.std.proofs.lemmas.Bool.{cases_lt, and_parts}
 use Rattle.std.proofs.lemmas.List.{get_or_append_left, get_or_push, get_or-append-add}
-use Rattle.std.proofs.lemmas.List.Elements.{All-nil, All-push, All-weaker}
+use Rattle.std.proofs.lemmas.List.Elements.{All-push, All-weaker}
 use Rattle.std.proofs.lemmas.List.Sums.{sum_by_push}
 use Rattle.ff_name.specs.Address.{IsWellSpelled}
 use Rattle.ff_name.specs.declared.urls.Url.{Url}
@@ -17,8 +17,6 @@ use Rattle.ff_value.specs.declared.ids.ActId.{ActId}
 use Rattle.ff_value.specs.declared.ids.NodeId.{NodeId}
 use Rattle.ff_value.specs.declared.ids.PageId.{PageId}
 use Rattle.ff_value.specs.declared.ids.WinId.{WinId}
-use Rattle.ff_value.specs.declared.value.Val.{Val}
-use Rattle.ff_machine.specs.declared.limits.TheConstants.{MOST_PAGES, MOST_ACTS}
 use Rattle.ff_machine.specs.declared.records.Shape.TheVariants as shape
 use Rattle.ff_machine.specs.Shapes.{page_of}
 use Rattle.ff_machine.specs.Nodes as nodes
@@ -28,7 +26,7 @@ use Rattle.ff_machine.specs.Windows as windows
 use Rattle.ff_machine.specs.Windows.{Windows, Window, Page, Activation, no_page, no_act, nth_page, new_page, act_at}
 use Rattle.ff_machine.specs.Stores as stores
 use Rattle.ff_machine.specs.Stores.{Stores}
-use Rattle.ff_machine.specs.Alone.{IsEntry, IsWindow, IsPage, IsAct, AreOpen, AreOwn, IsQueue}
+use Rattle.ff_machine.specs.Alone.{IsWindow, AreOpen, AreOwn}
 use Rattle.ff_machine.specs.References.{Made, Grows, made, ShapeRefers, PageRefers, ActRefers}
 use Rattle.ff_machine.specs.Valid.{IsStores}
 use Rattle.ff_laws.specs.Keeps.{Keeps}

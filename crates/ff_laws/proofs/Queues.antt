@@ -1,28 +1,18 @@
 -- A page whose queue changed keeps stores valid, where its entries came with started scripts.
-use Rattle.std.proofs.Common.{◌≡◌, ℕ, suc, ◌+◌, ◌<◌, ◌≤◌, false, eqb, List, [], ◌∷◌, ◌++◌, length, get_or, set, filter_map, sum_by, All, refl, sym, ap, subst, ◌∙◌, arith, length-set}
-use Rattle.std.specs.Prelude.{nat_eq}
-use Rattle.std.specs.List.{IsDistinct, list_any}
-use Rattle.std.proofs.lemmas.Bool.{ne_eqb, or_from}
-use Rattle.std.proofs.lemmas.Map.Keys.{IsDistinct-push}
-use Rattle.std.proofs.lemmas.List.Elements.{All-weaker, All-set, All-push, All-head, All-tail}
+use Rattle.std.proofs.Common.{◌≡◌, ◌+◌, ◌<◌, ◌≤◌, List, length, get_or, set, sum_by, refl, sym, subst, ◌∙◌, arith, length-set}
+use Rattle.std.proofs.lemmas.List.Elements.{All-set}
 use Rattle.std.proofs.lemmas.List.Sums.{sum_by-set, count_by-le-length, get_or-le-sum_by}
-use Rattle.std.specs.Cmp.{nat_eq_equiv}
-use Rattle.ff_tree.specs.declared.tree.Expr.{Expr}
-use Rattle.ff_tree.specs.Spelled.{IsWellSpelledExpr}
 use Rattle.ff_name.specs.Address.{IsWellSpelled}
 use Rattle.ff_value.specs.declared.ids.PageId.{PageId}
 use Rattle.ff_value.specs.declared.ids.NodeId.{NodeId}
 use Rattle.ff_value.specs.declared.ids.WinId.{WinId}
 use Rattle.ff_value.specs.declared.ids.ActId.{ActId}
-use Rattle.ff_machine.specs.declared.records.Entry.{Entry}
-use Rattle.ff_machine.specs.declared.records.Entry.TheVariants.{Ready, Wait}
 use Rattle.ff_machine.specs.Shapes.{is_started}
 use Rattle.ff_machine.specs.declared.records.Shape.TheVariants as shape
 use Rattle.ff_machine.specs.Nodes.{Node, node_at}
-use Rattle.ff_machine.specs.Windows as windows
-use Rattle.ff_machine.specs.Windows.{Page, Window, no_page, nth_page, page_at, set_page, is_slot, fill_entry}
+use Rattle.ff_machine.specs.Windows.{Page, no_page, nth_page, page_at, set_page}
 use Rattle.ff_machine.specs.Stores.{Stores}
-use Rattle.ff_machine.specs.Alone.{IsEntry, waiting, IsQueue, IsPage, IsWindow}
+use Rattle.ff_machine.specs.Alone.{IsQueue, IsPage}
 use Rattle.ff_machine.specs.References.{Grows, made, PageRefers}
 use Rattle.ff_machine.specs.Valid.{IsStores, count_started}
 use Rattle.ff_laws.specs.Keeps.{Keeps}

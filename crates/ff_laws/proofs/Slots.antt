@@ -1,21 +1,15 @@
 -- Slots that are filled, scripts that are taken out, and windows that close keep stores valid.
-use Rattle.std.proofs.Common.{◌≡◌, ℕ, ◌-◌, ◌<◌, ◌≤◌, Bool, true, false, cond, not, ◌==◌, List, [], ◌∷◌, length, drop, map, filter, filter_map, refl, arith, length-drop}
-use Rattle.std.specs.Prelude.{nat_eq}
-use Rattle.std.specs.List.{IsDistinct, AllByRecursion}
+use Rattle.std.proofs.Common.{◌≡◌, ℕ, ◌-◌, ◌<◌, length, drop, map, refl, arith, length-drop}
 use Rattle.std.proofs.lemmas.List.{length-map}
-use Rattle.std.proofs.lemmas.List.Elements.{All-map, All-drop, All-weaker, All-filter}
-use Rattle.std.proofs.lemmas.List.Sums.{length-filter, count_by-le-length}
 use Rattle.ff_tree.specs.declared.tree.Expr.{Expr}
 use Rattle.ff_tree.specs.Spelled.{IsWellSpelledExpr}
 use Rattle.ff_value.specs.declared.ids.PageId.{PageId}
 use Rattle.ff_value.specs.declared.ids.WinId.{WinId}
-use Rattle.ff_machine.specs.declared.records.Entry.{Entry}
-use Rattle.ff_machine.specs.declared.records.Entry.TheVariants.{Ready, Wait}
 use Rattle.ff_machine.specs.Windows as windows
 use Rattle.ff_machine.specs.Windows.{Page, page_at, is_slot, fill_entry, is_win}
 use Rattle.ff_machine.specs.Stores as stores
 use Rattle.ff_machine.specs.Stores.{Stores}
-use Rattle.ff_machine.specs.Alone.{IsEntry, waiting, IsQueue}
+use Rattle.ff_machine.specs.Alone.{IsQueue}
 use Rattle.ff_machine.specs.References.{made}
 use Rattle.ff_machine.specs.Valid.{IsStores}
 use Rattle.ff_machine.proofs.Queues.{with_filled, without_first}

@@ -3,7 +3,7 @@ use Rattle.std.proofs.Common.{◌≡◌, ℕ, zero, suc, ◌+◌, ◌-◌, ◌<�
 use Rattle.std.specs.Prelude.{nat_eq, ◌==◌}
 use Rattle.std.specs.List.{IsDistinct, AllByRecursion, list_any}
 use Rattle.std.proofs.lemmas.Bool.{cases_lt, or_parts, or_from, ne_eqb, eqb-true, eqb-false}
-use Rattle.std.proofs.lemmas.List.{append-nil, drop-set-add, set-append_left, set-append_right, drop-append-le, drop-drop, drop_all}
+use Rattle.std.proofs.lemmas.List.{drop-set-add, set-append_left, set-append_right, drop-append-le, drop-drop, drop_all}
 use Rattle.ff_tree.specs.declared.tree.Expr.{Expr}
 use Rattle.ff_machine.specs.declared.records.Entry.{Entry}
 use Rattle.ff_machine.specs.declared.records.Entry.TheVariants.{Ready, Wait}

@@ -1,5 +1,5 @@
 -- What each call makes of valid windows is valid.
-use Rattle.std.proofs.Common.{◌≡◌, ℕ, suc, ◌+◌, ◌<◌, ◌≤◌, false, Option, Some, None, List, [], ◌∷◌, ◌++◌, length, drop, map, sum_by, All, sym, ap, ◌∙◌, arith, length-append, length-drop, length-set}
+use Rattle.std.proofs.Common.{◌≡◌, ℕ, suc, ◌<◌, ◌≤◌, false, Option, Some, None, List, [], ◌∷◌, ◌++◌, length, drop, map, sum_by, All, sym, ap, ◌∙◌, arith, length-append, length-drop, length-set}
 use Rattle.std.proofs.lemmas.List.{length-map, set-get_or}
 use Rattle.ff_tree.specs.Spelled.{IsVar, AreParams, IsWellSpelledExpr}
 use Rattle.ff_tree.specs.declared.tree.Expr.{Expr}

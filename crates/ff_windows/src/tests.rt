@@ -6,6 +6,7 @@ ghost use Rattle.ff_windows.specs.Queues.{count_entries};
 use super::*;
 use ff_machine::MOST_SLOTS;
 use ff_name::{NoMemory, Text, Url};
+use ff_operators::Fail;
 use ff_shared::Shared;
 use ff_steps::Steps;
 use ff_tree::{Expr, Lit};
@@ -52,7 +53,8 @@ fn open<C: Ledger>(
     }
     match windows.add_window(Some(name), None, page, copies) {
         Ok(_) => Ok(true),
-        Err(_) => Ok(false),
+        Err(Fail::Fault(_)) => Ok(false),
+        Err(Fail::NoMemory) => Err(AllocError),
     }
 }
 

@@ -1,4 +1,4 @@
-use Rattle.std.proofs.Common.{◌≡◌, ℕ, get_or, sym, below_more, arith}
+use Rattle.std.proofs.Common.{◌≡◌, get_or, sym, below_more, arith}
 use Rattle.std.proofs.lemmas.Option.{get_or_from_slice_get}
 use Rattle.std.proofs.lemmas.List.Sums.{position_or_len_is}
 use Rattle.ff_machine.specs.declared.records.Entry.TheVariants.{Wait}

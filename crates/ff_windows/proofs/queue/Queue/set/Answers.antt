@@ -1,4 +1,4 @@
-use Rattle.std.proofs.Common.{◌+◌, ◌-◌, ◌++◌, length, drop, set, ap, ◌∙◌, arith}
+use Rattle.std.proofs.Common.{◌+◌, ◌-◌, ◌++◌, drop, set, ap, ◌∙◌, arith}
 use Rattle.ff_windows.proofs.Halves.{set_in_front, set_in_back}
 use Rattle.ff_windows.proofs.queue.Queue.set.Goals as goal
 

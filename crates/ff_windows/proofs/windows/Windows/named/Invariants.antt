@@ -1,8 +1,6 @@
-use Rattle.std.proofs.Common.{◌≡◌, ℕ, ◌<◌, false, get_or, is_some}
-use Rattle.std.specs.Prelude.{nat_eq}
-use Rattle.ff_value.specs.declared.ids.WinId.{WinId}
+use Rattle.std.proofs.Common.{◌≡◌, ℕ, ◌<◌, false, get_or}
 use Rattle.ff_machine.specs.Nodes.{is_name}
-use Rattle.ff_machine.specs.Windows.{is_win, window_at, page_at, first_ready}
+use Rattle.ff_machine.specs.Windows.{window_at}
 use Rattle.ff_windows.proofs.windows.Windows.named.Given as goal
 
 -- no open window before this one passes
