@@ -10,8 +10,9 @@ use Rattle.ff_core.specs.State.{IsState}
 use Rattle.ff_core.specs.Machine.{reactor}
 use Rattle.ff_core.proofs.Keeping as core
 use Rattle.ff_policy.specs.Assignment.{Assignment, IsAssignment}
-use Rattle.ff_route.proofs.Fits.{sees_ok, sees_below, level_ok, name_ok, names_differ}
+use Rattle.ff_route.proofs.Fits.{sees_below, level_ok, name_ok, names_differ}
 use Rattle.ff_trace.proofs.Fitting.{out_one_line}
+use Rattle.ff_levels.proofs.Inputs.{seen_input}
 use Rattle.ff_levels.specs.Levels.{levels, machine, IsInput}
 
 keeps : (order : Order) (fuel : ℕ) → KeepsOk (reactor fuel) (IsInput order) (IsState fuel) IsWellSpelledOut
@@ -30,7 +31,7 @@ lawful p valid = record {
   start_ok = (keeps p.order p.fuel).start_ok;
   handle_ok = λ s i ok input. machine_handle_ok (keeps p.order p.fuel) _ s i ok input;
   outputs_ok = λ s i ok input. machine_outputs_ok (keeps p.order p.fuel) _ s i ok input;
-  sees_ok = λ l i x input seen. sees_ok p (IsInput p.order) l i x input seen;
+  sees_ok = λ l i x input seen. seen_input p l i x input seen;
   sees_below = λ k l i k_is l_is input ordered. sees_below p k l i valid ordered;
   level_ok = λ o is. level_ok p o valid;
   print_ok = λ o is. out_one_line o is;

@@ -5,13 +5,13 @@ use Rattle.std.specs.String.{string_bytes}
 use Rattle.ff_session.specs.declared.work.Work.TheVariants.{Multi, Plain, Format}
 use Rattle.ff_run.specs.Words.{word_of, Asks, AreCommand}
 use Rattle.ff_run.specs.declared.words.Command.{Command}
-use Rattle.ff_run.specs.declared.words.Command.TheVariants.{Check, Trace}
+use Rattle.ff_run.specs.declared.words.Command.TheVariants.{Check, Upgrade, Trace}
 
 -- ---- no two commands have one word
 
 -- the command whose word begins with this byte
 abbrev command_at : ℕ → Command
-command_at b = cond (b == 99) Check (cond (b == 109) (Trace Multi) (cond (b == 112) (Trace Plain) (Trace Format)))
+command_at b = cond (b == 99) Check (cond (b == 109) (Trace Multi) (cond (b == 112) (Trace Plain) (cond (b == 117) Upgrade (Trace Format))))
 
 abbrev first_or_zero : List ℕ → ℕ
 first_or_zero [] = 0
@@ -19,6 +19,7 @@ first_or_zero (b ∷ bs) = b
 
 by_word : (c : Command) → command_at (first_or_zero (word_of c)) ≡ c
 by_word Check = refl
+by_word Upgrade = refl
 by_word (Trace Multi) = refl
 by_word (Trace Plain) = refl
 by_word (Trace Format) = refl

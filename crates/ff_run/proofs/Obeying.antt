@@ -49,6 +49,9 @@ late before now turns_before turns_now c p NoMemory run early = early
 late before now turns_before turns_now command.Check p Usage run early = run.listed
 late before now turns_before turns_now command.Check p (Policy fault) run early = run.listed
 late before now turns_before turns_now command.Check p ShelfFault run early = run.listed
+late before now turns_before turns_now command.Upgrade p Usage run early = run.written
+late before now turns_before turns_now command.Upgrade p (Policy fault) run early = run.written
+late before now turns_before turns_now command.Upgrade p ShelfFault run early = run.written
 late before now turns_before turns_now (command.Trace work) p Usage run early = run.written
 late before now turns_before turns_now (command.Trace work) p (Policy fault) run early = run.written
 late before now turns_before turns_now (command.Trace work) p ShelfFault run early = run.written
@@ -130,5 +133,7 @@ unfailing c name shelf shelf_now before now turns_before turns_now NoMemory obey
 unfailing c name shelf shelf_now before now turns_before turns_now ShelfFault obeys fine = fine.fetches obeys.1
 unfailing command.Check name shelf shelf_now before now turns_before turns_now ReadFault obeys fine = obeys.held.listed
 unfailing command.Check name shelf shelf_now before now turns_before turns_now WriteFault obeys fine = fine.writes obeys.held.listed.1
+unfailing command.Upgrade name shelf shelf_now before now turns_before turns_now ReadFault obeys fine = obeys.held.written
+unfailing command.Upgrade name shelf shelf_now before now turns_before turns_now WriteFault obeys fine = fine.writes obeys.held.written.1
 unfailing (command.Trace work) name shelf shelf_now before now turns_before turns_now ReadFault obeys fine = fine.reads (obeys.held.read_fault refl)
 unfailing (command.Trace work) name shelf shelf_now before now turns_before turns_now WriteFault obeys fine = fine.writes (obeys.held.write_fault refl)

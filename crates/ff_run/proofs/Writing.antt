@@ -1,4 +1,4 @@
--- What `check` writes, by what was put.
+-- What a command that writes one text alone puts.
 use Rattle.std.proofs.Common.{◌≡◌, ℕ, true, false, Option, Result, Ok, Err, List, [], refl, sym, ap, subst, ◌∙◌}
 use Rattle.std.specs.Result.{OnOk, OnErr}
 use Rattle.std.proofs.lemmas.Bool.{false≢true}
@@ -8,15 +8,14 @@ use Rattle.ff_io.specs.Pieces.{Piece, got_of, put_of, has_end}
 use Rattle.ff_io.specs.Port.{Told, Leaves, Passes}
 use Rattle.ff_io.specs.Whole.{Puts}
 use Rattle.ff_io.proofs.Joins.{got_of-then_put, has_end-then_put, Leaves-nil}
-use Rattle.ff_lattice.specs.Order.{Order}
 use Rattle.ff_status.specs.declared.status.Status.TheVariants.{Done, WriteFault}
-use Rattle.ff_run.specs.Checked.{OnlyPuts, IsListed, check_text}
+use Rattle.ff_run.specs.Checked.{OnlyPuts, IsPut}
 
 -- what a port tells
 abbrev pub told_of : Option (List Piece) → Option (List ℕ) → ℕ → ℕ → Told
 told_of log rest reads writes = record { log = log; rest = rest; read_faults = reads; write_faults = writes }
 
-module _ {T E : Type 0} (order : Order) (log_before log_now : Option (List Piece)) (rest : Option (List ℕ)) (reads before now : ℕ) (text : List ℕ) (text_is : text ≡ check_text order)
+module _ {T E : Type 0} (whole : List ℕ) (log_before log_now : Option (List Piece)) (rest : Option (List ℕ)) (reads before now : ℕ) (text : List ℕ) (text_is : text ≡ whole)
     (result : Result T E) (puts : Puts log_before log_now text result) where
   only_puts : (holds : List ℕ → Type 0) → holds (put_of puts.pieces) → OnlyPuts (told_of log_before rest reads before) (told_of log_now rest reads now) holds
   only_puts holds held =
@@ -33,11 +32,11 @@ module _ {T E : Type 0} (order : Order) (log_before log_now : Option (List Piece
         held = held;
       }
 
-  pub listed_all : (answer : T) → result ≡ Ok answer → IsListed order (told_of log_before rest reads before) (told_of log_now rest reads now) Done
-  listed_all answer ok = only_puts (λ put. put ≡ check_text order) (subst (λ r. OnOk r (put_of puts.pieces ≡ text)) ok puts.whole ∙ text_is)
+  pub put_whole : (answer : T) → result ≡ Ok answer → IsPut whole (told_of log_before rest reads before) (told_of log_now rest reads now) Done
+  put_whole answer ok = only_puts (λ put. put ≡ whole) (subst (λ r. OnOk r (put_of puts.pieces ≡ text)) ok puts.whole ∙ text_is)
 
-  pub listed_part : (error : E) → result ≡ Err error → HasCause before now result → IsListed order (told_of log_before rest reads before) (told_of log_now rest reads now) WriteFault
-  listed_part error failed cause = (
-    only_puts (λ put. IsProperFront put (check_text order)) (subst (IsProperFront (put_of puts.pieces)) text_is (subst (λ r. OnErr r (IsProperFront (put_of puts.pieces) text)) failed puts.part)),
+  pub put_part : (error : E) → result ≡ Err error → HasCause before now result → IsPut whole (told_of log_before rest reads before) (told_of log_now rest reads now) WriteFault
+  put_part error failed cause = (
+    only_puts (λ put. IsProperFront put whole) (subst (IsProperFront (put_of puts.pieces)) text_is (subst (λ r. OnErr r (IsProperFront (put_of puts.pieces) text)) failed puts.part)),
     subst (λ r. OnErr r (Rose before now)) failed cause.failed,
   )

@@ -24,12 +24,16 @@ pub record OnlyPuts (before now : Told) (holds : List ℕ → Type 0) : Type 0 w
   pub all_put : AllPut pieces
   pub held : holds (put_of pieces)
 
--- What was put, by the status: where there is no memory, nothing.
+-- What was put of a text that is written alone, by the status: where there is no memory, nothing.
+abbrev pub IsPut : List ℕ → Told → Told → Status → Type 0
+IsPut text before now Done = OnlyPuts before now (λ put. put ≡ text)
+IsPut text before now WriteFault = OnlyPuts before now (λ put. IsProperFront put text) × Rose before.write_faults now.write_faults
+IsPut text before now NoMemory = now ≡ before
+IsPut text before now other = ⊥
+
+-- the text for a policy's levels was put
 abbrev pub IsListed : Order → Told → Told → Status → Type 0
-IsListed order before now Done = OnlyPuts before now (λ put. put ≡ check_text order)
-IsListed order before now WriteFault = OnlyPuts before now (λ put. IsProperFront put (check_text order)) × Rose before.write_faults now.write_faults
-IsListed order before now NoMemory = now ≡ before
-IsListed order before now other = ⊥
+IsListed order before now status = IsPut (check_text order) before now status
 
 -- What `check` does to its port: no turn is made.
 pub record Checks (order : Order) (before now : Told) (turns_before turns_now : ℕ) (status : Status) : Type 0 where

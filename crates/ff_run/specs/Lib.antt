@@ -2,4 +2,5 @@ pub mod Words
 pub mod Policies
 pub mod Status
 pub mod Checked
+pub mod Upgraded
 pub mod Run

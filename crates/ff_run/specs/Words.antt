@@ -3,11 +3,12 @@ use Rattle.std.specs.Prelude.{◌≡◌, ◌≢◌, ℕ, List, [], ◌∷◌, ma
 use Rattle.std.proofs.Common.{Global}
 use Rattle.ff_session.specs.declared.work.Work.TheVariants.{Multi, Plain, Format}
 use Rattle.ff_run.specs.declared.words.Command.{Command}
-use Rattle.ff_run.specs.declared.words.Command.TheVariants.{Check, Trace}
+use Rattle.ff_run.specs.declared.words.Command.TheVariants.{Check, Upgrade, Trace}
 
 -- the word of a command
 abbrev pub word_of : Command → List ℕ
 word_of Check = codes "check"
+word_of Upgrade = codes "upgrade"
 word_of (Trace Multi) = codes "multi"
 word_of (Trace Plain) = codes "plain"
 word_of (Trace Format) = codes "fmt"

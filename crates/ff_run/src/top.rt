@@ -13,6 +13,7 @@ ghost use Rattle.ff_run.specs.declared.words.Command.{Command};
 
 use crate::check::check;
 use crate::policies::find_policy;
+use crate::upgrade::upgrade;
 use crate::words::{Command, command_of};
 use ff_io::{Port, Shelf, Sink};
 use ff_policy::Policy;
@@ -28,7 +29,8 @@ use std::sync::ledger::Ledger;
 /// each level, and writes the lines that are let out. `plain POLICY` runs one browser over it, and
 /// writes all its lines. `fmt POLICY` writes each input of it in its canonical form. These three
 /// write the text of the lines that were got before they read further. `check POLICY` reads no
-/// trace, and writes for each level which levels it sees. POLICY is the name of a file on the
+/// trace, and writes for each level which levels it sees; `upgrade POLICY` reads none either, and
+/// writes the policy as version 2. POLICY is the name of a file on the
 /// shelf, of which the first 65,537 bytes count, or `-` for the built-in policy. Every other list
 /// of words is `Usage`.
 ///
@@ -157,6 +159,7 @@ fn perform<P: Port, C: Ledger, L: Ledger>(
     let lattice = policy.lattice();
     match command {
         Command::Check => check(alloc, lattice, port),
+        Command::Upgrade => upgrade(alloc, policy, port),
         Command::Trace(work) => walk(alloc, work, policy, port, copies, turns),
     }
 }

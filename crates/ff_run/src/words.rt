@@ -9,6 +9,8 @@ use ff_session::Work;
 pub enum Command {
     /// The levels of the policy are written.
     Check,
+    /// The policy is written as version 2.
+    Upgrade,
     /// The inputs of a trace are taken.
     Trace(Work),
 }
@@ -22,6 +24,7 @@ impl Command {
             "multi" => Some(Command::Trace(Work::Multi)),
             "plain" => Some(Command::Trace(Work::Plain)),
             "check" => Some(Command::Check),
+            "upgrade" => Some(Command::Upgrade),
             "fmt" => Some(Command::Trace(Work::Format)),
             _ => None,
         }

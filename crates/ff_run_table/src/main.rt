@@ -143,6 +143,33 @@ fn show_commands(rt: &HostRuntime) -> io::Result<()> {
     Ok(())
 }
 
+/// L is to know that a window opens, and not where.
+const HIDDEN: &str =
+    r#"{"version":2,"levels":["L","H"],"below":[["L","H"]],"ui":"H","domain":"L","kinds":{"open":{"presence":"L","content":"H"}}}"#;
+
+/// A policy of version 1, and what it is as version 2.
+const OLD: &str =
+    r#"{"version":1,"levels":["L","H"],"below":[["L","H"]],"ui":"H","domain":"L","kinds":{"open":"H"}}"#;
+const NEW: &str =
+    r#"{"below":[["L","H"]],"domain":"L","domains":{},"fuel":10000,"kinds":{"click":{"content":"L","presence":"L"},"close":{"content":"L","presence":"L"},"go":{"content":"L","presence":"L"},"link":{"content":"L","presence":"L"},"open":{"content":"H","presence":"H"},"reply":{"content":"L","presence":"L"},"type":{"content":"L","presence":"L"}},"levels":["L","H"],"ui":"H","version":2}"#;
+
+fn show_masks_and_upgrades(rt: &HostRuntime) -> io::Result<()> {
+    let rows: [(&[&str], &str); 8] = [
+        (&["multi", "p.json"], HIDDEN),
+        (&["plain", "p.json"], HIDDEN),
+        (&["multi", "p.json"], OLD),
+        (&["multi", "p.json"], NEW),
+        (&["upgrade", "-"], ""),
+        (&["upgrade", "p.json"], OLD),
+        (&["upgrade", "p.json"], NEW),
+        (&["upgrade", "none.json"], ""),
+    ];
+    for (line, file) in rows {
+        show(rt, line, file, "open http://a.com/\n")?;
+    }
+    Ok(())
+}
+
 fn show_refusals(rt: &HostRuntime) -> io::Result<()> {
     let rows: [(&[&str], &str); 8] = [
         (&[], ""),
@@ -213,6 +240,7 @@ fn show_failing_writes(rt: &HostRuntime) -> io::Result<()> {
 
 fn main(rt: HostRuntime) -> io::Result<()> {
     show_commands(&rt)?;
+    show_masks_and_upgrades(&rt)?;
     show_refusals(&rt)?;
     show_failing_reads(&rt)?;
     show_failing_writes(&rt)

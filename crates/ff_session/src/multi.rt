@@ -115,7 +115,7 @@ fn feed_level<C: Ledger, L: Ledger>(
     ensures later_copies { copies.old ≤ copies.new }
     ensures most { turns.new ≤ turns.old + (handle_seen (machine policy.now) browser.old (route.sees policy.now level.0 input.now)).turns }
 {
-    match sees(policy, level, input)? {
+    match sees(alloc, policy, level, input)? {
         Some(seen) => {
             let outs = handle(alloc, browser, &seen, copies, turns)?;
             print_level(policy, level, outs.as_slice(), text)

@@ -11,7 +11,7 @@ pub record EndsLine (line : List ℕ) : Type 0 where
 
 pub ends : (s : Status) → s ≢ status.Done → EndsLine (error_line s)
 ends status.Done other = absurd (other refl)
-ends status.Usage other = record { words = codes "ffox: usage: multi POLICY [SLICE] | plain POLICY | check POLICY | fmt POLICY | gen START N"; ended = refl }
+ends status.Usage other = record { words = codes "ffox: usage: multi POLICY [SLICE] | plain POLICY | check POLICY | fmt POLICY | gen START N | upgrade POLICY"; ended = refl }
 ends (status.Policy fault) other = record { words = codes "ffox: policy: " ++ policy_words fault; ended = sym (append_assoc (codes "ffox: policy: ") (policy_words fault) (10 ∷ [])) }
 ends (status.Trace k fault) other =
     let place : List ℕ = (codes "ffox: line " ++ nat_text k) ++ codes ": " in

@@ -106,7 +106,7 @@ trace_line k fault = (codes "ffox: line " ++ nat_text k) ++ (codes ": " ++ (trac
 -- the line on the error stream; `Done` has none
 abbrev pub error_line : Status → List ℕ
 error_line status.Done = []
-error_line status.Usage = codes "ffox: usage: multi POLICY [SLICE] | plain POLICY | check POLICY | fmt POLICY | gen START N\n"
+error_line status.Usage = codes "ffox: usage: multi POLICY [SLICE] | plain POLICY | check POLICY | fmt POLICY | gen START N | upgrade POLICY\n"
 error_line (status.Policy fault) = policy_line fault
 error_line (status.Trace k fault) = trace_line k fault
 error_line status.ReadFault = codes "ffox: read fault\n"

@@ -14,7 +14,7 @@ use ff_trace::LineFault;
 
 /// The line of a call that the program doesn't understand.
 const USAGE: &[u8] =
-    b"ffox: usage: multi POLICY [SLICE] | plain POLICY | check POLICY | fmt POLICY | gen START N\n";
+    b"ffox: usage: multi POLICY [SLICE] | plain POLICY | check POLICY | fmt POLICY | gen START N | upgrade POLICY\n";
 
 /// Puts the line of the status.
 ///

@@ -1,4 +1,4 @@
-//! The program `ffox`: `multi POLICY`, `plain POLICY`, `check POLICY` and `fmt POLICY`, as
+//! The program `ffox`: `multi POLICY`, `plain POLICY`, `check POLICY`, `fmt POLICY` and `upgrade POLICY`, as
 //! `ff_run::run` says. A trace is read from standard input, what is written goes to standard
 //! output, what is wrong to standard error, and policies are files of the working folder. How it
 //! ended is its exit status, as `Status` says.
