@@ -89,12 +89,13 @@ module _ {I O S : Type 0} (r : Reactor I O S) (most : ℕ) where
       let rest = settle r most begun.after in
       let end = joined (plain_from (machine_of r most) rest.after is) in
       let still = settle_still s is_quiet in
-      let tail : List O → Copy I O S = λ ps. record { state = after_from (machine_of r most) rest.after is; inbox = []; outputs = ps } in
-      (ap (λ h. done_from os h (i ∷ is)) still
-      ∙ ap tail (ap (λ ps. ps ++ ((begun.outputs ++ rest.outputs) ++ end)) (append-nil os)
-      ∙ sym (append_assoc os (begun.outputs ++ rest.outputs) end)
-      ∙ ap (λ ps. ps ++ end) (sym (append_assoc os begun.outputs rest.outputs))),
-      ap (λ h. left_from h (i ∷ is)) still ∙ zero-add (rest.turns + turns_from (machine_of r most) rest.after is))
+      let tail : List O → Copy I O S = λ ps. record { state = after_from (machine_of r most) rest.after is; inbox = []; outputs = ps } in (
+        ap (λ h. done_from os h (i ∷ is)) still
+            ∙ ap tail (ap (λ ps. ps ++ ((begun.outputs ++ rest.outputs) ++ end)) (append-nil os)
+            ∙ sym (append_assoc os (begun.outputs ++ rest.outputs) end)
+            ∙ ap (λ ps. ps ++ end) (sym (append_assoc os begun.outputs rest.outputs))),
+        ap (λ h. left_from h (i ∷ is)) still ∙ zero-add (rest.turns + turns_from (machine_of r most) rest.after is),
+      )
 
   -- a copy that makes a turn
   turned_same : (s : S) (is : List I) (os : List O) → r.quiet s ≡ false → r.quiet (settle r most s).after ≡ true
@@ -105,9 +106,10 @@ module _ {I O S : Type 0} (r : Reactor I O S) (most : ℕ) where
       let rest = settle r most made.after in
       let end = joined (plain_from (machine_of r most) rest.after is) in
       let next = settle_next s busy ends in
-      let tail : List O → Copy I O S = λ ps. record { state = after_from (machine_of r most) rest.after is; inbox = []; outputs = ps } in
-      (ap (λ h. done_from os h is) next ∙ ap tail (ap (λ ps. ps ++ end) (sym (append_assoc os made.outputs rest.outputs))),
-      ap (λ h. left_from h is) next ∙ (omega arith))
+      let tail : List O → Copy I O S = λ ps. record { state = after_from (machine_of r most) rest.after is; inbox = []; outputs = ps } in (
+        ap (λ h. done_from os h is) next ∙ ap tail (ap (λ ps. ps ++ end) (sym (append_assoc os made.outputs rest.outputs))),
+        ap (λ h. left_from h is) next ∙ (omega arith),
+      )
 
   -- one step leaves the end as it is, and the turns that are left are as many less as it counts
   step_parts : (s : S) (is : List I) (os : List O) → r.quiet (settle r most s).after ≡ true
@@ -149,9 +151,9 @@ module _ {I O S : Type 0} (r : Reactor I O S) (most : ℕ) where
       let last = m.handle (after_from m h.after c.inbox) i in
       let so_far = joined (plain_from m h.after c.inbox) in
       let all : joined (plain_from m h.after (c.inbox ++ i ∷ [])) ≡ so_far ++ last.outputs =
-          ap joined (plain_from-append m h.after c.inbox (i ∷ []))
-          ∙ flat_map-append (λ xs. xs) (plain_from m h.after c.inbox) (last.outputs ∷ [])
-          ∙ ap (λ os. so_far ++ os) (append-nil last.outputs) in
+      ap joined (plain_from-append m h.after c.inbox (i ∷ []))
+      ∙ flat_map-append (λ xs. xs) (plain_from m h.after c.inbox) (last.outputs ∷ [])
+      ∙ ap (λ os. so_far ++ os) (append-nil last.outputs) in
       let both : S → List O → Copy I O S = λ s os. record { state = s; inbox = []; outputs = os } in
       ap₂ both (after_from-append m h.after c.inbox (i ∷ []))
       (ap (λ os. (c.outputs ++ h.outputs) ++ os) all ∙ sym (append_assoc (c.outputs ++ h.outputs) so_far last.outputs))
@@ -249,12 +251,14 @@ module _ {I O S : Type 0} {r : Reactor I O S} {most : ℕ} {InputOk : I → Type
   pub finish_ok : (c : Copy I O S) → IsCopy r most InputOk StateOk c → IsCopy r most InputOk StateOk (finish r most c) × (has_work r (finish r most c) ≡ false)
   unfolding finish
   finish_ok c is =
-      let end = after_from_ok (settle r most c.state).after c.inbox (settle_state_ok most c.state is.state_ok) is.ends is.inbox_ok in
-      (record {
-        state_ok = end.0;
-        ends = ap (λ h. r.quiet h.after) (settle_quiet r most (after_from (machine_of r most) (settle r most c.state).after c.inbox) end.1) ∙ end.1;
-        inbox_ok = All-nil InputOk;
-      }, ap (λ b. not b || false) end.1)
+      let end = after_from_ok (settle r most c.state).after c.inbox (settle_state_ok most c.state is.state_ok) is.ends is.inbox_ok in (
+        record {
+          state_ok = end.0;
+          ends = ap (λ h. r.quiet h.after) (settle_quiet r most (after_from (machine_of r most) (settle r most c.state).after c.inbox) end.1) ∙ end.1;
+          inbox_ok = All-nil InputOk;
+        },
+        ap (λ b. not b || false) end.1,
+      )
 
 -- a reactor whose turns spend fuel ends each input in one turn more than it brings
 pub ends_by_fuel : {I O S : Type 0} {r : Reactor I O S} {InputOk : I → Type 0} {StateOk : S → Type 0} {OutputOk : O → Type 0} → KeepsOk r InputOk StateOk OutputOk

@@ -97,9 +97,10 @@ module _ {I O S : Type 0} (r : Reactor I O S) (most : ℕ) where
     classes = λ k l in_k in_l.
         let old = at.classes k l in_k in_l in
         let more = alike_turn k l es j in
-        let same = leaders-turn r w j in
-        (λ e. more.1 (old.0 (ap (λ ls. leader ls k) (sym same) ∙ e ∙ ap (λ ls. leader ls l) same)),
-        λ e. ap (λ ls. leader ls k) same ∙ old.1 (more.0 e) ∙ ap (λ ls. leader ls l) (sym same));
+        let same = leaders-turn r w j in (
+          λ e. more.1 (old.0 (ap (λ ls. leader ls k) (sym same) ∙ e ∙ ap (λ ls. leader ls l) same)),
+          λ e. ap (λ ls. leader ls k) same ∙ old.1 (more.0 e) ∙ ap (λ ls. leader ls l) (sym same),
+        );
   }
     where
       from : (b : Bool) (c : Copy I O S) → r.quiet (settle r most c.state).after ≡ true → finish r most (cond b (step_copy r c) c) ≡ finish r most c
@@ -129,9 +130,10 @@ module _ {I O S : Type 0} (r : Reactor I O S) (most : ℕ) where
         let old = at.classes k l in_k in_l in
         let more = alike_arrive k l es offers in
         let up = lead k in_k in
-        let down = lead l in_l in
-        (λ e. let parts = together_parts same decides w.leaders offers k l (new_leader_apart same decides w.leaders offers k l (sym up ∙ e ∙ down)) in more.1 (old.0 parts.0, parts.1),
-        λ e. let parts = more.0 e in up ∙ new_leader_same same decides w.leaders offers k l (together same decides w.leaders offers k l (old.1 parts.0) parts.1) ∙ sym down);
+        let down = lead l in_l in (
+          λ e. let parts = together_parts same decides w.leaders offers k l (new_leader_apart same decides w.leaders offers k l (sym up ∙ e ∙ down)) in more.1 (old.0 parts.0, parts.1),
+          λ e. let parts = more.0 e in up ∙ new_leader_same same decides w.leaders offers k l (together same decides w.leaders offers k l (old.1 parts.0) parts.1) ∙ sym down,
+        );
   }
     where
       parted : (world_arrive r same w offers).leaders ≡ split same w.leaders offers

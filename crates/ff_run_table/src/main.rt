@@ -150,6 +150,7 @@ const HIDDEN: &str =
 /// A policy of version 1, and what it is as version 2.
 const OLD: &str =
     r#"{"version":1,"levels":["L","H"],"below":[["L","H"]],"ui":"H","domain":"L","kinds":{"open":"H"}}"#;
+
 const NEW: &str =
     r#"{"below":[["L","H"]],"domain":"L","domains":{},"fuel":10000,"kinds":{"click":{"content":"L","presence":"L"},"close":{"content":"L","presence":"L"},"go":{"content":"L","presence":"L"},"link":{"content":"L","presence":"L"},"open":{"content":"H","presence":"H"},"reply":{"content":"L","presence":"L"},"type":{"content":"L","presence":"L"}},"levels":["L","H"],"ui":"H","version":2}"#;
 

@@ -7,10 +7,11 @@ use Rattle.ff_session.proofs.multi.new_browsers.Goals as goal
 one_more : (fuel used n : ℕ) (states longer : List State) (s : State) → used ≡ fuel → s ≡ empty used → longer ≡ states ++ s ∷ [] → length states ≡ n → All (λ t. t ≡ empty fuel) states
     → (length longer ≡ n + 1) × All (λ t. t ≡ empty fuel) longer
 one_more fuel used n states longer s same fresh is count all =
-    let one : length (states ++ s ∷ []) ≡ n + 1 = omega (arith, length-append states (s ∷ [])) in
-    (ap length is ∙ one,
-    subst (All (λ t. t ≡ empty fuel)) (sym is)
-    (All-append (λ t. t ≡ empty fuel) states (s ∷ []) all (All-cons (λ t. t ≡ empty fuel) s [] (fresh ∙ ap empty same) (All-nil (λ t. t ≡ empty fuel)))))
+    let one : length (states ++ s ∷ []) ≡ n + 1 = omega (arith, length-append states (s ∷ [])) in (
+      ap length is ∙ one,
+      subst (All (λ t. t ≡ empty fuel)) (sym is)
+          (All-append (λ t. t ≡ empty fuel) states (s ∷ []) all (All-cons (λ t. t ≡ empty fuel) s [] (fresh ∙ ap empty same) (All-nil (λ t. t ≡ empty fuel)))),
+    )
 
 pub loop-level-preserved : goal.loop-level-preserved
 loop-level-preserved c =
