@@ -11,3 +11,5 @@ pub mod MadeCells
 pub mod NewCells
 pub mod RaisedCells
 pub mod Rooms
+pub mod Heights
+pub mod JoinedCells
