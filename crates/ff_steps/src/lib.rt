@@ -77,36 +77,3 @@ impl<L: Ledger> Steps<L> {
         self.book.add(&mut self.share, 1);
     }
 }
-
-#[cfg(test)]
-mod tests {
-    use super::*;
-    use std::marker::Brand;
-
-    fn counted_to_three<L: Ledger>(blank: Blank) -> Steps<L>
-        requires name { blank.name ≡ L.name }
-        requires parts { blank.parts ≡ L.parts }
-        requires some { 0 < blank.parts }
-        ensures { result ≡ 3 }
-    {
-        let mut steps = Steps::new(blank);
-        steps.tick();
-        steps.tick();
-        steps.tick();
-        steps
-    }
-
-    fn bytes_of_a_counter<L: Ledger>(blank: Blank) -> usize
-        requires name { blank.name ≡ L.name }
-        requires parts { blank.parts ≡ L.parts }
-        requires some { 0 < blank.parts }
-    {
-        let _steps: Steps<L> = counted_to_three(blank);
-        size_of::<Steps<L>>()
-    }
-
-    #[test]
-    fn a_counter_takes_no_bytes(rt: HostRuntime) {
-        assert_eq!(rt; bytes_of_a_counter::<Brand>(Blank::new(1)), 0);
-    }
-}
