@@ -22,6 +22,3 @@ mod leaf;
 
 pub use cell::{Cell, NoMemory};
 pub use cow_vec::{CowVec, MOST_CELLS, PushFail};
-
-#[cfg(test)]
-mod tests;
