@@ -33,6 +33,3 @@ pub use outside::{Failed, Port, Shelf, Sink};
 pub use std_err::StdErr;
 pub use std_port::StdPort;
 pub use whole::put_all;
-
-#[cfg(test)]
-mod tests;
