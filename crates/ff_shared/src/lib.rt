@@ -11,8 +11,6 @@
 mod list;
 mod owned;
 mod single;
-#[cfg(test)]
-mod tests;
 
 pub use list::SharedList;
 pub use owned::OwnedList;
