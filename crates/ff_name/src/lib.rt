@@ -7,8 +7,6 @@ mod levels;
 mod limits;
 mod names;
 mod short;
-#[cfg(test)]
-mod tests;
 mod texts;
 mod urls;
 mod worded;
