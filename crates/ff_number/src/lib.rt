@@ -4,8 +4,6 @@
 mod digits;
 mod printing;
 mod reading;
-#[cfg(test)]
-mod tests;
 
 pub use digits::Digits;
 pub use printing::{print_nat, print_num};
