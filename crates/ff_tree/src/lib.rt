@@ -4,8 +4,6 @@
 mod limits;
 mod op;
 mod same;
-#[cfg(test)]
-mod tests;
 mod tree;
 mod weigh;
 
