@@ -10,8 +10,6 @@ mod input;
 mod kind;
 mod output;
 mod reply;
-#[cfg(test)]
-mod tests;
 mod value;
 mod weigh;
 
