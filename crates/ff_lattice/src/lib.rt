@@ -8,8 +8,6 @@ mod level_set;
 mod names;
 mod pair;
 mod rows;
-#[cfg(test)]
-mod tests;
 
 pub use fault::LatticeFault;
 pub use ff_name::NoMemory;
