@@ -16,8 +16,6 @@ mod plan;
 mod policy;
 mod printing;
 mod shapes;
-#[cfg(test)]
-mod tests;
 mod version;
 
 pub use fault::PolicyFault;
