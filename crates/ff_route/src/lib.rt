@@ -3,8 +3,6 @@
 
 mod law;
 mod route;
-#[cfg(test)]
-mod tests;
 
 pub use ff_name::NoMemory;
 pub use law::{
