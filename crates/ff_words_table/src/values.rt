@@ -280,10 +280,10 @@ fn is_reply(alloc: Global, request: u32, input: &Input) -> Result<bool, NoMemory
 fn show_reply(rt: &HostRuntime) -> io::Result<()> {
     let input = reply(rt.alloc(), 0)?;
     let same = input_is_copied(&input)?;
-    println!(rt; "tagged reply to request 0: {same}")?;
+    println!(rt; "tagged reply to the first request: {same}")?;
     for request in [0, 1] {
         let same = is_reply(rt.alloc(), request, &input)?;
-        println!(rt; "the one to request {request} equals it: {same}")?;
+        println!(rt; "the one to the request at {request} equals it: {same}")?;
     }
     Ok(())
 }
