@@ -81,7 +81,7 @@ fn one_window<C: Ledger>(alloc: Global, copies: &mut Steps<C>) -> Result<Windows
 }
 
 /// Makes a page of a window, at the blank address.
-#[tactic(auto, using(ff_windows::proofs::Counted::page_counted))]
+#[tactic(auto, using(crate::proofs::Counted::page_counted))]
 fn add<C: Ledger>(
     windows: &mut Windows,
     win: WinId,
@@ -119,7 +119,7 @@ fn open<C: Ledger>(
     }
 }
 
-#[tactic(auto, using(ff_windows::proofs::Counted::entry_counted))]
+#[tactic(auto, using(crate::proofs::Counted::entry_counted))]
 fn push<C: Ledger>(
     windows: &mut Windows,
     page: PageId,
@@ -136,7 +136,7 @@ fn push<C: Ledger>(
     windows.push_ready(page, body, copies)
 }
 
-#[tactic(auto, using(ff_windows::proofs::Counted::slot_counted))]
+#[tactic(auto, using(crate::proofs::Counted::slot_counted))]
 fn wait<C: Ledger>(
     windows: &mut Windows,
     page: PageId,

@@ -1,16 +1,7 @@
--- How many entries all queues have after a change, and a script that is well spelled: for the tests.
-use Rattle.std.proofs.Common.{◌≡◌, ℕ, suc, ◌+◌, ◌<◌, [], ◌∷◌, ◌++◌, length, sym, ap, subst, ◌∙◌, arith, length-append}
+-- How many entries all queues have after a change.
+use Rattle.std.proofs.Common.{◌≡◌, ℕ, suc, ◌+◌, ◌<◌, [], ◌∷◌, ◌++◌, length, arith, length-append}
 use Rattle.std.proofs.lemmas.List.Sums.{sum_by-set, sum_by_push}
 use Rattle.ff_name.specs.declared.urls.Url.{Url}
-use Rattle.ff_tree.specs.Spelled.{IsWellSpelledExpr, doc_depth, expr_depth, handler_depth, doc_nesting, expr_nesting, handler_nesting}
-use Rattle.ff_tree.specs.declared.tree.Doc.{Doc}
-use Rattle.ff_tree.specs.declared.tree.Doc.TheOpen.{Expr-F}
-use Rattle.ff_tree.specs.declared.tree.Doc.TheFolds.{map-Expr, fold_out-Expr}
-use Rattle.ff_tree.specs.declared.tree.Expr.{Expr}
-use Rattle.ff_tree.specs.declared.tree.Expr.TheVariants as expr
-use Rattle.ff_tree.specs.declared.tree.Handler.{Handler}
-use Rattle.ff_tree.specs.declared.tree.Lit.TheVariants as lit
-use Rattle.ff_tree.proofs.Levels.{IsSpelledExpr-Lit}
 use Rattle.ff_value.specs.declared.ids.NodeId.{NodeId}
 use Rattle.ff_value.specs.declared.ids.PageId.{PageId}
 use Rattle.ff_value.specs.declared.ids.WinId.{WinId}
@@ -19,15 +10,6 @@ use Rattle.ff_machine.specs.declared.records.Entry.TheVariants.{Wait}
 use Rattle.ff_machine.specs.Windows as windows
 use Rattle.ff_machine.specs.Windows.{Windows, Page, no_page, page_at, new_page}
 use Rattle.ff_windows.specs.Queues.{count_entries}
-
-null_depth : expr_depth (expr.Lit lit.Null) ≡ 0
-null_depth =
-    fold_out-Expr ℕ ℕ ℕ doc_nesting expr_nesting handler_nesting (expr.Lit lit.Null)
-    ∙ ap (λ (l : Expr-F Doc Expr Handler). expr_nesting (map-Expr Doc Expr Handler ℕ ℕ ℕ doc_depth expr_depth handler_depth l)) (expr.outs-Lit lit.Null)
-
--- `null` is well spelled
-pub null_spelled : IsWellSpelledExpr (expr.Lit lit.Null)
-null_spelled = record { spelled = subst (λ (T : Type 0). T) (sym (IsSpelledExpr-Lit lit.Null)) tt; shallow = omega (arith, null_depth) }
 
 -- a page more has no entries
 pub page_counted : (w : Windows) (u : Url) (win : WinId) (root : NodeId) → count_entries (windows.with_page w u win root) ≡ count_entries w
