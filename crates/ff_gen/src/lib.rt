@@ -5,7 +5,5 @@
 #![tactic(auto)]
 
 mod generator;
-#[cfg(test)]
-mod tests;
 
 pub use generator::{MOST_LINES, NoMemory, workload};

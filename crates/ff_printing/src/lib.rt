@@ -6,8 +6,6 @@ mod print_reply;
 mod print_seen;
 mod print_tree;
 mod printer;
-#[cfg(test)]
-mod tests;
 
 pub use ff_name::NoMemory;
 pub use print::{print_doc, print_expr, print_pairs, print_resp, print_shown};

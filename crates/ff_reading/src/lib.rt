@@ -6,8 +6,6 @@ mod law;
 mod leaves;
 mod reading;
 mod shapes;
-#[cfg(test)]
-mod tests;
 mod words;
 
 pub use calls::{read_doc, read_expr, read_resp};

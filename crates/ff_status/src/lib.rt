@@ -3,8 +3,6 @@
 
 mod putting;
 mod status;
-#[cfg(test)]
-mod tests;
 mod words;
 
 pub use status::{Status, TraceFault};

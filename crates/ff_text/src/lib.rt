@@ -11,8 +11,6 @@ mod printing;
 mod reader;
 mod reading;
 mod rows;
-#[cfg(test)]
-mod tests;
 
 pub use escaped::{Escaped, MOST_ESCAPED_BYTES, is_plain};
 pub use ff_name::{NoMemory, Text};

@@ -10,8 +10,6 @@ mod parts;
 mod pieces;
 mod printing;
 mod reading;
-#[cfg(test)]
-mod tests;
 
 pub use fault::LineFault;
 pub use ff_name::NoMemory;

@@ -1,0 +1,143 @@
+//! Documents, expressions and responses: what each is, and its canonical spelling.
+
+use crate::spelling::{address, text_of};
+use anyhow::{Result, bail};
+use ff_printing::{print_doc, print_expr, print_resp};
+use ff_reading::{read_doc, read_expr, read_resp};
+use ff_text::{MOST_BYTES, Sexp, read};
+use ff_value::{Doc, Expr, Lit, Resp, Worded};
+use std::alloc::Global;
+
+/// The document that the bytes spell, or why they spell none.
+pub fn document(alloc: Global, bytes: &[u8]) -> Result<String> {
+    match read_doc(alloc, &item(alloc, bytes)?) {
+        Ok(doc) => {
+            let mut out = Vec::new(alloc);
+            print_doc(&doc, &mut out)?;
+            with_spelling(alloc, doc_words(alloc, &doc)?, out)
+        }
+        Err(fault) => Ok(format!(in alloc; "{fault}")?),
+    }
+}
+
+/// The expression that the bytes spell, or why they spell none.
+pub fn expression(alloc: Global, bytes: &[u8]) -> Result<String> {
+    match read_expr(alloc, &item(alloc, bytes)?) {
+        Ok(expr) => {
+            let mut out = Vec::new(alloc);
+            print_expr(&expr, &mut out)?;
+            with_spelling(alloc, expr_words(alloc, &expr)?, out)
+        }
+        Err(fault) => Ok(format!(in alloc; "{fault}")?),
+    }
+}
+
+/// The response that the bytes spell, or why they spell none.
+pub fn response(alloc: Global, bytes: &[u8]) -> Result<String> {
+    match read_resp(alloc, &item(alloc, bytes)?) {
+        Ok(resp) => {
+            let mut out = Vec::new(alloc);
+            print_resp(&resp, &mut out)?;
+            with_spelling(alloc, resp_words(alloc, &resp)?, out)
+        }
+        Err(fault) => Ok(format!(in alloc; "{fault}")?),
+    }
+}
+
+fn item(alloc: Global, bytes: &[u8]) -> Result<Sexp> {
+    if bytes.len() > MOST_BYTES {
+        bail!("a text is too long");
+    }
+    Ok(read(alloc, bytes)?)
+}
+
+/// What a value is, and below it how it is spelled.
+fn with_spelling(alloc: Global, words: String, spelling: Vec<u8>) -> Result<String> {
+    let spelling = text_of(alloc, spelling)?;
+    Ok(format!(in alloc; "{words}\n{spelling}")?)
+}
+
+fn doc_words(alloc: Global, doc: &Doc) -> Result<String> {
+    match doc {
+        Doc::Text(name, _) => named(alloc, "a text", name.text().as_str()),
+        Doc::Link(name, url, _) => to_address(
+            alloc,
+            "a link",
+            name.text().as_str(),
+            address(alloc, url)?.as_str(),
+        ),
+        Doc::TextBox(name, _, handlers) => {
+            counted(alloc, "a text box", name.text().as_str(), handlers.len())
+        }
+        Doc::Button(name, _, handlers) => {
+            counted(alloc, "a button", name.text().as_str(), handlers.len())
+        }
+        Doc::Script(name, _) => named(alloc, "an inline script", name.text().as_str()),
+        Doc::Src(name, url) => to_address(
+            alloc,
+            "a script to be fetched",
+            name.text().as_str(),
+            address(alloc, url)?.as_str(),
+        ),
+        Doc::Div(name, parts) => { counted(alloc, "a division", name.text().as_str(), parts.len()) }
+    }
+}
+
+fn named(alloc: Global, what: &str, name: &str) -> Result<String> {
+    Ok(format!(in alloc; "{what} named {name}")?)
+}
+
+fn to_address(alloc: Global, what: &str, name: &str, address: &str) -> Result<String> {
+    Ok(format!(in alloc; "{what} named {name}, address {address}")?)
+}
+
+fn counted(alloc: Global, what: &str, name: &str, parts: usize) -> Result<String> {
+    Ok(format!(in alloc; "{what} named {name}, handlers or parts: {parts}")?)
+}
+
+fn expr_words(alloc: Global, expr: &Expr) -> Result<String> {
+    match expr {
+        Expr::Lit(lit) => lit_words(alloc, lit),
+        Expr::Var(name) => named(alloc, "a variable", name.text().as_str()),
+        Expr::Let(name, _) => named(alloc, "a declaration", name.text().as_str()),
+        Expr::Set(name, _) => named(alloc, "an assignment", name.text().as_str()),
+        Expr::If(_, _, _) => Ok(format!(in alloc; "a choice")?),
+        Expr::While(_, _) => Ok(format!(in alloc; "a loop")?),
+        Expr::Do(parts) => sized(alloc, "a sequence", parts.len()),
+        Expr::And(_, _) => Ok(format!(in alloc; "both")?),
+        Expr::Or(_, _) => Ok(format!(in alloc; "either")?),
+        Expr::Make(params, _) => sized(alloc, "a function", params.len()),
+        Expr::Apply(_, args) => sized(alloc, "a call", args.len()),
+        Expr::Tree(_) => Ok(format!(in alloc; "a new tree")?),
+        Expr::Prim(op, args) => sized(alloc, op.word(), args.len()),
+    }
+}
+
+fn lit_words(alloc: Global, lit: &Lit) -> Result<String> {
+    match lit {
+        Lit::Null => Ok(format!(in alloc; "nothing")?),
+        Lit::Bool(b) => Ok(format!(in alloc; "the truth value {b}")?),
+        Lit::Num(n) => Ok(format!(in alloc; "the number {n}")?),
+        Lit::Str(text) => Ok(format!(in alloc; "the text {:?}", text.as_str())?),
+    }
+}
+
+fn sized(alloc: Global, what: &str, parts: usize) -> Result<String> {
+    Ok(format!(in alloc; "{what}, parts or operands: {parts}")?)
+}
+
+fn resp_words(alloc: Global, resp: &Resp) -> Result<String> {
+    match resp {
+        Resp::Page(cookies, docs) => {
+            Ok(format!(in alloc; "a page, cookies: {}, parts: {}", cookies.len(), docs.len())?)
+        }
+        Resp::Script(cookies, _) => {
+            Ok(format!(in alloc; "a script, cookies: {}", cookies.len())?)
+        }
+        Resp::Data(cookies, text) => Ok(format!(in alloc;
+            "data, cookies: {}, text {:?}",
+            cookies.len(),
+            text.as_str()
+        )?),
+    }
+}
