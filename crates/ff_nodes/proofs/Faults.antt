@@ -18,11 +18,11 @@ first_of_tests parent_may is_page has_parent is_inside no_place too_deep =
     (cond no_place (Some fault.Range)
     (cond too_deep (Some fault.Limit) None)))))
 
-pub fault_of_tests : (nodes : List Node) (p c : NodeId) (at : ℤ) (may page has inside no deep : Bool) → may_have_children (node_at nodes p).shape ≡ may → is_some (page_of (node_at nodes c).shape) ≡ page → is_some (parent nodes c) ≡ has
-    → ((root nodes p).0 == c.0) ≡ inside → is_none (place_of at (length (children nodes p))) ≡ no → nat_lt MOST_TREE_DEPTH (suc (depth nodes p + height nodes c)) ≡ deep
-    → insert_fault nodes p c at ≡ first_of_tests may page has inside no deep
+pub fault_of_tests : (nodes : List Node) (p c : NodeId) (at : ℤ) (may page has inside missing deep : Bool) → may_have_children (node_at nodes p).shape ≡ may → is_some (page_of (node_at nodes c).shape) ≡ page → is_some (parent nodes c) ≡ has
+    → ((root nodes p).0 == c.0) ≡ inside → is_none (place_of at (length (children nodes p))) ≡ missing → nat_lt MOST_TREE_DEPTH (suc (depth nodes p + height nodes c)) ≡ deep
+    → insert_fault nodes p c at ≡ first_of_tests may page has inside missing deep
 unfolding insert_fault
-fault_of_tests nodes p c at may page has inside no deep is_may is_page is_has is_inside is_no is_deep = cc (is_may, is_page, is_has, is_inside, is_no, is_deep)
+fault_of_tests nodes p c at may page has inside missing deep is_may is_page is_has is_inside is_missing is_deep = cc (is_may, is_page, is_has, is_inside, is_missing, is_deep)
 
 module _ (nodes : List Node) (p c : NodeId) (at : ℤ) where
   pub parent_kind : may_have_children (node_at nodes p).shape ≡ false → insert_fault nodes p c at ≡ Some fault.Kind
@@ -77,5 +77,5 @@ place_within nodes p c k e =
     beyond false false t = cc
 
     by : (b : Bool) → nat_lt (length (children nodes p)) k ≡ b → is_none (place_of (pos k) (length (children nodes p))) ≡ false → k ≤ length (children nodes p)
-    by true t no = absurd (let both : true ≡ false = sym (beyond (int_lt (pos k) (pos 0)) (nat_lt (length (children nodes p)) k) t) ∙ no in cc)
-    by false t no = grind (arith, nat_tests, t)
+    by true t within = absurd (let both : true ≡ false = sym (beyond (int_lt (pos k) (pos 0)) (nat_lt (length (children nodes p)) k) t) ∙ within in cc)
+    by false t within = grind (arith, nat_tests, t)

@@ -1,4 +1,4 @@
-use Rattle.std.proofs.Common.{◌≡◌, ◌≢◌, ◌+◌, ◌<◌, ◌≤◌, true, false, Option, Some, None, is_some, length, sym, ap, ◌∙◌, arith, rules}
+use Rattle.std.proofs.Common.{◌≡◌, ◌≢◌, ◌+◌, ◌<◌, ◌≤◌, true, false, Option, Some, None, is_some, length, ℤ, to_z, of_z, to_z-of_z, w64, sym, ap, ◌∙◌, arith, rules}
 use Rattle.ff_value.specs.declared.ids.NodeId.{NodeId}
 use Rattle.ff_value.specs.declared.ids.PageId.{PageId}
 use Rattle.ff_machine.specs.declared.limits.TheConstants.{MOST_TREE_DEPTH}
@@ -50,8 +50,9 @@ returns-in_default-clause-answer c =
     let has : is_some (parent all c.args.child) ≡ false = ap (λ (o : Option NodeId). is_some o) (sym (c.parent.ensures ∙ ap (λ (m : Node). m.parent) c.at-under.ensures.value)) ∙ first_of (cc, search rules, grind arith) in
     let top : c.root_of.result.0 ≡ (root all c.args.parent).0 = ap (λ (n : NodeId). n.0) c.root_of.ensures.value in
     let apart : (root all c.args.parent).0 ≢ c.args.child.0 = omega (arith, top, c.if-root_of-child.false) in
+    let same : to_z w64 (of_z w64 c.args.at) ≡ c.args.at = to_z-of_z c.ranges.at in
     let count : c.len.result ≡ length (children all c.args.parent) = c.len.ensures ∙ ap length (c.children.ensures ∙ ap (λ (m : Node). m.children) c.at-over.ensures.value) in
-    place_range all c.args.parent c.args.child c.args.at may page has apart (ap (place_of c.args.at) (sym count) ∙ sym c.in_default.ensures.value)
+    place_range all c.args.parent c.args.child c.args.at may page has apart (ap (place_of c.args.at) (sym count) ∙ ap (λ (k : ℤ). place_of k c.len.result) (sym same) ∙ sym c.in_default.ensures.value)
 
 pub height-requires-clause-depth : goal.height-requires-clause-depth
 height-requires-clause-depth c =
@@ -68,8 +69,9 @@ returns-then-depth_of-height-ge-MOST_TREE_DEPTH-clause-answer c =
     let has : is_some (parent all c.args.child) ≡ false = ap (λ (o : Option NodeId). is_some o) (sym (c.parent.ensures ∙ ap (λ (m : Node). m.parent) c.at-under.ensures.value)) ∙ first_of (cc, search rules, grind arith) in
     let top : c.root_of.result.0 ≡ (root all c.args.parent).0 = ap (λ (n : NodeId). n.0) c.root_of.ensures.value in
     let apart : (root all c.args.parent).0 ≢ c.args.child.0 = omega (arith, top, c.if-root_of-child.false) in
+    let same : to_z w64 (of_z w64 c.args.at) ≡ c.args.at = to_z-of_z c.ranges.at in
     let count : c.len.result ≡ length (children all c.args.parent) = c.len.ensures ∙ ap length (c.children.ensures ∙ ap (λ (m : Node). m.children) c.at-over.ensures.value) in
-    deep_limit all c.args.parent c.args.child c.args.at may page has apart c.in-Some.place (ap (place_of c.args.at) (sym count) ∙ sym c.in-Some.ensures.value) (omega (arith, c.depth_of.ensures.value, c.height.ensures.value, c.if-depth_of-height-ge-MOST_TREE_DEPTH.true))
+    deep_limit all c.args.parent c.args.child c.args.at may page has apart c.in-Some.place (ap (place_of c.args.at) (sym count) ∙ ap (λ (k : ℤ). place_of k c.len.result) (sym same) ∙ sym c.in-Some.ensures.value) (omega (arith, c.depth_of.ensures.value, c.height.ensures.value, c.if-depth_of-height-ge-MOST_TREE_DEPTH.true))
 
 pub returns-clause-answer : goal.returns-clause-answer
 returns-clause-answer c =
@@ -80,5 +82,6 @@ returns-clause-answer c =
     let has : is_some (parent all c.args.child) ≡ false = ap (λ (o : Option NodeId). is_some o) (sym (c.parent.ensures ∙ ap (λ (m : Node). m.parent) c.at-under.ensures.value)) ∙ first_of (cc, search rules, grind arith) in
     let top : c.root_of.result.0 ≡ (root all c.args.parent).0 = ap (λ (n : NodeId). n.0) c.root_of.ensures.value in
     let apart : (root all c.args.parent).0 ≢ c.args.child.0 = omega (arith, top, c.if-root_of-child.false) in
+    let same : to_z w64 (of_z w64 c.args.at) ≡ c.args.at = to_z-of_z c.ranges.at in
     let count : c.len.result ≡ length (children all c.args.parent) = c.len.ensures ∙ ap length (c.children.ensures ∙ ap (λ (m : Node). m.children) c.at-over.ensures.value) in
-    no_fault all c.args.parent c.args.child c.args.at may page has apart c.in-Some.place (ap (place_of c.args.at) (sym count) ∙ sym c.in-Some.ensures.value) (omega (arith, c.depth_of.ensures.value, c.height.ensures.value, c.if-depth_of-height-ge-MOST_TREE_DEPTH.false))
+    no_fault all c.args.parent c.args.child c.args.at may page has apart c.in-Some.place (ap (place_of c.args.at) (sym count) ∙ ap (λ (k : ℤ). place_of k c.len.result) (sym same) ∙ sym c.in-Some.ensures.value) (omega (arith, c.depth_of.ensures.value, c.height.ensures.value, c.if-depth_of-height-ge-MOST_TREE_DEPTH.false))
