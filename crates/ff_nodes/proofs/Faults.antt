@@ -1,5 +1,5 @@
 -- Why a child can't stand under a parent, by the tests that say so.
-use Rattle.std.proofs.Common.{◌≡◌, ℕ, suc, ◌+◌, ◌<◌, ◌≤◌, ◌≢◌, ◌||◌, ◌==◌, nat_lt, not, ℤ, pos, int_lt, nat_abs, Bool, true, false, cond, Option, Some, None, is_some, is_none, List, length, arith, refl, ap, ◌∙◌, sym}
+use Rattle.std.proofs.Common.{◌≡◌, ℕ, suc, ◌+◌, ◌<◌, ◌≤◌, ◌≢◌, ◌||◌, ◌==◌, nat_lt, not, ℤ, pos, int_lt, Bool, true, false, cond, Option, Some, None, is_some, is_none, List, length, arith, refl, ap, ◌∙◌, sym}
 use Rattle.std.proofs.lemmas.Bool.Decides.{nat_tests}
 use Rattle.ff_value.specs.declared.fault.Fault.{Fault}
 use Rattle.ff_value.specs.declared.fault.Fault.TheVariants as fault

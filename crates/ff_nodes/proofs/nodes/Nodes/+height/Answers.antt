@@ -1,5 +1,5 @@
-use Rattle.std.proofs.Common.{◌≡◌, ◌+◌, ◌<◌, ◌≤◌, ℕ, max, length, drop, sym, ap, ◌∙◌, arith}
-use Rattle.ff_machine.specs.Nodes.{Node, children, depth}
+use Rattle.std.proofs.Common.{◌≡◌, ℕ, max, sym, ap, ◌∙◌, arith}
+use Rattle.ff_machine.specs.Nodes.{Node, children}
 use Rattle.ff_nodes.proofs.Heights.{deepest, height_out, deepest_at, deepest_past}
 use Rattle.ff_nodes.proofs.Turns.{deeper, lives}
 use Rattle.ff_nodes.proofs.nodes.Nodes.+height.Goals as goal

@@ -1,8 +1,6 @@
-use Rattle.std.proofs.Common.{◌≡◌, ◌+◌, ◌*◌, ◌<◌, ◌≤◌, Some, length, sym, subst, ap, ◌∙◌, arith}
+use Rattle.std.proofs.Common.{◌≡◌, ◌≤◌, Some, length, sym, subst, ap, ◌∙◌, arith}
 use Rattle.std.specs.List.{insert}
-use Rattle.ff_machine.specs.Nodes.{Node, children, depth}
-use Rattle.ff_machine.specs.Alone.{AreTrees}
-use Rattle.ff_nodes.specs.Cells.{nodes_of}
+use Rattle.ff_machine.specs.Nodes.{Node}
 use Rattle.ff_nodes.proofs.Faults.{place_within}
 use Rattle.ff_nodes.proofs.JoinedCells.{under_of, over_of, both_written, lives_in, lives_with, joined_are}
 use Rattle.ff_nodes.proofs.nodes.Nodes.join.Goals as goal

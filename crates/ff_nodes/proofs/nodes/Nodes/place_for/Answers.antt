@@ -1,9 +1,8 @@
-use Rattle.std.proofs.Common.{◌≡◌, ◌≢◌, ◌+◌, ◌<◌, ◌≤◌, true, false, Option, Some, None, is_some, length, ℤ, to_z, of_z, to_z-of_z, w64, sym, ap, ◌∙◌, arith, rules}
+use Rattle.std.proofs.Common.{◌≡◌, ◌≢◌, true, false, Option, is_some, length, ℤ, to_z, of_z, to_z-of_z, w64, sym, ap, ◌∙◌, arith, rules}
 use Rattle.ff_value.specs.declared.ids.NodeId.{NodeId}
 use Rattle.ff_value.specs.declared.ids.PageId.{PageId}
-use Rattle.ff_machine.specs.declared.limits.TheConstants.{MOST_TREE_DEPTH}
 use Rattle.ff_machine.specs.Shapes.{page_of, may_have_children}
-use Rattle.ff_machine.specs.Nodes.{Node, node_at, children, parent, root, depth, height, place_of}
+use Rattle.ff_machine.specs.Nodes.{Node, node_at, children, parent, root, place_of}
 use Rattle.ff_machine.proofs.Depths.{depth_top}
 use Rattle.ff_nodes.proofs.Faults.{parent_kind, child_kind, child_range, inside_range, place_range, deep_limit, no_fault, no_parent}
 use Rattle.ff_nodes.proofs.nodes.Nodes.place_for.Goals as goal
