@@ -1,8 +1,7 @@
 -- The parents of the nodes that documents become stand before them.
-use Rattle.std.proofs.Common.{◌≡◌, ℕ, zero, suc, ◌+◌, ◌-◌, ◌<◌, ◌≤◌, nat_lt, Bool, true, false, Option, Some, None, List, [], ◌∷◌, ◌++◌, map, length, get_or, arith, refl, sym, subst, ap, ◌∙◌}
+use Rattle.std.proofs.Common.{◌≡◌, ℕ, zero, suc, ◌+◌, ◌-◌, ◌<◌, ◌≤◌, Option, Some, None, List, [], ◌∷◌, ◌++◌, map, length, get_or, arith, sym, subst, ap, ◌∙◌}
 use Rattle.std.specs.List.{AllByRecursion}
-use Rattle.std.proofs.lemmas.Bool.Decides.{nat_tests}
-use Rattle.std.proofs.lemmas.List.{length-append, get_or-append-add, get_or_past}
+use Rattle.std.proofs.lemmas.List.{get_or-append-add}
 use Rattle.ff_tree.specs.declared.tree.Doc.{Doc}
 use Rattle.ff_tree.specs.declared.tree.Doc.TheVariants as doc
 use Rattle.ff_value.specs.declared.ids.ActId.{ActId}
@@ -11,8 +10,8 @@ use Rattle.ff_value.specs.declared.ids.PageId.{PageId}
 use Rattle.ff_value.specs.declared.value.Code.{Code}
 use Rattle.ff_machine.specs.declared.records.Shape.{Shape}
 use Rattle.ff_machine.specs.declared.records.Shape.TheVariants as shape
-use Rattle.ff_machine.specs.Nodes.{Node, no_node, parent}
-use Rattle.ff_machine.specs.Documents.{Laid, laid, laid_page, lay_all, lay_leaf, lay_over, size_of}
+use Rattle.ff_machine.specs.Nodes.{Node, no_node}
+use Rattle.ff_machine.specs.Documents.{Laid, laid, laid_page, lay_all, lay_leaf, lay_over}
 use Rattle.ff_machine.proofs.Laying.{laid-Text, laid-Link, laid-TextBox, laid-Button, laid-Script, laid-Src, laid-Div}
 use Rattle.ff_machine.proofs.LaidDocs.{by_forms, doc_laid}
 use Rattle.ff_nodes.specs.Raised.{ArePast}

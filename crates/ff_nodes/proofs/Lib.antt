@@ -11,3 +11,6 @@ pub mod MadeCells
 pub mod NewCells
 pub mod RaisedCells
 pub mod Rooms
+pub mod Heights
+pub mod Faults
+pub mod JoinedCells

@@ -1,5 +1,5 @@
 -- Cells with those of a made tree behind them.
-use Rattle.std.proofs.Common.{◌≡◌, ◌≢◌, ℕ, zero, suc, ◌+◌, ◌-◌, ◌<◌, ◌≤◌, ◌⊎◌, inl, inr, nat_lt, ◌==◌, Bool, true, false, cond, Option, Some, None, is_some, List, [], ◌∷◌, ◌++◌, length, get_or, arith, refl, sym, subst, ap, ◌∙◌}
+use Rattle.std.proofs.Common.{◌≡◌, ℕ, zero, suc, ◌+◌, ◌-◌, ◌<◌, ◌≤◌, ◌⊎◌, inl, inr, nat_lt, Bool, true, false, Option, Some, None, is_some, List, [], ◌∷◌, ◌++◌, length, get_or, arith, refl, sym, subst, ap, ◌∙◌}
 use Rattle.std.specs.List.{AllByRecursion}
 use Rattle.std.proofs.lemmas.Bool.Decides.{nat_tests}
 use Rattle.std.proofs.lemmas.List.{length-map, length-append, get_or_append_left, get_or-append-add, get_or_past}
@@ -12,7 +12,7 @@ use Rattle.ff_machine.proofs.Depths.{parent_made}
 use Rattle.ff_nodes.specs.declared.cell.NodeCell.{NodeCell}
 use Rattle.ff_nodes.specs.Cells.{AreCells, AreMarked, cell_at, no_cell, nodes_of}
 use Rattle.ff_nodes.specs.Laying.{AreNew, HasOwn}
-use Rattle.ff_nodes.specs.Marked.{IsOwn, AreWithin}
+use Rattle.ff_nodes.specs.Marked.{AreWithin}
 use Rattle.ff_nodes.specs.Raised.{AreMarkedUpTo, ArePast}
 use Rattle.ff_nodes.specs.Room.{room_left}
 use Rattle.ff_nodes.proofs.LaidUp.{AreUp, are_past}

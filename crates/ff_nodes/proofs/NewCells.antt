@@ -1,5 +1,5 @@
 -- New cells behind others, and the nodes of documents that are laid one after another.
-use Rattle.std.proofs.Common.{◌≡◌, ℕ, suc, ◌+◌, ◌*◌, ◌<◌, ◌≤◌, Option, Some, Result, OnOk, List, [], ◌∷◌, ◌++◌, map, length, take, set, get_or, zero, arith, refl, sym, subst, ap, ◌∙◌}
+use Rattle.std.proofs.Common.{◌≡◌, ℕ, suc, ◌+◌, ◌<◌, ◌≤◌, Option, Some, Result, OnOk, List, [], ◌∷◌, ◌++◌, map, length, take, set, get_or, zero, arith, refl, sym, subst, ap, ◌∙◌}
 use Rattle.std.specs.List.{AllByRecursion}
 use Rattle.std.proofs.lemmas.List.{append_assoc, append-nil, map-append, map_more, length-append, length-map, set_at}
 use Rattle.ff_tree.specs.declared.tree.Doc.{Doc}

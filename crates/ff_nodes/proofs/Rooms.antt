@@ -1,10 +1,10 @@
 -- Room that is left after one document, and after the others.
-use Rattle.std.proofs.Common.{◌≡◌, ℕ, suc, ◌+◌, ◌-◌, ◌<◌, ◌≤◌, nat_le, Bool, true, false, cond, Option, Some, None, List, [], ◌∷◌, map, length, drop, get_or, drop-cons, arith, refl, sym, subst, ap, ◌∙◌}
+use Rattle.std.proofs.Common.{◌≡◌, ℕ, suc, ◌+◌, ◌-◌, ◌<◌, ◌≤◌, nat_le, Bool, true, false, cond, Option, Some, None, List, map, length, drop, get_or, drop-cons, arith, refl, sym, ap, ◌∙◌}
 use Rattle.std.proofs.lemmas.Bool.Decides.{nat_tests}
 use Rattle.std.proofs.lemmas.List.{drop_all}
 use Rattle.ff_tree.specs.declared.tree.Doc.{Doc}
 use Rattle.ff_value.specs.declared.ids.ActId.{ActId}
-use Rattle.ff_machine.specs.Documents.{Laid, laid, size_of}
+use Rattle.ff_machine.specs.Documents.{laid, size_of}
 use Rattle.ff_nodes.specs.Room.{room_left}
 
 -- what is left where there is room

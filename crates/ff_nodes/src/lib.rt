@@ -11,6 +11,7 @@
 mod cell;
 mod change;
 mod climb;
+mod inserting;
 mod laying;
 mod listed;
 mod making;
@@ -21,7 +22,5 @@ mod raising;
 mod read;
 mod room;
 mod search;
-#[cfg(test)]
-mod tests;
 
 pub use nodes::Nodes;

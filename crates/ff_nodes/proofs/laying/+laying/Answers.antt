@@ -1,9 +1,7 @@
-use Rattle.std.proofs.Common.{◌≡◌, ℕ, suc, false, ◌+◌, ◌*◌, ◌<◌, ◌≤◌, Option, Some, List, [], ◌∷◌, ◌++◌, map, take, length, get_or, arith, refl, sym, ap, subst, ◌∙◌}
-use Rattle.ff_machine.specs.declared.records.Shape.{Shape}
+use Rattle.std.proofs.Common.{◌≡◌, false, [], map, length, arith, ap, ◌∙◌}
 use Rattle.ff_machine.specs.declared.records.Shape.TheVariants as shape
-use Rattle.ff_machine.specs.Documents.{Laid, laid, lay_all, numbers, size_of, lay_leaf, lay_over, handler_code}
+use Rattle.ff_machine.specs.Documents.{Laid, laid, size_of, handler_code}
 use Rattle.ff_machine.proofs.Laying.{laid-Text, laid-Link, laid-TextBox, laid-Button, laid-Script, laid-Src, laid-Div}
-use Rattle.ff_nodes.specs.Laying.{AreNew}
 use Rattle.ff_nodes.proofs.NewCells.{new_none, one_more_laid, one_more_number, size_to_all, size_next_to_all, leaf_new, over_new, root_new}
 use Rattle.ff_nodes.proofs.laying.+laying.Goals as goal
 

@@ -1,4 +1,4 @@
-use Rattle.std.proofs.Common.{◌≡◌, Some, None, ◌+◌, ◌*◌, ◌<◌, ◌≤◌, length, arith, refl, sym, ap, subst, ◌∙◌, rules}
+use Rattle.std.proofs.Common.{◌≡◌, Some, None, arith, sym, ap, subst}
 use Rattle.ff_machine.specs.Nodes.{depth}
 use Rattle.ff_machine.proofs.Depths.{depth_up, parent_made}
 use Rattle.ff_machine.specs.Alone.{AreTrees}

@@ -1,4 +1,4 @@
-use Rattle.std.proofs.Common.{◌≡◌, ◌+◌, ◌-◌, ◌*◌, ◌<◌, ◌≤◌, length, arith, refl, sym, ap, subst, ◌∙◌}
+use Rattle.std.proofs.Common.{arith, ◌∙◌}
 use Rattle.ff_nodes.proofs.RaisedCells.{is_above, step_marked, none_marked, all_raised, raised_length}
 use Rattle.ff_nodes.proofs.raising.raise_from.Goals as goal
 

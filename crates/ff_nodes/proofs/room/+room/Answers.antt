@@ -1,4 +1,4 @@
-use Rattle.std.proofs.Common.{◌≡◌, ℕ, suc, ◌+◌, ◌-◌, ◌≤◌, Option, Some, map, arith, refl, sym, ap, subst, ◌∙◌}
+use Rattle.std.proofs.Common.{◌≡◌, ℕ, ◌+◌, ◌-◌, Option, Some, map, arith, sym, ap, ◌∙◌}
 use Rattle.ff_machine.specs.Documents.{Laid, laid, size_of}
 use Rattle.ff_machine.proofs.Laying.{laid-Text, laid-Link, laid-TextBox, laid-Button, laid-Script, laid-Src, laid-Div}
 use Rattle.ff_machine.proofs.LaidDocs.{doc_laid}

@@ -1,6 +1,6 @@
-use Rattle.std.proofs.Common.{suc, map, arith, refl, ◌∙◌}
+use Rattle.std.proofs.Common.{suc, map, refl, ◌∙◌}
 use Rattle.ff_machine.specs.Documents.{laid, size_of}
-use Rattle.ff_nodes.proofs.Rooms.{left_none, left_under}
+use Rattle.ff_nodes.proofs.Rooms.{left_under}
 use Rattle.ff_nodes.proofs.room.room_after_page.Goals as goal
 
 pub returns : goal.returns

@@ -1,4 +1,4 @@
-use Rattle.std.proofs.Common.{◌≡◌, ℕ, suc, ◌+◌, ◌-◌, ◌*◌, ◌<◌, ◌≤◌, true, false, is_some, not, None, map, length, arith, refl, sym, ap, subst, ◌∙◌}
+use Rattle.std.proofs.Common.{◌≡◌, suc, ◌-◌, true, false, is_some, not, None, map, length, arith, ap, subst, ◌∙◌}
 use Rattle.ff_machine.specs.declared.limits.TheConstants.{MOST_NODES}
 use Rattle.ff_machine.specs.Alone.{AreNodes}
 use Rattle.ff_machine.specs.Documents.{laid, laid_page, size_of}

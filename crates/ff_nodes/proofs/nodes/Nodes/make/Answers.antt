@@ -1,13 +1,10 @@
-use Rattle.std.proofs.Common.{◌≡◌, ℕ, suc, ◌+◌, ◌-◌, ◌*◌, ◌<◌, ◌≤◌, true, false, is_some, not, None, map, length, arith, refl, sym, ap, subst, ◌∙◌}
-use Rattle.ff_machine.specs.declared.limits.TheConstants.{MOST_NODES}
+use Rattle.std.proofs.Common.{◌≡◌, suc, true, false, is_some, not, None, length, arith, ap, subst, ◌∙◌}
 use Rattle.ff_machine.specs.Alone.{AreNodes}
-use Rattle.ff_machine.specs.Documents.{laid, size_of}
+use Rattle.ff_machine.specs.Documents.{laid}
 use Rattle.ff_machine.specs.Faults.{limit_unless}
 use Rattle.ff_machine.proofs.LaidDocs.{doc_laid}
 use Rattle.ff_machine.proofs.MadeTrees.{tree_made}
 use Rattle.ff_nodes.proofs.LaidUp.{AreUp, tree_up}
-use Rattle.ff_nodes.specs.Laying.{AreNew}
-use Rattle.ff_nodes.specs.Room.{room_left}
 use Rattle.ff_nodes.proofs.MadeCells.{made_first, made_past, made_marked, made_length, made_cells, room_there, room_missing}
 use Rattle.ff_nodes.proofs.nodes.Nodes.make.Goals as goal
 
