@@ -1,5 +1,5 @@
 -- Parts of what is spelled are spelled.
-use Rattle.std.proofs.Common.{◌≡◌, ℕ, List, arith, subst}
+use Rattle.std.proofs.Common.{ℕ, List, arith, subst}
 use Rattle.ff_tree.specs.Spelled.{IsWellSpelledExpr}
 use Rattle.ff_tree.specs.declared.tree.Expr.{Expr}
 use Rattle.ff_tree.specs.declared.tree.Expr.TheVariants as expr
