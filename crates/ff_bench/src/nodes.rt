@@ -3,6 +3,7 @@ ghost use Rattle.std.specs.Prelude.{◌≡◌, ◌<◌, ◌≤◌, IfOk, length,
 ghost use Rattle.std.specs.List.{AllByRecursion};
 ghost use Rattle.ff_name.specs.declared.limits.TheConstants.{MOST_DEPTH};
 ghost use Rattle.ff_tree.specs.Spelled.{IsSpelledDoc, doc_depth, most};
+ghost use Rattle.ff_value.specs.Spelled.{IsWellSpelledResp};
 
 use anyhow::{Result, bail};
 use ff_machine::Kind;
@@ -102,8 +103,17 @@ fn documents(alloc: Global) -> Result<Docs>
         bail!("the page is too long");
     }
     let item = read(alloc, text.as_bytes())?;
-    match &read_resp(alloc, &item)? {
-        Resp::Page(_cookies, docs) => Ok(docs.copy()?),
+    let response = read_resp(alloc, &item)?;
+    docs_of(&response)
+}
+
+fn docs_of(response: &Resp) -> Result<Docs>
+    requires { IsWellSpelledResp response.now }
+    ensures spelled { IfOk result (λ docs. AllByRecursion IsSpelledDoc docs) }
+    ensures shallow { IfOk result (λ docs. most (map doc_depth docs) ≤ MOST_DEPTH) }
+{
+    match response {
+        Resp::Page(_, docs) => Ok(docs.copy()?),
         _ => bail!("no page"),
     }
 }

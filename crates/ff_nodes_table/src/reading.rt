@@ -2,9 +2,9 @@
 ghost use Rattle.std.specs.Prelude.{◌≡◌, ◌<◌, ◌≤◌, IfOk, length, map};
 ghost use Rattle.std.specs.List.{AllByRecursion};
 ghost use Rattle.ff_name.specs.declared.limits.TheConstants.{MOST_DEPTH};
-ghost use Rattle.ff_text.specs.Spelling.{IsWellSpelled};
-ghost use Rattle.ff_tree.specs.Spelled.{IsSpelledDoc, IsWellSpelledDoc, doc_depth, most};
-ghost use Rattle.ff_value.specs.Spelled.{IsWellSpelledCode};
+ghost use Rattle.ff_text.specs.Printed.{IsWellSpelled};
+ghost use Rattle.ff_tree.specs.Spelled.{IsSpelledDoc, IsWellSpelledDoc, IsWellSpelledExpr, doc_depth, most};
+ghost use Rattle.ff_value.specs.Spelled.{IsWellSpelledCode, IsWellSpelledResp};
 
 use anyhow::{Context, Result, bail};
 use ff_nodes::Nodes;
@@ -69,9 +69,18 @@ pub fn documents(alloc: Global, text: &str) -> Result<Docs>
     ensures shallow { IfOk result (λ docs. most (map doc_depth docs) ≤ MOST_DEPTH) }
 {
     let item = item(alloc, text)?;
-    match &read_resp(alloc, &item)? {
-        Resp::Page(_cookies, docs) => Ok(docs.copy()?),
-        _ => bail!("no page: {text}"),
+    let response = read_resp(alloc, &item)?;
+    docs_of(&response)
+}
+
+fn docs_of(response: &Resp) -> Result<Docs>
+    requires { IsWellSpelledResp response.now }
+    ensures spelled { IfOk result (λ docs. AllByRecursion IsSpelledDoc docs) }
+    ensures shallow { IfOk result (λ docs. most (map doc_depth docs) ≤ MOST_DEPTH) }
+{
+    match response {
+        Resp::Page(_, docs) => Ok(docs.copy()?),
+        _ => bail!("no page"),
     }
 }
 
@@ -80,12 +89,20 @@ pub fn function(alloc: Global, text: &str) -> Result<Code>
     ensures { IfOk result IsWellSpelledCode }
 {
     let item = item(alloc, text)?;
-    match read_expr(alloc, &item)? {
+    let expr = read_expr(alloc, &item)?;
+    code_of(expr)
+}
+
+fn code_of(expr: Expr) -> Result<Code>
+    requires { IsWellSpelledExpr expr }
+    ensures { IfOk result IsWellSpelledCode }
+{
+    match expr {
         Expr::Make(params, body) => Ok(Code {
             params,
             body,
             env: ActId(0),
         }),
-        _ => bail!("no function: {text}"),
+        _ => bail!("no function"),
     }
 }

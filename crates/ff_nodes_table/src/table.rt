@@ -1,9 +1,8 @@
 //! The lines, one after another.
 ghost use Rattle.std.specs.Prelude.{◌≡◌, ◌<◌};
 
-use crate::changes;
 use crate::reading::{live, parted};
-use crate::show;
+use crate::{changes, show};
 use anyhow::Result;
 use ff_nodes::Nodes;
 use ff_steps::Steps;
