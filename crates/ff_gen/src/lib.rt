@@ -8,4 +8,4 @@ mod generator;
 #[cfg(test)]
 mod tests;
 
-pub use generator::{MOST_LINES, NoMemory, workload};
+pub use generator::{Draws, MOST_LINES, NoMemory, workload};

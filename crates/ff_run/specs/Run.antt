@@ -15,6 +15,7 @@ use Rattle.ff_run.specs.Words.{AreCommand, dash}
 use Rattle.ff_run.specs.Policies.{NamesFault, FetchFailed, Under}
 use Rattle.ff_run.specs.Checked.{Checks}
 use Rattle.ff_run.specs.Upgraded.{Upgrades}
+use Rattle.ff_run.specs.Generated.{Generates}
 use Rattle.ff_run.specs.declared.words.Command.{Command}
 use Rattle.ff_run.specs.declared.words.Command.TheVariants as command
 
@@ -26,6 +27,7 @@ Suits other words = AreCommand words
 -- what a command does under a policy
 abbrev pub Performs : Command → Assignment → Told → Told → ℕ → ℕ → Status → Type 0
 Performs command.Check p before now turns_before turns_now status = Checks p.order before now turns_before turns_now status
+Performs (command.Generate start inputs) p before now turns_before turns_now status = Generates p start inputs before now turns_before turns_now status
 Performs command.Upgrade p before now turns_before turns_now status = Upgrades p before now turns_before turns_now status
 Performs (command.Trace work) p before now turns_before turns_now status = Exchanged work p before now turns_before turns_now status
 

@@ -1,18 +1,22 @@
-//! Pools of two levels: the lower one is level 0.
+//! Prints the story of a pool of two levels, of which the lower one is level 0: an arrival of equal
+//! offers, one step, an arrival for the higher level alone, and steps of both until all is quiet;
+//! and that of a pool that is drained, forked and taken.
+#![tactic(auto)]
+
 ghost use Rattle.std.specs.Prelude.{◌≡◌, ◌<◌, false, IfOk};
 ghost use Rattle.std.specs.Bool.{OnTrue};
 ghost use Rattle.ff_value.specs.Spelled.{IsWellSpelledInput};
 ghost use Rattle.ff_reactive.specs.Worlds.{OfferOk, AreOffers};
 ghost use Rattle.ff_pool.specs.Pooled.{size};
 
-use super::*;
 use ff_name::{Level, Url};
+use ff_pool::{NoMemory, Pool};
 use ff_steps::Steps;
 use ff_value::{Act, Input, Offers, Out};
 use std::alloc::{AllocError, Global};
+use std::io;
 use std::marker::Brand;
 use std::sync::ledger::{Blank, Ledger};
-use std::test::Fail;
 
 /// The input that opens an empty window, offered or not.
 fn offer(something: bool) -> Option<Input>
@@ -91,8 +95,10 @@ fn opened(pool: &mut Pool, l: u8) -> Result<usize, NoMemory>
     }
 }
 
-/// How many levels are in each level's class, and how many of the two levels are quiet.
-fn classes(pool: &Pool) -> Option<(u32, u32, bool, bool)> {
+/// How many levels are in the class of each level, and whether each is quiet.
+type Classes = Option<(u32, u32, bool, bool)>;
+
+fn classes(pool: &Pool) -> Classes {
     if !is_of_two(pool) {
         return None;
     }
@@ -104,8 +110,8 @@ fn classes(pool: &Pool) -> Option<(u32, u32, bool, bool)> {
     ))
 }
 
-/// What is told of a pool at each moment, and the windows that each level opened in the end.
-type Story = (Vec<Option<(u32, u32, bool, bool)>>, usize, usize);
+/// What is told of a pool at each moment, and how many windows each level opened in the end.
+type Story = (Vec<Classes>, usize, usize);
 
 /// An arrival of equal offers, one step, an arrival for the higher level alone, and steps of both
 /// until all is quiet.
@@ -142,33 +148,13 @@ fn parts_in_the_middle<C: Ledger, L: Ledger>(
     Ok((told, low, high))
 }
 
-#[test]
-fn a_class_parts_in_the_middle_of_an_input(rt: HostRuntime) -> Result<(), Fail> {
-    let (told, low, high) = parts_in_the_middle::<Brand, Brand>(
-        rt.alloc(),
-        Blank::new(1),
-        Blank::new(1),
-    )?;
-    let want = [
-        Some((2, 2, true, true)),
-        Some((2, 2, false, false)),
-        Some((1, 1, false, false)),
-        Some((1, 1, true, false)),
-        Some((1, 1, true, true)),
-    ];
-    assert!(rt; told.as_slice() == want.as_slice());
-    assert_eq!(rt; low, 1);
-    assert_eq!(rt; high, 2);
-    Ok(())
-}
-
 /// A pool that is drained, taken, forked and played over no events: what is told of it, and the
 /// windows that the levels opened, the higher one twice, and in a fork.
 fn drained_and_forked<C: Ledger, L: Ledger>(
     alloc: Global,
     copies: Blank,
     turns: Blank,
-) -> Result<(Option<(u32, u32, bool, bool)>, [usize; 4], bool), NoMemory>
+) -> Result<(Classes, [usize; 4], bool), NoMemory>
     requires copies_name { copies.name ≡ C.name }
     requires copies_parts { copies.parts ≡ C.parts }
     requires copies_some { 0 < copies.parts }
@@ -192,15 +178,39 @@ fn drained_and_forked<C: Ledger, L: Ledger>(
     Ok((told, [high, again, low, forked], pool.spent()))
 }
 
-#[test]
-fn a_level_is_taken_alone_and_a_fork_keeps_its_own(rt: HostRuntime) -> Result<(), Fail> {
-    let (told, windows, spent) = drained_and_forked::<Brand, Brand>(
-        rt.alloc(),
-        Blank::new(1),
-        Blank::new(1),
-    )?;
-    assert!(rt; told == Some((1, 1, true, true)));
-    assert!(rt; windows == [2, 0, 1, 2]);
-    assert!(rt; !spent);
-    Ok(())
+/// Prints the first story.
+fn show_parting(rt: &HostRuntime) -> io::Result<()> {
+    let story = parts_in_the_middle::<Brand, Brand>(rt.alloc(), Blank::new(1), Blank::new(1));
+    let Ok((told, low, high)) = story else {
+        return println!(rt; "no memory");
+    };
+    for classes in told {
+        show_classes(rt, &classes)?;
+    }
+    println!(rt; "opened {low} {high}")
+}
+
+/// Prints the second one.
+fn show_takes(rt: &HostRuntime) -> io::Result<()> {
+    let story = drained_and_forked::<Brand, Brand>(rt.alloc(), Blank::new(1), Blank::new(1));
+    let Ok((told, [high, again, low, forked], spent)) = story else {
+        return println!(rt; "no memory");
+    };
+    show_classes(rt, &told)?;
+    println!(rt; "opened {high} {again} {low}, in the fork {forked}, spent {spent}")
+}
+
+/// Prints what is told at one moment.
+fn show_classes(rt: &HostRuntime, classes: &Classes) -> io::Result<()> {
+    match classes {
+        Some((low, high, low_quiet, high_quiet)) => {
+            println!(rt; "classes of {low} {high}, quiet {low_quiet} {high_quiet}")
+        }
+        None => println!(rt; "spent"),
+    }
+}
+
+fn main(rt: HostRuntime) -> io::Result<()> {
+    show_parting(&rt)?;
+    show_takes(&rt)
 }
