@@ -8,3 +8,4 @@ pub mod Commands
 pub mod Finding
 pub mod Obeying
 pub mod Headline
+pub mod Counting

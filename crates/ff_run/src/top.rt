@@ -4,11 +4,12 @@ ghost use Rattle.ff_policy.specs.Assignment.{Assignment, IsAssignment};
 ghost use Rattle.ff_policy.specs.declared.fault.PolicyFault.{PolicyFault};
 ghost use Rattle.ff_levels.specs.Levels.{levels, machine, IsInput};
 ghost use Rattle.ff_session.specs.Works.{IsAnswered};
+ghost use Rattle.ff_session.specs.declared.work.Work.{Work};
 ghost use Rattle.ff_status.specs.Words.{error_line};
 ghost use Rattle.ff_run.specs.Words.{Asks, dash, multi};
-ghost use Rattle.ff_run.specs.Policies.{NamesPolicy, NamesFault, IsKnown, FetchFailed};
+ghost use Rattle.ff_run.specs.Policies.{NamesPolicy, NamesFault, IsKnown, FetchFailed, Under};
 ghost use Rattle.ff_run.specs.Status.{IsEarly, IsUnfailing};
-ghost use Rattle.ff_run.specs.Run.{Suits, Performs, Obeys, ClaimsUnder, NothingFailed, Reports};
+ghost use Rattle.ff_run.specs.Run.{Suits, Performs, Obeys, ClaimsUnder, Counts, NothingFailed, Reports};
 ghost use Rattle.ff_run.specs.declared.words.Command.{Command};
 
 use crate::check::check;
@@ -64,6 +65,11 @@ pub fn run<S: Shelf, P: Port, E: Sink, C: Ledger, L: Ledger>(
         → ClaimsUnder (S.told shelf.old) name (P.told port.old) (P.told port.new) (λ p is put. IsSecure (machine p) (levels p) (IsInput p.order) is put) }
     ensures precise { (name : List ℕ) → Asks words.now multi name → IsAnswered result
         → ClaimsUnder (S.told shelf.old) name (P.told port.old) (P.told port.new) (λ p is put. IsPrecise (machine p) (levels p) is put) }
+
+    // In how many turns: exactly those of the inputs got, where all of their text was put; under
+    // `multi` the work of shared copies, and under `plain` that of its one run.
+    ensures counted { (work : Work) (name : List ℕ) → Asks words.now (Command.Trace work) name → IsAnswered result
+        → Under (S.told shelf.old) name (λ p. Counts work p (P.told port.old) (P.told port.new) turns.old turns.new) }
 
     // What comes of the words, where nothing failed, and of a policy that is known.
     ensures usage { Suits result words.now }

@@ -103,7 +103,6 @@ fn let_out(policy: &Policy, pool: &mut Pool, text: &mut Vec<u8>) -> Result<(), A
 
 /// A pool for the levels of a policy, in which nothing came to any of them yet. It is refused only for
 /// want of memory.
-#[tactic(auto, using(crate::proofs::Feeding::fresh_copies))]
 pub fn new_pool(alloc: Global, policy: &Policy) -> Result<Pool, AllocError>
     ensures { IfOk result (λ pool. AreCopiesAt policy.now pool []) }
 {
