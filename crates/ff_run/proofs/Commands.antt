@@ -1,5 +1,6 @@
 -- The words of the command line, one by one.
 use Rattle.std.proofs.Common.{◌≡◌, ◌⊎◌, inl, inr, ℕ, ◌<◌, ◌≤◌, ◌==◌, ◌^◌, cond, Option, Some, None, List, [], ◌∷◌, length, get_or, map, codes, String, Global, refl, sym, ap, subst, ◌∙◌, arith}
+use Rattle.std.specs.Bool.{⊤}
 use Rattle.std.specs.Option.{MatchOption}
 use Rattle.std.proofs.lemmas.List.{length-map}
 use Rattle.std.proofs.lemmas.Fmt.{decimal_injective}
@@ -25,10 +26,6 @@ rest_of (w ∷ ws) = ws
 abbrev first_of : List (List ℕ) → List ℕ
 first_of [] = []
 first_of (w ∷ ws) = w
-
--- a word that begins with one byte is none that begins with another
-other_byte : (v w : List ℕ) → v ≡ w → ¬ (first_or_zero v ≡ first_or_zero w) → ⊥
-other_byte v w same differ = differ (ap first_or_zero same)
 
 -- ---- no two commands have one word
 
@@ -79,16 +76,16 @@ kinds (Trace work) = Kinds.under (Trace work) tt refl (λ words name spelled. sp
 kinds (Generate start inputs) = Kinds.numbers start inputs
 
 spelled_once : (words : List (List ℕ)) (c d : Command) (name other : List ℕ) → Kinds c → Kinds d → Spell words c name → Spell words d other → (c ≡ d) × (name ≡ other)
-spelled_once words c d name other (Kinds.under b needs same as) (Kinds.under b' needs' same' as') first second =
-    let f = as words name first in
-    let s = as' words other second in
+spelled_once words c d name other (Kinds.under b needs same unders) (Kinds.under b' needs' same' unders') first second =
+    let f = unders words name first in
+    let s = unders' words other second in
     let both : word_of c ∷ name ∷ f.more ≡ word_of d ∷ other ∷ s.more = sym f.words_are ∙ s.words_are in
     (sym same ∙ bare_once c d (ap first_of both) ∙ same', ap (λ ws. first_of (rest_of ws)) both)
-spelled_once words c d name other (Kinds.under b needs same as) (Kinds.numbers start inputs) first second =
-    let f = as words name first in
+spelled_once words c d name other (Kinds.under b needs same unders) (Kinds.numbers start inputs) first second =
+    let f = unders words name first in
     absurd (not_generate c start inputs (sym (bare_once c (Generate start inputs) (ap first_of (sym f.words_are ∙ second.0.words_are)))) needs)
-spelled_once words c d name other (Kinds.numbers start inputs) (Kinds.under b needs same as) first second =
-    let s = as words other second in
+spelled_once words c d name other (Kinds.numbers start inputs) (Kinds.under b needs same unders) first second =
+    let s = unders words other second in
     absurd (not_generate d start inputs (bare_once (Generate start inputs) d (ap first_of (sym first.0.words_are ∙ s.words_are))) needs)
 spelled_once words c d name other (Kinds.numbers start inputs) (Kinds.numbers start' inputs') first second =
     let both : codes "gen" ∷ nat_text start ∷ nat_text inputs ∷ [] ≡ codes "gen" ∷ nat_text start' ∷ nat_text inputs' ∷ [] = sym first.0.words_are ∙ second.0.words_are in
@@ -114,14 +111,14 @@ pub spell_no_two : (word name : List ℕ) → ((command : Command) → NeedsPoli
 spell_no_two word name none c other spelled = from c (kinds c) spelled
   where
     from : (d : Command) → Kinds d → Spell (word ∷ name ∷ []) d other → ⊥
-    from d (Kinds.under b needs same as) spelled' = none d needs (sym (ap first_of (as (word ∷ name ∷ []) other spelled').words_are))
+    from d (Kinds.under b needs same unders) spelled' = none d needs (sym (ap first_of (unders (word ∷ name ∷ []) other spelled').words_are))
     from d (Kinds.numbers start inputs) spelled' = omega (arith, ap length spelled'.0.words_are)
 
 pub spell_no_name : (word name : List ℕ) → name ≡ [] → (c : Command) (other : List ℕ) → ¬ Spell (word ∷ name ∷ []) c other
 spell_no_name word name none c other spelled = from c (kinds c) spelled
   where
     from : (d : Command) → Kinds d → Spell (word ∷ name ∷ []) d other → ⊥
-    from d (Kinds.under b needs same as) spelled' = let u = as (word ∷ name ∷ []) other spelled' in u.named (sym (ap (λ ws. first_of (rest_of ws)) u.words_are) ∙ none)
+    from d (Kinds.under b needs same unders) spelled' = let u = unders (word ∷ name ∷ []) other spelled' in u.named (sym (ap (λ ws. first_of (rest_of ws)) u.words_are) ∙ none)
     from d (Kinds.numbers start inputs) spelled' = omega (arith, ap length spelled'.0.words_are)
 
 -- ---- three words
@@ -139,8 +136,8 @@ pub spell_no_three : (word first second : List ℕ) → (word ≡ codes "multi" 
 spell_no_three word first second no_multi no_gen c other spelled = from c (kinds c) spelled
   where
     from : (d : Command) → Kinds d → Spell (word ∷ first ∷ second ∷ []) d other → ⊥
-    from d (Kinds.under b needs same as) spelled' =
-        let u = as (word ∷ first ∷ second ∷ []) other spelled' in
+    from d (Kinds.under b needs same unders) spelled' =
+        let u = unders (word ∷ first ∷ second ∷ []) other spelled' in
         let is = third d second u.more (sym (ap (λ ws. rest_of (rest_of ws)) u.words_are)) u.follows needs in
         no_multi (ap first_of u.words_are ∙ is.0)
     from d (Kinds.numbers start inputs) spelled' = no_gen (ap first_of spelled'.0.words_are)
@@ -158,8 +155,8 @@ multi_words : (name word : List ℕ) (c : Command) (other : List ℕ) → Spell 
 multi_words name word c other spelled = from c (kinds c) spelled
   where
     from : (d : Command) → Kinds d → Spell (codes "multi" ∷ name ∷ word ∷ []) d other → IsSlice word × (name ≡ [] → ⊥)
-    from d (Kinds.under b needs same as) spelled' =
-        let u = as (codes "multi" ∷ name ∷ word ∷ []) other spelled' in
+    from d (Kinds.under b needs same unders) spelled' =
+        let u = unders (codes "multi" ∷ name ∷ word ∷ []) other spelled' in
         ((third d word u.more (sym (ap (λ ws. rest_of (rest_of ws)) u.words_are)) u.follows needs).1, λ none. u.named (sym (ap (λ ws. first_of (rest_of ws)) u.words_are) ∙ none))
     from d (Kinds.numbers start inputs) spelled' = let same : ◌≡◌ {A = ℕ} 109 103 = ap (λ ws. first_or_zero (first_of ws)) spelled'.0.words_are in absurd (omega arith)
 
@@ -186,8 +183,8 @@ generated_words : (first second : List ℕ) (c : Command) (other : List ℕ) →
 generated_words first second c other spelled = from c (kinds c) spelled
   where
     from : (d : Command) → Kinds d → Spell (codes "gen" ∷ first ∷ second ∷ []) d other → AreGenerated first second
-    from d (Kinds.under b needs same as) spelled' =
-        let u = as (codes "gen" ∷ first ∷ second ∷ []) other spelled' in
+    from d (Kinds.under b needs same unders) spelled' =
+        let u = unders (codes "gen" ∷ first ∷ second ∷ []) other spelled' in
         absurd (not_generate d 0 0 (bare_once (Generate 0 0) d (ap first_of u.words_are)) needs)
     from d (Kinds.numbers start inputs) spelled' = record {
       start = start;
@@ -248,7 +245,7 @@ module _ {A : Type 0} (command : A → Command) (name : A → List ℕ) (slice :
 
 -- another number of words is no command
 few_words : (words : List (List ℕ)) (c : Command) (name : List ℕ) → Kinds c → Spell words c name → (length words ≡ 2) ⊎ (length words ≡ 3)
-few_words words c name (Kinds.under b needs same as) spelled = let u = as words name spelled in more c u.more needs u.follows (ap length u.words_are)
+few_words words c name (Kinds.under b needs same unders) spelled = let u = unders words name spelled in more c u.more needs u.follows (ap length u.words_are)
   where
     more : (d : Command) (rest : List (List ℕ)) → NeedsPolicy d → MayFollow d rest → length words ≡ length (word_of d ∷ name ∷ rest) → (length words ≡ 2) ⊎ (length words ≡ 3)
     more d [] needs' follows long = inl long

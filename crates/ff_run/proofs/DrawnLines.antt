@@ -2,8 +2,9 @@
 use Rattle.std.proofs.Common.{◌≡◌, ℕ, ◌+◌, ◌*◌, ◌/◌, ◌<◌, ◌≤◌, ◌^◌, ◌==◌, ◌%◌, Bool, true, false, if◌then◌else◌, Option, Some, None, List, [], ◌∷◌, ◌++◌, length, codes, refl, sym, ap, ap₂, ◌∙◌, append_assoc, append-nil, length-append, arith}
 use Rattle.std.specs.Option.{IsSome, option_to_list}
 use Rattle.std.proofs.lemmas.Fmt.{length-decimal-le}
+use Rattle.std.proofs.lemmas.Nat.{mod_below}
 use Rattle.ff_number.specs.Decimal.{nat_text}
-use Rattle.ff_gen.specs.Workload.{typed, line_of, draw_of}
+use Rattle.ff_gen.specs.Workload.{following, typed, line_of, draw_of}
 
 record IsShortLine (bytes : List ℕ) : Type 0 where
   line : List ℕ
@@ -49,21 +50,27 @@ pub same_front : (xs ys : List ℕ) (x y : ℕ) → xs ++ x ∷ [] ≡ ys ++ y �
 same_front [] [] x y same = refl
 same_front [] (z ∷ zs) x y same = let long = ap length same in let more = length-append zs (y ∷ []) in absurd (omega (arith, long, more))
 same_front (z ∷ zs) [] x y same = let long = ap length same in let more = length-append zs (x ∷ []) in absurd (omega (arith, long, more))
-same_front (w ∷ ws) (z ∷ zs) x y same = ap₂ (λ a as. a ∷ as) (ap first_of same) (same_front ws zs x y (ap rest_of same))
+same_front (w ∷ ws) (z ∷ zs) x y same = ap₂ (λ a bs. a ∷ bs) (ap first_of same) (same_front ws zs x y (ap rest_of same))
+
+-- the draw of a number has 16 bits
+small_draw : (number old : ℕ) → number ≡ following old → draw_of number < 65536
+small_draw number old is =
+    let below = mod_below (1664525 * old + 1013904223) (2 ^ 32) (omega arith) in
+    omega (arith, is, below)
 
 -- a drawn line without the byte that was taken from its end
-pub drawn_line : (number : ℕ) (start full popped : List ℕ) (last : Option ℕ) → number < 2 ^ 32 → start ≡ [] → full ≡ start ++ line_of (draw_of number) → full ≡ popped ++ option_to_list last → IsSome last
+pub drawn_line : (number : ℕ) (start full popped : List ℕ) (last : Option ℕ) → (old : ℕ) → number ≡ following old → start ≡ [] → full ≡ start ++ line_of (draw_of number) → full ≡ popped ++ option_to_list last → IsSome last
     → line_of (draw_of number) ≡ popped ++ 10 ∷ []
-drawn_line number start full popped None small none made cut some = absurd some
-drawn_line number start full popped (Some x) small none made cut some =
-    let ends = short_line (draw_of number) (omega arith) in
+drawn_line number start full popped None old small none made cut some = absurd some
+drawn_line number start full popped (Some x) old small none made cut some =
+    let ends = short_line (draw_of number) (small_draw number old small) in
     let whole : line_of (draw_of number) ≡ popped ++ x ∷ [] = sym (made ∙ ap (λ bs. bs ++ line_of (draw_of number)) none) ∙ cut in
     let same : ends.line ≡ popped = same_front ends.line popped 10 x (sym ends.is ∙ whole) in
     ends.is ∙ ap (λ bs. bs ++ 10 ∷ []) same
 
-pub drawn_short : (number : ℕ) (start full popped : List ℕ) (last : Option ℕ) → number < 2 ^ 32 → start ≡ [] → full ≡ start ++ line_of (draw_of number) → full ≡ popped ++ option_to_list last → length popped ≤ 300
-drawn_short number start full popped last small none made cut =
-    let ends = short_line (draw_of number) (omega arith) in
+pub drawn_short : (number : ℕ) (start full popped : List ℕ) (last : Option ℕ) → (old : ℕ) → number ≡ following old → start ≡ [] → full ≡ start ++ line_of (draw_of number) → full ≡ popped ++ option_to_list last → length popped ≤ 300
+drawn_short number start full popped last old small none made cut =
+    let ends = short_line (draw_of number) (small_draw number old small) in
     let short = ends.short in
     let whole = ap length (sym (made ∙ ap (λ bs. bs ++ line_of (draw_of number)) none) ∙ cut) in
     let parts = length-append popped (option_to_list last) in

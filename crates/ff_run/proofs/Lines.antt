@@ -1,5 +1,5 @@
 -- The first line of a text, and the first word of a line, by the place of their end.
-use Rattle.std.proofs.Common.{◌≡◌, ℕ, zero, suc, ◌+◌, ◌<◌, ◌≤◌, ◌==◌, ◌||◌, Bool, true, false, cond, Some, None, List, [], ◌∷◌, take, drop, length, slice_index, refl, sym, ap, subst, ◌∙◌, arith}
+use Rattle.std.proofs.Common.{◌≡◌, ℕ, zero, suc, ◌+◌, ◌<◌, ◌≤◌, ◌==◌, ◌||◌, Bool, true, false, cond, Some, None, List, [], ◌∷◌, ◌++◌, append-nil, take, drop, length, slice_index, refl, sym, ap, subst, ◌∙◌, arith}
 use Rattle.std.specs.List.{onto_first}
 use Rattle.std.proofs.lemmas.Bool.{false_from_ne_true}
 use Rattle.memchr.specs.Find.{IsFirstByte, is_byte, is_byte2}
@@ -26,8 +26,13 @@ cut_at text at first =
     let one : suc at ≡ at + 1 = omega arith in
     subst (λ n. lines text ≡ take n text ∷ lines (drop n text)) one (lines_cut text at first.0.high (λ k less is. first.0.before k (omega arith) less is) first.1)
 
-pub all_one : (text : List ℕ) → 0 < length text → IsFirstByte (is_byte 10) text None → lines text ≡ text ∷ []
+all_one : (text : List ℕ) → 0 < length text → IsFirstByte (is_byte 10) text None → lines text ≡ text ∷ []
 all_one text some none = lines_whole text some (λ k less is. none k (omega arith) less is)
+
+-- so all of them are the first line, and nothing is left
+pub all_cut : (text front back : List ℕ) → 0 < length text → IsFirstByte (is_byte 10) text None → text ≡ front ++ back → length back + length text ≡ length text → lines text ≡ front ∷ lines back
+all_cut text front [] some none whole long = all_one text some none ∙ ap (λ l. l ∷ []) (whole ∙ append-nil front)
+all_cut text front (b ∷ bs) some none whole long = absurd (omega (arith, long))
 
 -- a blank or a newline ends the first word
 word_cut : (line : List ℕ) (at : ℕ) → at < length line → ((k : ℕ) → k < at → (slice_index line k == 32 || slice_index line k == 10) ≡ true → ⊥) → (slice_index line at == 32 || slice_index line at == 10) ≡ true → first_word line ≡ take at line

@@ -17,7 +17,7 @@ pub record HasCounted (word text rest : List ℕ) (counted bytes : ℕ) : Type 0
   pub few_bytes : bytes + length rest ≤ length text
 
 pub counted_none : (word text : List ℕ) → HasCounted word text text 0 0
-counted_none word text = record { lines_are = refl; bytes_are = refl; few_lines = omega arith; few_bytes = omega arith }
+counted_none word text = record { lines_are = omega arith; bytes_are = omega arith; few_lines = omega arith; few_bytes = omega arith }
 
 module _ (word text rest line more : List ℕ) (counted bytes : ℕ) (has : HasCounted word text rest counted bytes)
     (cut : lines rest ≡ line ∷ lines more) (whole : length rest ≡ length line + length more) (some : 0 < length line) where

@@ -85,7 +85,7 @@ fn is_headed(line: &[u8], word: &[u8]) -> bool
 }
 
 /// The first line of a text, with its newline where it has one, and the rest.
-#[tactic(auto, using(crate::proofs::Lines::cut_at, crate::proofs::Lines::all_one))]
+#[tactic(auto, using(crate::proofs::Lines::cut_at, crate::proofs::Lines::all_cut))]
 fn split_line(text: &[u8]) -> (&[u8], &[u8])
     requires { 0 < length text.now }
     ensures lines { lines text.now ≡ result.0.now ∷ lines result.1.now }
