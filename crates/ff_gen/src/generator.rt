@@ -5,6 +5,7 @@ ghost use Rattle.ff_gen.specs.Workload as spec;
 
 use ff_number::print_nat;
 use std::alloc::{AllocError, Global};
+use std::marker::Model;
 
 /// The answer of a call that found no memory.
 pub type NoMemory = AllocError;
@@ -17,16 +18,52 @@ pub const MOST_LINES: u32 = 100_000;
 const PAGE: &[u8] =
     b"reply a.com 0 (doc () (box b \"\" (fn (n) (ask \"http://b.com/q\" (text n) (fn (r) null)))) (button g \"go\" (fn (n) (set-text n (cat \"s\" (text (find (page (self)) \"b\")))))))\n";
 
+/// Draws lines, one after another. It is seen as the number of the line that was drawn last.
+#[derive(Drop)]
+pub struct Draws {
+    number: u64,
+}
+
+impl Model for Draws {
+    ghost use Rattle.std.specs.Prelude.{ℕ, ◌<◌, ◌^◌};
+
+    ghost Value = { ℕ };
+
+    ghost view = { λ d. d.number };
+
+    ghost invariant = { λ d. d.number < 2 ^ 32 };
+}
+
+impl Draws {
+    /// Before the first line of those that are drawn from `start`, which counts modulo 2^32.
+    pub fn new(start: u64) -> Draws
+        ensures { result ≡ spec.number_at start 0 }
+    {
+        Draws {
+            number: start % 4_294_967_296,
+        }
+    }
+
+    /// Draws the next line and appends it, with its newline. It is refused only for want of memory,
+    /// and then a front of the line was appended.
+    pub fn next_line(&mut self, out: &mut Vec<u8>) -> Result<(), NoMemory>
+        ensures drawn { self.new ≡ spec.following self.old }
+        ensures line { Appends result out.old.items out.new.items (spec.line_of (spec.draw_of self.new)) }
+    {
+        self.number = following(self.number);
+        print_line(self.number / 65_536, out)
+    }
+}
+
 /// The lines of a trace of `n` inputs, each with its newline, drawn from `start`, which counts
 /// modulo 2^32. They are inputs under the built-in policy. It is refused only for want of memory.
 pub fn workload(alloc: Global, start: u64, n: u32) -> Result<Vec<u8>, NoMemory>
     ensures { IfOk result (λ bytes. bytes.items ≡ spec.workload start n) }
 {
     let mut bytes = Vec::new(alloc);
-    let mut number = start % 4_294_967_296;
+    let mut draws = Draws::new(start);
     for _line in 0..n {
-        number = following(number);
-        print_line(number / 65_536, &mut bytes)?;
+        draws.next_line(&mut bytes)?;
     }
     Ok(bytes)
 }

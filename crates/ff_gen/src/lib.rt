@@ -6,4 +6,4 @@
 
 mod generator;
 
-pub use generator::{MOST_LINES, NoMemory, workload};
+pub use generator::{Draws, MOST_LINES, NoMemory, workload};

@@ -52,6 +52,9 @@ late before now turns_before turns_now command.Check p ShelfFault run early = ru
 late before now turns_before turns_now command.Upgrade p Usage run early = run.written
 late before now turns_before turns_now command.Upgrade p (Policy fault) run early = run.written
 late before now turns_before turns_now command.Upgrade p ShelfFault run early = run.written
+late before now turns_before turns_now (command.Generate start inputs) p Usage run early = run
+late before now turns_before turns_now (command.Generate start inputs) p (Policy fault) run early = run
+late before now turns_before turns_now (command.Generate start inputs) p ShelfFault run early = run
 late before now turns_before turns_now (command.Trace work) p Usage run early = run.written
 late before now turns_before turns_now (command.Trace work) p (Policy fault) run early = run.written
 late before now turns_before turns_now (command.Trace work) p ShelfFault run early = run.written
@@ -135,5 +138,7 @@ unfailing command.Check name shelf shelf_now before now turns_before turns_now R
 unfailing command.Check name shelf shelf_now before now turns_before turns_now WriteFault obeys fine = fine.writes obeys.held.listed.1
 unfailing command.Upgrade name shelf shelf_now before now turns_before turns_now ReadFault obeys fine = obeys.held.written
 unfailing command.Upgrade name shelf shelf_now before now turns_before turns_now WriteFault obeys fine = fine.writes obeys.held.written.1
+unfailing (command.Generate start inputs) name shelf shelf_now before now turns_before turns_now ReadFault obeys fine = obeys.held
+unfailing (command.Generate start inputs) name shelf shelf_now before now turns_before turns_now WriteFault obeys fine = fine.writes obeys.held.held.1
 unfailing (command.Trace work) name shelf shelf_now before now turns_before turns_now ReadFault obeys fine = fine.reads (obeys.held.read_fault refl)
 unfailing (command.Trace work) name shelf shelf_now before now turns_before turns_now WriteFault obeys fine = fine.writes (obeys.held.write_fault refl)

@@ -3,4 +3,5 @@ pub mod Policies
 pub mod Status
 pub mod Checked
 pub mod Upgraded
+pub mod Generated
 pub mod Run

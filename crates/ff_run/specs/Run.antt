@@ -1,20 +1,25 @@
 -- What a run does, by its command and its status.
-use Rattle.std.specs.Prelude.{◌≡◌, ◌≢◌, ◌⊎◌, ℕ, List, String}
+use Rattle.std.specs.Prelude.{◌≡◌, ◌≢◌, ◌⊎◌, ℕ, ◌+◌, Option, List, String}
 use Rattle.std.proofs.Common.{Global}
 use Rattle.ff_io.specs.Counts.{Rose}
-use Rattle.ff_io.specs.Port.{Told, SinkTold}
+use Rattle.ff_io.specs.Pieces.{Piece}
+use Rattle.ff_io.specs.Port.{Told, SinkTold, Passes}
 use Rattle.ff_io.specs.Shelf.{ShelfTold}
 use Rattle.ff_value.specs.declared.input.Input.{Input}
 use Rattle.ff_policy.specs.Assignment.{Assignment}
-use Rattle.ff_session.specs.Works.{Exchanged, Claims}
+use Rattle.ff_stream.specs.declared.end.BadLine.{BadLine}
+use Rattle.ff_session.specs.Works.{AreInputsGot, turns_for, Exchanged, Claims}
+use Rattle.ff_session.specs.declared.work.Work.{Work}
 use Rattle.ff_session.specs.declared.work.Work.TheVariants.{Multi}
 use Rattle.ff_status.specs.Putting.{Reported}
 use Rattle.ff_status.specs.declared.status.Status.{Status}
 use Rattle.ff_status.specs.declared.status.Status.TheVariants.{Done, Usage, Policy, Trace, ReadFault, WriteFault, ShelfFault, NoMemory}
+use Rattle.ff_status.specs.declared.status.TraceFault.{TraceFault}
 use Rattle.ff_run.specs.Words.{AreCommand, dash}
 use Rattle.ff_run.specs.Policies.{NamesFault, FetchFailed, Under}
 use Rattle.ff_run.specs.Checked.{Checks}
 use Rattle.ff_run.specs.Upgraded.{Upgrades}
+use Rattle.ff_run.specs.Generated.{Generates}
 use Rattle.ff_run.specs.declared.words.Command.{Command}
 use Rattle.ff_run.specs.declared.words.Command.TheVariants as command
 
@@ -26,6 +31,7 @@ Suits other words = AreCommand words
 -- what a command does under a policy
 abbrev pub Performs : Command → Assignment → Told → Told → ℕ → ℕ → Status → Type 0
 Performs command.Check p before now turns_before turns_now status = Checks p.order before now turns_before turns_now status
+Performs (command.Generate start inputs) p before now turns_before turns_now status = Generates p start inputs before now turns_before turns_now status
 Performs command.Upgrade p before now turns_before turns_now status = Upgrades p before now turns_before turns_now status
 Performs (command.Trace work) p before now turns_before turns_now status = Exchanged work p before now turns_before turns_now status
 
@@ -50,6 +56,13 @@ Obeys command name shelf shelf_now before now turns_before turns_now status = Un
 -- multi-executed run, and of the bytes put
 abbrev pub ClaimsUnder : ShelfTold → List ℕ → Told → Told → (Assignment → List Input → List ℕ → Type 0) → Type 0
 ClaimsUnder shelf name before now claim = Under shelf name (λ p. Claims Multi p before now (claim p))
+
+-- Exactly the turns were made that the inputs take which the bytes got give, up to the first bad
+-- line.
+pub record Counts (work : Work) (p : Assignment) (before now : Told) (turns_before turns_now : ℕ) : Type 0 where
+  pub pieces : List Piece
+  pub passed : Passes before now pieces
+  pub counted : (is : List Input) (bad : Option (BadLine TraceFault)) → AreInputsGot work p pieces is bad → turns_now ≡ turns_before + turns_for work p is
 
 -- Nothing failed: no fetch of the file of this name, no read and no write.
 pub record NothingFailed (name : List ℕ) (shelf shelf_now : ShelfTold) (before now : Told) : Type 0 where

@@ -1,9 +1,11 @@
 -- The words of the command line.
-use Rattle.std.specs.Prelude.{◌≡◌, ◌≢◌, ℕ, List, [], ◌∷◌, map, codes, String, string_bytes}
+use Rattle.std.specs.Prelude.{◌≡◌, ◌≢◌, ◌≤◌, ◌<◌, ◌^◌, ℕ, List, [], ◌∷◌, map, codes, String, string_bytes, ⊤}
 use Rattle.std.proofs.Common.{Global}
+use Rattle.ff_number.specs.Decimal.{nat_text}
+use Rattle.ff_gen.specs.declared.generator.TheConstants.{MOST_LINES}
 use Rattle.ff_session.specs.declared.work.Work.TheVariants.{Multi, Plain, Format}
 use Rattle.ff_run.specs.declared.words.Command.{Command}
-use Rattle.ff_run.specs.declared.words.Command.TheVariants.{Check, Upgrade, Trace}
+use Rattle.ff_run.specs.declared.words.Command.TheVariants.{Check, Upgrade, Trace, Generate}
 
 -- the word of a command
 abbrev pub word_of : Command → List ℕ
@@ -12,11 +14,47 @@ word_of Upgrade = codes "upgrade"
 word_of (Trace Multi) = codes "multi"
 word_of (Trace Plain) = codes "plain"
 word_of (Trace Format) = codes "fmt"
+word_of (Generate start inputs) = codes "gen"
+
+-- the name of the built-in policy
+abbrev pub dash : List ℕ
+dash = codes "-"
+
+-- The word is a slice, in canonical decimal.
+pub record IsSlice (word : List ℕ) : Type 0 where
+  pub slice : ℕ
+  pub some : 1 ≤ slice
+  pub most : slice < 2 ^ 32
+  pub word_is : word ≡ nat_text slice
+
+-- what may follow the name of the policy: a slice, where the inputs are multi-executed
+abbrev pub MayFollow : Command → List (List ℕ) → Type 0
+MayFollow command [] = ⊤
+MayFollow (Trace Multi) (word ∷ []) = IsSlice word
+MayFollow command words = ⊥
+
+-- The words are those of a command under the policy of this name.
+pub record AreUnder (words : List (List ℕ)) (command : Command) (name : List ℕ) : Type 0 where
+  pub more : List (List ℕ)
+  pub words_are : words ≡ word_of command ∷ name ∷ more
+  pub follows : MayFollow command more
+  pub named : name ≢ []
+
+-- The words ask for so many inputs that are drawn from a start, in canonical decimal.
+pub record AreNumbers (words : List (List ℕ)) (start inputs : ℕ) : Type 0 where
+  pub words_are : words ≡ codes "gen" ∷ nat_text start ∷ nat_text inputs ∷ []
+  pub start_fits : start < 2 ^ 64
+  pub few : inputs ≤ MOST_LINES
+
+-- The words spell the command under the policy of this name; that of generated inputs is the
+-- built-in one.
+abbrev pub Spell : List (List ℕ) → Command → List ℕ → Type 0
+Spell words (Generate start inputs) name = AreNumbers words start inputs × (name ≡ dash)
+Spell words command name = AreUnder words command name
 
 -- The words ask for the command, under the policy of this name.
 pub record Asks (words : List (String Global)) (command : Command) (name : List ℕ) : Type 0 where
-  pub words_are : map string_bytes words ≡ word_of command ∷ name ∷ []
-  pub named : name ≢ []
+  pub spelled : Spell (map string_bytes words) command name
 
 -- The words are a command.
 pub record AreCommand (words : List (String Global)) : Type 0 where
@@ -24,10 +62,11 @@ pub record AreCommand (words : List (String Global)) : Type 0 where
   pub name : List ℕ
   pub asks : Asks words command name
 
--- the name of the built-in policy
-abbrev pub dash : List ℕ
-dash = codes "-"
-
 -- the command of a multi-executed run
 abbrev pub multi : Command
 multi = Trace Multi
+
+-- the command is under a policy that the words name
+abbrev pub NeedsPolicy : Command → Type 0
+NeedsPolicy (Generate start inputs) = ⊥
+NeedsPolicy command = ⊤

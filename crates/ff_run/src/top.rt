@@ -1,20 +1,22 @@
-ghost use Rattle.std.specs.Prelude.{◌≡◌, ◌≢◌, ◌≤◌, ℕ, ◌⊎◌, List};
+ghost use Rattle.std.specs.Prelude.{◌≡◌, ◌≢◌, ◌≤◌, ◌<◌, ℕ, ◌⊎◌, List};
 ghost use Rattle.ff_reactive.specs.Laws.{IsProjection, IsSecure, IsPrecise};
 ghost use Rattle.ff_policy.specs.Assignment.{Assignment, IsAssignment};
 ghost use Rattle.ff_policy.specs.declared.fault.PolicyFault.{PolicyFault};
 ghost use Rattle.ff_levels.specs.Levels.{levels, machine, IsInput};
 ghost use Rattle.ff_session.specs.Works.{IsAnswered};
+ghost use Rattle.ff_session.specs.declared.work.Work.{Work};
 ghost use Rattle.ff_status.specs.Words.{error_line};
 ghost use Rattle.ff_run.specs.Words.{Asks, dash, multi};
-ghost use Rattle.ff_run.specs.Policies.{NamesPolicy, NamesFault, IsKnown, FetchFailed};
+ghost use Rattle.ff_run.specs.Policies.{NamesPolicy, NamesFault, IsKnown, FetchFailed, Under};
 ghost use Rattle.ff_run.specs.Status.{IsEarly, IsUnfailing};
-ghost use Rattle.ff_run.specs.Run.{Suits, Performs, Obeys, ClaimsUnder, NothingFailed, Reports};
+ghost use Rattle.ff_run.specs.Run.{Suits, Performs, Obeys, ClaimsUnder, Counts, NothingFailed, Reports};
 ghost use Rattle.ff_run.specs.declared.words.Command.{Command};
 
 use crate::check::check;
+use crate::generate::generate;
 use crate::policies::find_policy;
 use crate::upgrade::upgrade;
-use crate::words::{Command, command_of};
+use crate::words::{Command, asked_by};
 use ff_io::{Port, Shelf, Sink};
 use ff_policy::Policy;
 use ff_session::walk;
@@ -26,17 +28,21 @@ use std::sync::ledger::Ledger;
 /// Obeys the command that the words are.
 ///
 /// `multi POLICY` multi-executes the trace that the port gives, with one copy of the browser for
-/// each level, and writes the lines that are let out. `plain POLICY` runs one browser over it, and
-/// writes all its lines. `fmt POLICY` writes each input of it in its canonical form. These three
-/// write the text of the lines that were got before they read further. `check POLICY` reads no
-/// trace, and writes for each level which levels it sees; `upgrade POLICY` reads none either, and
-/// writes the policy as version 2. POLICY is the name of a file on the
-/// shelf, of which the first 65,537 bytes count, or `-` for the built-in policy. Every other list
-/// of words is `Usage`.
+/// each level, and writes the lines that are let out. Levels that saw the same so far share their
+/// copy. `multi POLICY SLICE` writes the same: copies with work make up to SLICE steps at a time,
+/// from 1 to 4,294,967,295, and 1,000 where no number is given. `plain POLICY` runs one browser
+/// over the trace, and writes all its lines. `fmt POLICY` writes each input of it in its canonical
+/// form. These three write the text of the lines that were got before they read further. `check
+/// POLICY` reads no trace, and writes for each level which levels it sees; `upgrade POLICY` reads
+/// none either, and writes the policy as version 2. `gen START N` multi-executes N inputs, at most
+/// 100,000, that are drawn from START, below 2^64, under the built-in policy, and writes how many
+/// lines and bytes each level has. POLICY is the name of a file on the shelf, of which the first
+/// 65,537 bytes count, or `-` for the built-in policy. Numbers are in canonical decimal. Every other
+/// list of words is `Usage`.
 ///
 /// `words` doesn't hold the program's name. Each status but `Done` puts its one line on the error
-/// sink; a fault of that sink changes no status. `turns` counts the turns of all browsers, and
-/// `copies` the cells that they copy.
+/// sink; a fault of that sink changes no status. `turns` counts the turns of all browsers, those of
+/// copies that are shared once, and `copies` the cells that they copy.
 pub fn run<S: Shelf, P: Port, E: Sink, C: Ledger, L: Ledger>(
     alloc: Global,
     words: &[String],
@@ -59,6 +65,11 @@ pub fn run<S: Shelf, P: Port, E: Sink, C: Ledger, L: Ledger>(
         → ClaimsUnder (S.told shelf.old) name (P.told port.old) (P.told port.new) (λ p is put. IsSecure (machine p) (levels p) (IsInput p.order) is put) }
     ensures precise { (name : List ℕ) → Asks words.now multi name → IsAnswered result
         → ClaimsUnder (S.told shelf.old) name (P.told port.old) (P.told port.new) (λ p is put. IsPrecise (machine p) (levels p) is put) }
+
+    // In how many turns: exactly those of the inputs got, where all of their text was put; under
+    // `multi` the work of shared copies, and under `plain` that of its one run.
+    ensures counted { (work : Work) (name : List ℕ) → Asks words.now (Command.Trace work) name → IsAnswered result
+        → Under (S.told shelf.old) name (λ p. Counts work p (P.told port.old) (P.told port.new) turns.old turns.new) }
 
     // What comes of the words, where nothing failed, and of a policy that is known.
     ensures usage { Suits result words.now }
@@ -111,8 +122,17 @@ fn answer<S: Shelf, P: Port, C: Ledger, L: Ledger>(
     ensures no_copies { IsEarly result → copies.new ≡ copies.old }
     ensures copies { copies.old ≤ copies.new }
 {
-    match command_of(words) {
-        Some((command, name)) => obey(alloc, command, name, shelf, port, copies, turns),
+    match asked_by(words) {
+        Some(asked) => obey(
+            alloc,
+            asked.command,
+            asked.name,
+            asked.slice,
+            shelf,
+            port,
+            copies,
+            turns,
+        ),
         None => Status::Usage,
     }
 }
@@ -122,11 +142,13 @@ fn obey<S: Shelf, P: Port, C: Ledger, L: Ledger>(
     alloc: Global,
     command: Command,
     name: &str,
+    slice: u32,
     shelf: &mut S,
     port: &mut P,
     copies: &mut Steps<C>,
     turns: &mut Steps<L>,
 ) -> Status
+    requires { 0 < slice }
     ensures obeys { Obeys command name.now (S.told shelf.old) (S.told shelf.new) (P.told port.old) (P.told port.new) turns.old turns.new result }
     ensures command { result ≢ Status.Usage }
     ensures bad_policy { (fault : PolicyFault) → IsKnown (S.told shelf.old) name.now → NamesFault (S.told shelf.old) name.now fault → ¬ FetchFailed name.now (S.told shelf.old) (S.told shelf.new)
@@ -138,7 +160,7 @@ fn obey<S: Shelf, P: Port, C: Ledger, L: Ledger>(
     ensures copies { copies.old ≤ copies.new }
 {
     match find_policy(alloc, shelf, name) {
-        Ok(policy) => perform(alloc, command, &policy, port, copies, turns),
+        Ok(policy) => perform(alloc, command, &policy, slice, port, copies, turns),
         Err(status) => status,
     }
 }
@@ -148,10 +170,12 @@ fn perform<P: Port, C: Ledger, L: Ledger>(
     alloc: Global,
     command: Command,
     policy: &Policy,
+    slice: u32,
     port: &mut P,
     copies: &mut Steps<C>,
     turns: &mut Steps<L>,
 ) -> Status
+    requires { 0 < slice }
     ensures performs { Performs command policy.now (P.told port.old) (P.told port.new) turns.old turns.new result }
     ensures valid { IsAssignment policy.now }
     ensures copies { copies.old ≤ copies.new }
@@ -160,6 +184,9 @@ fn perform<P: Port, C: Ledger, L: Ledger>(
     match command {
         Command::Check => check(alloc, lattice, port),
         Command::Upgrade => upgrade(alloc, policy, port),
-        Command::Trace(work) => walk(alloc, work, policy, port, copies, turns),
+        Command::Trace(work) => walk(alloc, work, policy, slice, port, copies, turns),
+        Command::Generate(start, inputs) => {
+            generate(alloc, policy, slice, start, inputs, port, copies, turns)
+        }
     }
 }

@@ -1,8 +1,16 @@
-ghost use Rattle.std.specs.Prelude.{◌≡◌, ◌≢◌, [], MatchOption};
-ghost use Rattle.ff_run.specs.Words.{word_of, Asks, AreCommand};
+//! The words of the command line.
+ghost use Rattle.std.specs.Prelude.{◌≡◌, ◌≢◌, ◌<◌, ◌≤◌, [], ◌∷◌, ℕ, List, codes, MatchOption};
+ghost use Rattle.ff_number.specs.Decimal.{nat_text};
+ghost use Rattle.ff_gen.specs.declared.generator.TheConstants.{MOST_LINES};
+ghost use Rattle.ff_run.specs.Words.{word_of, dash, Spell, Asks, AreCommand, NeedsPolicy, IsSlice};
 ghost use Rattle.ff_run.specs.declared.words.Command.{Command};
 
+use ff_gen::MOST_LINES;
+use ff_number::read_nat;
 use ff_session::Work;
+
+/// How many steps a class of copies makes at a time, where the words don't say.
+const USUAL_SLICE: u32 = 1_000;
 
 /// A command, apart from its policy.
 #[derive(Clone, Copy, Debug, PartialEq, Eq)]
@@ -13,12 +21,14 @@ pub enum Command {
     Upgrade,
     /// The inputs of a trace are taken.
     Trace(Work),
+    /// From this start so many inputs are drawn and multi-executed, under the built-in policy.
+    Generate(u64, u32),
 }
 
 impl Command {
-    /// The command of this word, or `None` where no command has it.
+    /// The command of this word, which is under a policy, or `None` where no such command has it.
     pub(crate) fn by_word(word: &str) -> Option<Command>
-        ensures { MatchOption result ((command : Command) → word_of command ≢ word.now) (λ command. word_of command ≡ word.now) }
+        ensures { MatchOption result ((command : Command) → NeedsPolicy command → word_of command ≢ word.now) (λ command. (word_of command ≡ word.now) × NeedsPolicy command) }
     {
         match word {
             "multi" => Some(Command::Trace(Work::Multi)),
@@ -31,26 +41,107 @@ impl Command {
     }
 }
 
-/// The command that the words ask for and the name of its policy, or `None` where they are no
-/// command.
-pub(crate) fn command_of(words: &[String]) -> Option<(Command, &str)>
-    ensures { MatchOption result (¬ AreCommand words.now) (λ asked. Asks words.now asked.0 asked.1.now) }
+/// What words ask for.
+#[derive(Clone, Copy, Drop)]
+pub(crate) struct Asked<'a> {
+    pub(crate) command: Command,
+    /// The name of the policy.
+    pub(crate) name: &'a str,
+    /// How many steps a class of copies makes at a time, from 1 on.
+    pub(crate) slice: u32,
+}
+
+/// What the words ask for, or `None` where they are no command.
+#[tactic(auto, using(crate::proofs::Commands::asks_other))]
+pub(crate) fn asked_by(words: &[String]) -> Option<Asked<'_>>
+    ensures { MatchOption result (¬ AreCommand words.now) (λ asked. Asks words.now asked.command asked.name.now × (0 < asked.slice)) }
 {
     match words {
-        [word, policy] => with_policy(word.as_str(), policy.as_str()),
+        [word, name] => asked_by_two(word.as_str(), name.as_str()),
+        [word, first, second] => asked_by_three(word.as_str(), first.as_str(), second.as_str()),
         _ => None,
     }
 }
 
-/// The command of this word under a policy of this name, which isn't empty.
-fn with_policy<'a>(word: &str, policy: &'a str) -> Option<(Command, &'a str)>
-    ensures { MatchOption result ((command : Command) → word_of command ≡ word.now → policy.now ≡ []) (λ asked. (word_of asked.0 ≡ word.now) × (asked.1.now ≡ policy.now) × (policy.now ≢ [])) }
+/// What a command and the name of its policy ask for.
+#[tactic(auto, using(crate::proofs::Commands::spell_two, crate::proofs::Commands::spell_no_name, crate::proofs::Commands::spell_no_two))]
+fn asked_by_two<'a>(word: &str, name: &'a str) -> Option<Asked<'a>>
+    ensures { MatchOption result ((command : Command) (other : List ℕ) → ¬ Spell (word.now ∷ name.now ∷ []) command other) (λ asked. Spell (word.now ∷ name.now ∷ []) asked.command asked.name.now × (0 < asked.slice)) }
 {
-    if policy.is_empty() {
+    if name.is_empty() {
         return None;
     }
     match Command::by_word(word) {
-        Some(command) => Some((command, policy)),
+        Some(command) => Some(Asked {
+            command,
+            name,
+            slice: USUAL_SLICE,
+        }),
         None => None,
+    }
+}
+
+/// What three words ask for.
+#[tactic(auto, using(crate::proofs::Commands::spell_no_three))]
+fn asked_by_three<'a>(word: &str, first: &'a str, second: &str) -> Option<Asked<'a>>
+    ensures { MatchOption result ((command : Command) (other : List ℕ) → ¬ Spell (word.now ∷ first.now ∷ second.now ∷ []) command other) (λ asked. Spell (word.now ∷ first.now ∷ second.now ∷ []) asked.command asked.name.now × (0 < asked.slice)) }
+{
+    match word {
+        "multi" => asked_with_slice(first, second),
+        "gen" => asked_for_inputs(first, second),
+        _ => None,
+    }
+}
+
+/// A multi-executed run under the policy of this name, with this slice.
+#[tactic(auto, using(crate::proofs::Commands::spell_slice, crate::proofs::Commands::spell_no_slice, crate::proofs::Commands::spell_no_policy))]
+fn asked_with_slice<'a>(name: &'a str, slice: &str) -> Option<Asked<'a>>
+    ensures { MatchOption result ((command : Command) (other : List ℕ) → ¬ Spell (codes "multi" ∷ name.now ∷ slice.now ∷ []) command other) (λ asked. Spell (codes "multi" ∷ name.now ∷ slice.now ∷ []) asked.command asked.name.now × (0 < asked.slice)) }
+{
+    if name.is_empty() {
+        return None;
+    }
+    match slice_of(slice) {
+        Some(slice) => Some(Asked {
+            command: Command::Trace(Work::Multi),
+            name,
+            slice,
+        }),
+        None => None,
+    }
+}
+
+/// So many inputs that are drawn from a start.
+#[tactic(auto, using(crate::proofs::Commands::spell_numbers, crate::proofs::Commands::spell_no_start, crate::proofs::Commands::spell_no_inputs))]
+fn asked_for_inputs<'a>(start: &str, inputs: &str) -> Option<Asked<'a>>
+    ensures { MatchOption result ((command : Command) (other : List ℕ) → ¬ Spell (codes "gen" ∷ start.now ∷ inputs.now ∷ []) command other) (λ asked. Spell (codes "gen" ∷ start.now ∷ inputs.now ∷ []) asked.command asked.name.now × (0 < asked.slice)) }
+{
+    let start = read_nat(start.as_bytes())?;
+    let inputs = inputs_of(inputs)?;
+    Some(Asked {
+        command: Command::Generate(start, inputs),
+        name: "-",
+        slice: USUAL_SLICE,
+    })
+}
+
+/// The slice that a word is: a number from 1 to 4,294,967,295.
+fn slice_of(word: &str) -> Option<u32>
+    ensures { MatchOption result (¬ IsSlice word.now) (λ slice. (1 ≤ slice) × (word.now ≡ nat_text slice)) }
+{
+    match u32::try_from(read_nat(word.as_bytes())?) {
+        Ok(0) => None,
+        Ok(slice) => Some(slice),
+        Err(_) => None,
+    }
+}
+
+/// The number of inputs that a word is: at most `MOST_LINES`.
+fn inputs_of(word: &str) -> Option<u32>
+    ensures { MatchOption result ((n : ℕ) → n ≤ MOST_LINES → word.now ≢ nat_text n) (λ n. (n ≤ MOST_LINES) × (word.now ≡ nat_text n)) }
+{
+    match u32::try_from(read_nat(word.as_bytes())?) {
+        Ok(n) if n <= MOST_LINES => Some(n),
+        _ => None,
     }
 }

@@ -172,11 +172,22 @@ fn show_masks_and_upgrades(rt: &HostRuntime) -> io::Result<()> {
 }
 
 fn show_refusals(rt: &HostRuntime) -> io::Result<()> {
-    let rows: [(&[&str], &str); 8] = [
+    let rows: [(&[&str], &str); 19] = [
         (&[], ""),
+        (&["multi"], ""),
         (&["plain", ""], ""),
-        (&["multi", "-", "0"], ""),
         (&["Check", "-"], ""),
+        (&["plain", "-", "1"], ""),
+        (&["multi", "", "1"], ""),
+        (&["multi", "-", "0"], ""),
+        (&["multi", "-", "01"], ""),
+        (&["multi", "-", "4294967296"], ""),
+        (&["multi", "-", "1", "1"], ""),
+        (&["gen", "1"], ""),
+        (&["gen", "00", "1"], ""),
+        (&["gen", "18446744073709551616", "1"], ""),
+        (&["gen", "1", "100001"], ""),
+        (&["gen", "1", "+1"], ""),
         (&["multi", "none.json"], ""),
         (&["multi", "p.json"], "{"),
         (&["check", "p.json"], r#"{"version":2}"#),
@@ -187,6 +198,44 @@ fn show_refusals(rt: &HostRuntime) -> io::Result<()> {
     ];
     for (line, file) in rows {
         show(rt, line, file, "open about:blank\n")?;
+    }
+    Ok(())
+}
+
+/// Lines that part the two levels of the built-in policy.
+const PARTING: &str =
+    "open http://a.com/x\n@H open http://b.com/y\nopen about:blank\n@H open about:blank\n";
+
+/// The same text for each slice.
+fn show_slices(rt: &HostRuntime) -> io::Result<()> {
+    for slice in ["1", "3", "1000", "1000000", "4294967295"] {
+        show(rt, &["multi", "-", slice], "", PARTING)?;
+    }
+    show(rt, &["multi", "-"], "", PARTING)
+}
+
+/// Prints how a run over inputs that are drawn ends, and whether it puts the same once more.
+fn show_drawn(rt: &HostRuntime, start: &str, inputs: &str) -> io::Result<()> {
+    let line = ["gen", start, inputs];
+    let mut port = whole(rt.alloc(), b"open about:blank\n")?;
+    let ended = ends(rt.alloc(), &line, "", &mut port)?;
+    let mut other = whole(rt.alloc(), b"")?;
+    let again = ends(rt.alloc(), &line, "", &mut other)?;
+    println!(rt; "{line:?}")?;
+    println!(rt; "  {} got {} bytes", ended.number, ended.got)?;
+    println!(rt; "  put {:?}", text_of(&ended.put))?;
+    println!(rt; "  the same again: {}", again.put.as_slice() == ended.put.as_slice())
+}
+
+fn show_generated(rt: &HostRuntime) -> io::Result<()> {
+    for (start, inputs) in [
+        ("0", "0"),
+        ("0", "3"),
+        ("4294967296", "3"),
+        ("18446744073709551615", "40"),
+        ("1", "2000"),
+    ] {
+        show_drawn(rt, start, inputs)?;
     }
     Ok(())
 }
@@ -243,6 +292,8 @@ fn main(rt: HostRuntime) -> io::Result<()> {
     show_commands(&rt)?;
     show_masks_and_upgrades(&rt)?;
     show_refusals(&rt)?;
+    show_slices(&rt)?;
+    show_generated(&rt)?;
     show_failing_reads(&rt)?;
     show_failing_writes(&rt)
 }

@@ -1,178 +1,139 @@
--- One input goes to the copies, level by level.
-use Rattle.std.proofs.Common.{◌≡◌, ℕ, zero, suc, ◌+◌, ◌<◌, ◌≤◌, ◌⊎◌, inl, inr, Option, Some, None, List, [], ◌∷◌, ◌++◌, length, length-set, get_or, set, All, sum_by, refl, sym, ap, subst, ◌∙◌, append-nil, append_assoc, add-one, arith}
-use Rattle.std.proofs.lemmas.Bool.{cases_eq}
-use Rattle.std.proofs.lemmas.List.Elements.{All-set}
-use Rattle.std.proofs.lemmas.List.Sums.{sum_by-append}
-use Rattle.std.specs.List.{cons_option}
-use Rattle.ff_reactive.specs.Runs.{after, work_plain}
-use Rattle.ff_reactive.specs.Copies.{below, seen, at_level, entry_below, copy_entry}
+-- One input comes to the copies, and the outputs of one level after another are let out.
+use Rattle.std.proofs.Common.{◌≡◌, ℕ, ◌+◌, ◌<◌, ◌≤◌, false, List, [], ◌∷◌, ◌++◌, length, refl, sym, ap, subst, ◌∙◌, append-nil, append_assoc, arith}
+use Rattle.ff_reactive.specs.Copies.{at_level, entry_below, copy_entry}
 use Rattle.ff_reactive.specs.Text.{text_of}
-use Rattle.ff_reactive.specs.Loops.{handle_seen, AreCopies}
-use Rattle.ff_reactive.proofs.Copies.{seen_more, entry_below_more, copy_entry_is}
-use Rattle.ff_reactive.proofs.Runs.{work_plain_start, work_plain_more}
+use Rattle.ff_reactive.specs.Worlds.{World, levels, copy_at, offers_of, world_arrive, world_take, world_drain, world_left, AreOffers, IsRested, IsTaking}
+use Rattle.ff_reactive.specs.Sharing.{work_entry}
+use Rattle.ff_reactive.proofs.Copies.{entry_below_more}
 use Rattle.ff_reactive.proofs.Text.{text_of_none, text_of-append}
-use Rattle.ff_reactive.proofs.Loops.{copies_start, copies_begin, copies_step, copies_done, copy_at}
+use Rattle.ff_reactive.proofs.Worlds.{new_world_ok, arrive_ok, take_ok, drain_ok, leaders-take}
+use Rattle.ff_reactive.proofs.Resting.{offers_ok, rested_new, taking_begun, taking_entry, taking_more, taking_done, rested_left}
 use Rattle.ff_lattice.specs.Order.{size}
+use Rattle.ff_value.specs.Spelled.{IsWellSpelledInput}
 use Rattle.ff_value.specs.declared.input.Input.{Input}
-use Rattle.ff_core.specs.State.{State, empty}
+use Rattle.ff_value.specs.declared.output.Out.{Out}
+use Rattle.ff_core.specs.State.{State}
+use Rattle.ff_core.specs.Machine.{reactor}
+use Rattle.ff_pool.specs.Heads.{same_input, IsWorldOf}
+use Rattle.ff_pool.specs.Pooled as pooled
+use Rattle.ff_pool.specs.Pooled.{Pooled, arrived, drained, taken, left, copy_of, new_pool, AreOffersTo}
+use Rattle.ff_pool.proofs.Parting.{same_input_decides}
+use Rattle.ff_pool.proofs.Gathering.{ends}
 use Rattle.ff_policy.specs.Assignment.{Assignment}
-use Rattle.ff_route.specs.Route.{sees}
-use Rattle.ff_levels.specs.Levels.{levels, machine}
-use Rattle.ff_session.specs.Handling.{IsReady}
-use Rattle.ff_session.specs.Multi.{multi_turns, turns_at, turns_below, copies_turns, AreCopiesAt, IsFed}
+use Rattle.ff_route.specs.Route.{offers}
+use Rattle.ff_route.proofs.Fits.{sees_spelled}
+use Rattle.ff_levels.specs.Levels as run
+use Rattle.ff_levels.specs.Levels.{machine, IsInput}
+use Rattle.ff_session.specs.Multi.{copies_entry, copies_turns, IsPoolOf, AreCopiesAt, AreTakenBelow}
 
--- a level that doesn't see the input lets nothing out
-pub text_unseen : (p : Assignment) (s : State) (l : ℕ) (i : Input) (text : List ℕ) → sees p l i ≡ None
-    → text ≡ text ++ text_of (levels p) (at_level (levels p) l (handle_seen (machine p) s (sees p l i)).outputs)
-text_unseen p s l i text unseen =
-    sym (ap (λ o. text ++ text_of (levels p) (at_level (levels p) l (handle_seen (machine p) s o).outputs)) unseen ∙ ap (λ bs. text ++ bs) (text_of_none (levels p)) ∙ append-nil text)
+-- ---- an input comes
 
-turns_suc : (p : Assignment) (is : List Input) (i : Input) (l : ℕ) → turns_below p is i (suc l) ≡ turns_below p is i l + (0 + turns_at p is i l)
-turns_suc p is i l = sum_by-append (λ k. turns_at p is i k) (below l) (l ∷ [])
+module _ (p : Assignment) (pool : Pooled) (i : Input) (is : List Input) (spelled : IsInput p.order i) (at : AreCopiesAt p pool is) where
+  -- what the levels see of it can be offered to them
+  offered : AreOffers IsWellSpelledInput (size p.order) (offers p i)
+  offered = offers_ok (ends p.fuel) (run.levels p) same_input same_input_decides (λ l j x ok seen. sees_spelled p l j x ok seen) i spelled.spelled
 
-turns_more : (p : Assignment) (is : List Input) (i : Input) (l : ℕ) → turns_below p is i (l + 1) ≡ turns_below p is i l + turns_at p is i l
-turns_more p is i l =
-    let e = ap (λ n. turns_below p is i n) (add-one l) in
-    let sum = turns_suc p is i l in
-    omega arith
+  pub offers_fit : AreOffersTo pool (offers p i)
+  offers_fit = subst (λ n. AreOffers IsWellSpelledInput n (offers p i)) (sym at.rested.count) offered
 
-turns_grow : (p : Assignment) (is : List Input) (i : Input) (l n : ℕ) → l ≤ n → turns_below p is i l ≤ turns_below p is i n
-turns_grow p is i l zero low = let none : l ≡ 0 = omega arith in let e = ap (turns_below p is i) none in omega arith
-turns_grow p is i l (suc n) low = from (cases_eq l (suc n)) (λ lower. turns_grow p is i l n lower)
-  where
-    from : (l ≡ suc n) ⊎ (l ≡ suc n → ⊥) → (l ≤ n → turns_below p is i l ≤ turns_below p is i n) → turns_below p is i l ≤ turns_below p is i (suc n)
-    from (inl e) rest = let same = ap (turns_below p is i) e in omega arith
-    from (inr differ) rest = let sum = turns_suc p is i n in let low_rest = rest (omega arith) in omega arith
+  world_arrived : World Input Out State
+  world_arrived = world_arrive (reactor p.fuel) same_input pool.world (offers p i)
 
--- Where the loop over the levels stands: copies that had handled some inputs have handled one more
--- at the levels below l.
-pub record IsFeedingAt (p : Assignment) (text : List ℕ) (turns : ℕ) (i : Input) (states_now : List State) (text_now : List ℕ) (turns_now l : ℕ) (is : List Input) : Type 0 where
-  pub copies : AreCopies (machine p) (levels p) states_now is l (is ++ i ∷ [])
-  pub text_is : text_now ≡ text ++ text_of (levels p) (entry_below (machine p) (levels p) is i l)
-  pub counted : turns_now ≡ turns + turns_below p is i l
+  -- the turns that are left then are its part of the work
+  pub turns_left : left (arrived pool (offers p i)) ≡ copies_turns p is i
+  turns_left =
+      ap (λ f. world_left (reactor f) (f + 1) (world_arrive (reactor f) same_input pool.world (offers p i))) at.pool_of.fuel
+      ∙ rested_left (ends p.fuel) (run.levels p) same_input same_input_decides pool.world is i at.pool_of.world at.rested offers_fit
 
-pub record IsFeeding (p : Assignment) (states : List State) (text : List ℕ) (turns : ℕ) (i : Input) (states_now : List State) (text_now : List ℕ) (turns_now l : ℕ) : Type 0 where
-  pub count : length states_now ≡ size p.order
-  pub ready : All (IsReady p.fuel) states_now
-  pub later : turns ≤ turns_now
-  pub goes : (is : List Input) → AreCopies (machine p) (levels p) states is 0 is → IsFeedingAt p text turns i states_now text_now turns_now l is
+  -- and where they were made, its outputs can be taken
+  pub taking_starts : (next : Pooled) → next ≡ drained (arrived pool (offers p i)) → AreTakenBelow p next is i 0
+  taking_starts next made = subst (λ q. AreTakenBelow p q is i 0) (sym made) (record {
+    pool_of = record {
+      fuel = at.pool_of.fuel;
+      unspent = at.pool_of.unspent;
+      world = subst (IsWorldOf p.fuel) (sym world_is)
+          (drain_ok (ends p.fuel) (world_arrive (reactor p.fuel) same_input pool.world (offers p i))
+          (arrive_ok (ends p.fuel) same_input same_input_decides pool.world (offers p i) at.pool_of.world offers_fit));
+    };
+    taking = subst (λ w. IsTaking (reactor p.fuel) (p.fuel + 1) (run.levels p) same_input w is i 0) (sym world_is)
+        (taking_begun (ends p.fuel) (run.levels p) same_input same_input_decides pool.world is i at.pool_of.world at.rested offers_fit);
+  })
+    where
+      world_is : (drained (arrived pool (offers p i))).world ≡ world_drain (reactor p.fuel) (p.fuel + 1) (world_arrive (reactor p.fuel) same_input pool.world (offers p i))
+      world_is = ap (λ f. world_drain (reactor f) (f + 1) (world_arrive (reactor f) same_input pool.world (offers p i))) at.pool_of.fuel
 
-pub feeding_start : (p : Assignment) (states : List State) (text : List ℕ) (turns : ℕ) (i : Input) → length states ≡ size p.order → All (IsReady p.fuel) states → IsFeeding p states text turns i states text turns 0
-feeding_start p states text turns i count ready = record {
+-- ---- its outputs are let out
+
+-- Where the loop over the levels stands: of what was to be taken, that at the levels below l was,
+-- and their text was appended.
+pub record IsOutBelow (p : Assignment) (text : List ℕ) (now : Pooled) (text_now : List ℕ) (l : ℕ) (is : List Input) (i : Input) : Type 0 where
+  pub taken : AreTakenBelow p now is i l
+  pub text_is : text_now ≡ text ++ text_of (run.levels p) (entry_below (machine p) (run.levels p) is i l)
+
+pub record IsLettingOut (p : Assignment) (pool : Pooled) (text : List ℕ) (now : Pooled) (text_now : List ℕ) (l : ℕ) : Type 0 where
+  pub count : pooled.size now ≡ size p.order
+  pub goes : (is : List Input) (i : Input) → AreTakenBelow p pool is i 0 → IsOutBelow p text now text_now l is i
+
+pub out_start : (p : Assignment) (pool : Pooled) (text : List ℕ) → pooled.size pool ≡ size p.order → IsLettingOut p pool text pool text 0
+out_start p pool text count = record {
   count = count;
-  ready = ready;
-  later = omega arith;
-  goes = λ is are. record {
-    copies = copies_begin (machine p) (levels p) states is (is ++ i ∷ []) are;
-    text_is = sym (ap (λ bs. text ++ bs) (text_of_none (levels p)) ∙ append-nil text);
-    counted = omega arith;
-  };
+  goes = λ is i at. record { taken = at; text_is = sym (ap (λ bs. text ++ bs) (text_of_none (run.levels p)) ∙ append-nil text) };
 }
 
--- one level more: the copy at its place was `old` and is `new` now
-pub feeding_step : (p : Assignment) (states : List State) (text : List ℕ) (turns : ℕ) (i : Input) (states_now : List State) (text_now longer : List ℕ) (turns_now more l at : ℕ) (old new : State)
-    → IsFeeding p states text turns i states_now text_now turns_now l → l < size p.order → at ≡ l → old ≡ get_or states_now at old → IsReady p.fuel new
-    → new ≡ (handle_seen (machine p) old (sees p l i)).after
-    → longer ≡ text_now ++ text_of (levels p) (at_level (levels p) l (handle_seen (machine p) old (sees p l i)).outputs)
-    → more ≡ turns_now + (handle_seen (machine p) old (sees p l i)).turns
-    → IsFeeding p states text turns i (set states_now at new) longer more (l + 1)
-feeding_step p states text turns i states_now text_now longer turns_now more l at old new feeding lt same found ready made printed counted =
-    let here : old ≡ get_or states_now l old = found ∙ ap (λ k. get_or states_now k old) same in
-    let P : ℕ → Type 0 = λ k. IsFeeding p states text turns i (set states_now k new) longer more (l + 1) in
-    subst P (sym same) (record {
-      count = length-set states_now l new ∙ feeding.count;
-      ready = All-set (IsReady p.fuel) states_now l new ready feeding.ready;
-      later = let so_far : turns ≤ turns_now = feeding.later in omega arith;
-      goes = λ is are. step is here (feeding.goes is are);
-    })
+-- one level more
+pub out_step : (p : Assignment) (pool : Pooled) (text : List ℕ) (now next : Pooled) (text_now longer : List ℕ) (l : ℕ) (outs : List Out)
+    → IsLettingOut p pool text now text_now l → l < size p.order → next ≡ taken now l → outs ≡ (copy_of now l).outputs
+    → longer ≡ text_now ++ text_of (run.levels p) (at_level (run.levels p) l outs) → IsLettingOut p pool text next longer (l + 1)
+out_step p pool text now next text_now longer l outs out lt made took printed = record {
+  count = ap pooled.size made ∙ ap length (leaders-take (reactor now.fuel) now.world l) ∙ out.count;
+  goes = λ is i start. step is i (out.goes is i start);
+}
   where
-    step : (is : List Input) → old ≡ get_or states_now l old → IsFeedingAt p text turns i states_now text_now turns_now l is → IsFeedingAt p text turns i (set states_now l new) longer more (l + 1) is
-    step is here on =
-        let stood : old ≡ after (machine p) (seen (levels p) l is) = here ∙ copy_at (machine p) (levels p) states_now is (is ++ i ∷ []) l old on.copies lt in
-        let entry : text_of (levels p) (at_level (levels p) l (handle_seen (machine p) old (sees p l i)).outputs) ≡ text_of (levels p) (copy_entry (machine p) (levels p) l is i) =
-        ap (λ s. text_of (levels p) (at_level (levels p) l (handle_seen (machine p) s (sees p l i)).outputs)) stood ∙ sym (ap (text_of (levels p)) (copy_entry_is (machine p) (levels p) l is i)) in
-        let same_turns : (handle_seen (machine p) old (sees p l i)).turns ≡ turns_at p is i l = ap (λ s. (handle_seen (machine p) s (sees p l i)).turns) stood in
-        let so_far : turns_now ≡ turns + turns_below p is i l = on.counted in
-        let sum = turns_more p is i l in
+    step : (is : List Input) (i : Input) → IsOutBelow p text now text_now l is i → IsOutBelow p text next longer (l + 1) is i
+    step is i on =
+        let of_level : at_level (run.levels p) l outs ≡ copy_entry (machine p) (run.levels p) l is i =
+        ap (at_level (run.levels p) l) (took ∙ ap (λ f. (copy_at (reactor f) now.world l).outputs) on.taken.pool_of.fuel)
+        ∙ taking_entry (ends p.fuel) (run.levels p) same_input same_input_decides now.world is i l on.taken.taking lt in
+        let world_is : next.world ≡ world_take (reactor p.fuel) now.world l = ap (λ q. q.world) made ∙ ap (λ f. world_take (reactor f) now.world l) on.taken.pool_of.fuel in
         record {
-          copies = copies_step (machine p) (levels p) states_now is i l new old on.copies lt (made ∙ ap (λ s. (handle_seen (machine p) s (sees p l i)).after) here);
+          taken = record {
+            pool_of = record {
+              fuel = ap (λ q. q.fuel) made ∙ on.taken.pool_of.fuel;
+              unspent = ap (λ q. q.spent) made ∙ on.taken.pool_of.unspent;
+              world = subst (IsWorldOf p.fuel) (sym world_is) (take_ok (ends p.fuel) now.world l on.taken.pool_of.world);
+            };
+            taking = subst (λ w. IsTaking (reactor p.fuel) (p.fuel + 1) (run.levels p) same_input w is i (l + 1)) (sym world_is)
+                (taking_more (ends p.fuel) (run.levels p) same_input same_input_decides now.world is i l on.taken.taking lt);
+          };
           text_is =
-              printed ∙ ap (λ bs. bs ++ text_of (levels p) (at_level (levels p) l (handle_seen (machine p) old (sees p l i)).outputs)) on.text_is
-              ∙ append_assoc text (text_of (levels p) (entry_below (machine p) (levels p) is i l)) (text_of (levels p) (at_level (levels p) l (handle_seen (machine p) old (sees p l i)).outputs))
-              ∙ ap (λ bs. text ++ bs) (ap (λ bs. text_of (levels p) (entry_below (machine p) (levels p) is i l) ++ bs) entry ∙ sym (text_of-append (levels p) (entry_below (machine p) (levels p) is i l) (copy_entry (machine p) (levels p) l is i))
-              ∙ sym (ap (text_of (levels p)) (entry_below_more (machine p) (levels p) is i l)));
-          counted = omega arith;
+              printed ∙ ap (λ bs. bs ++ text_of (run.levels p) (at_level (run.levels p) l outs)) on.text_is
+              ∙ append_assoc text (text_of (run.levels p) (entry_below (machine p) (run.levels p) is i l)) (text_of (run.levels p) (at_level (run.levels p) l outs))
+              ∙ ap (λ bs. text ++ bs)
+              (ap (λ os. text_of (run.levels p) (entry_below (machine p) (run.levels p) is i l) ++ text_of (run.levels p) os) of_level
+              ∙ sym (text_of-append (run.levels p) (entry_below (machine p) (run.levels p) is i l) (copy_entry (machine p) (run.levels p) l is i))
+              ∙ sym (ap (text_of (run.levels p)) (entry_below_more (machine p) (run.levels p) is i l)));
         }
 
-pub feeding_done : (p : Assignment) (states : List State) (text : List ℕ) (turns : ℕ) (i : Input) (states_now : List State) (text_now : List ℕ) (turns_now l : ℕ)
-    → IsFeeding p states text turns i states_now text_now turns_now l → l ≡ size p.order → IsFed p states text turns i states_now text_now turns_now
-feeding_done p states text turns i states_now text_now turns_now l feeding all is at =
-    let on = subst (λ n. IsFeedingAt p text turns i states_now text_now turns_now n is) all (feeding.goes is at.copies) in
-    record {
-      at = record { count = feeding.count; ready = feeding.ready; copies = copies_done (machine p) (levels p) states_now is (is ++ i ∷ []) on.copies };
-      text_is = on.text_is;
-      counted = on.counted;
-    }
+-- all levels
+pub out_done : (p : Assignment) (now : Pooled) (is : List Input) (i : Input) → AreTakenBelow p now is i (size p.order) → AreCopiesAt p now (is ++ i ∷ [])
+out_done p now is i taken = record {
+  pool_of = taken.pool_of;
+  rested = taking_done (ends p.fuel) (run.levels p) same_input same_input_decides now.world is i taken.taking;
+}
 
--- the turns in the middle of the loop
-pub turns_within : (p : Assignment) (states : List State) (text : List ℕ) (turns : ℕ) (i : Input) (states_now : List State) (text_now : List ℕ) (turns_now more l at : ℕ) (old : State)
-    → IsFeeding p states text turns i states_now text_now turns_now l → l < size p.order → at ≡ l → old ≡ get_or states_now at old → more ≤ turns_now + (handle_seen (machine p) old (sees p l i)).turns
-    → (is : List Input) → AreCopiesAt p states is → more ≤ turns + copies_turns p is i
-turns_within p states text turns i states_now text_now turns_now more l at old feeding lt same found few is are =
-    let here : old ≡ get_or states_now l old = found ∙ ap (λ k. get_or states_now k old) same in
-    let on = feeding.goes is are.copies in
-    let stood : old ≡ after (machine p) (seen (levels p) l is) = here ∙ copy_at (machine p) (levels p) states_now is (is ++ i ∷ []) l old on.copies lt in
-    let same_turns : (handle_seen (machine p) old (sees p l i)).turns ≡ turns_at p is i l = ap (λ s. (handle_seen (machine p) s (sees p l i)).turns) stood in
-    let so_far : turns_now ≡ turns + turns_below p is i l = on.counted in
-    let sum = turns_more p is i l in
-    let grows = turns_grow p is i (l + 1) (size p.order) (omega arith) in
-    omega arith
+pub all_taken : (p : Assignment) (pool now : Pooled) (text text_now : List ℕ) (l : ℕ) → IsLettingOut p pool text now text_now l → l ≡ size p.order
+    → (is : List Input) (i : Input) → AreTakenBelow p pool is i 0 → AreCopiesAt p now (is ++ i ∷ [])
+all_taken p pool now text text_now l out all is i start = out_done p now is i (subst (AreTakenBelow p now is i) all (out.goes is i start).taken)
 
--- new browsers have taken no input
-pub fresh_copies : (p : Assignment) (states : List State) → length states ≡ size p.order → All (λ s. s ≡ empty p.fuel) states → AreCopiesAt p states []
-fresh_copies p states count fresh = record { count = count; ready = λ k d lt. record { budget_is = ap (λ s. s.budget) (fresh k d lt); quiet = ap (λ s. s.quiet) (fresh k d lt) }; copies = copies_start (machine p) (levels p) states count fresh }
+pub all_let_out : (p : Assignment) (pool now : Pooled) (text text_now : List ℕ) (l : ℕ) → IsLettingOut p pool text now text_now l → l ≡ size p.order
+    → (is : List Input) (i : Input) → AreTakenBelow p pool is i 0 → text_now ≡ text ++ copies_entry p is i
+all_let_out p pool now text text_now l out all is i start =
+    (out.goes is i start).text_is ∙ ap (λ n. text ++ text_of (run.levels p) (entry_below (machine p) (run.levels p) is i n)) all
 
--- ---- the turns for all inputs
+-- ---- a new pool
 
--- one input more, at one level
-level_turns_more : (p : Assignment) (is : List Input) (i : Input) (l : ℕ) → work_plain (machine p) (seen (levels p) l (is ++ i ∷ [])) ≡ work_plain (machine p) (seen (levels p) l is) + turns_at p is i l
-level_turns_more p is i l = ap (work_plain (machine p)) (seen_more (levels p) l is i) ∙ from ((levels p).sees l i) (seen (levels p) l is)
-  where
-    from : (o : Option Input) (xs : List Input) → work_plain (machine p) (xs ++ cons_option o []) ≡ work_plain (machine p) xs + (handle_seen (machine p) (after (machine p) xs) o).turns
-    from None xs = let same = ap (work_plain (machine p)) (append-nil xs) in omega arith
-    from (Some x) xs = work_plain_more (machine p) xs x
-
--- the turns of the levels below n
-below_turns : Assignment → List Input → ℕ → ℕ
-below_turns p is n = sum_by (λ l. work_plain (machine p) (seen (levels p) l is)) (below n)
-
-below_turns_suc : (p : Assignment) (is : List Input) (n : ℕ) → below_turns p is (suc n) ≡ below_turns p is n + (0 + work_plain (machine p) (seen (levels p) n is))
-unfolding below_turns
-below_turns_suc p is n = sum_by-append (λ l. work_plain (machine p) (seen (levels p) l is)) (below n) (n ∷ [])
-
-below_turns_more : (p : Assignment) (is : List Input) (i : Input) (n : ℕ) → below_turns p (is ++ i ∷ []) n ≡ below_turns p is n + turns_below p is i n
-below_turns_more p is i zero = unfold below_turns in refl
-below_turns_more p is i (suc n) =
-    let longer = below_turns_suc p (is ++ i ∷ []) n in
-    let shorter = below_turns_suc p is n in
-    let entry = turns_suc p is i n in
-    let here = level_turns_more p is i n in
-    let rest = below_turns_more p is i n in
-    omega arith
-
-below_turns_start : (p : Assignment) (n : ℕ) → below_turns p [] n ≡ 0
-below_turns_start p zero = unfold below_turns in refl
-below_turns_start p (suc n) =
-    let all = below_turns_suc p [] n in
-    let none = work_plain_start (machine p) in
-    let rest = below_turns_start p n in
-    omega arith
-
--- no input yet, and one input more
-pub multi_turns_start : (p : Assignment) → multi_turns p [] ≡ 0
-unfolding below_turns
-multi_turns_start p = below_turns_start p (size p.order)
-
-pub multi_turns_more : (p : Assignment) (is : List Input) (i : Input) → multi_turns p (is ++ i ∷ []) ≡ multi_turns p is + copies_turns p is i
-unfolding below_turns
-multi_turns_more p is i = below_turns_more p is i (size p.order)
+pub fresh_copies : (p : Assignment) (pool : Pooled) (n fuel : ℕ) → n ≡ size p.order → fuel ≡ p.fuel → pool ≡ new_pool n fuel → AreCopiesAt p pool []
+fresh_copies p pool n fuel n_is fuel_is fresh = subst (λ q. AreCopiesAt p q []) (sym (fresh ∙ ap (λ k. new_pool k fuel) n_is ∙ ap (new_pool (size p.order)) fuel_is)) (record {
+  pool_of = record { fuel = refl; unspent = refl; world = new_world_ok (ends p.fuel) (size p.order) };
+  rested = rested_new (ends p.fuel) (run.levels p) same_input same_input_decides;
+})

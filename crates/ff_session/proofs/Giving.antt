@@ -8,6 +8,8 @@ use Rattle.ff_trace.specs.declared.fault.LineFault.{LineFault}
 use Rattle.ff_status.specs.declared.status.TraceFault.{TraceFault}
 use Rattle.ff_status.specs.declared.status.TraceFault.TheVariants as fault
 use Rattle.ff_policy.specs.Assignment.{Assignment}
+use Rattle.ff_levels.specs.Levels.{IsInput}
+use Rattle.ff_levels.proofs.Inputs.{input_is}
 use Rattle.ff_stream.specs.declared.end.BadLine.{BadLine}
 use Rattle.ff_stream.proofs.Laws.{trace_once}
 use Rattle.ff_session.specs.Giving.{Gives, Takes, IsTaken}
@@ -41,6 +43,10 @@ is_taken built order line item gives = from (Ok (Some item)) refl gives
     from answer is (Gives.an_input i reads taken) = subst (IsTaken built order) (same_Some i item (ap input_of is)) taken
     from answer is (Gives.not_built i reads leaves) = absurd (none-some item (ap input_of is))
     from answer is (Gives.a_fault which reads) = absurd (none-some item (ap input_of is))
+
+-- and one that the levels and the browser take
+pub is_input : (built : Bool) (order : Order) (line : List ℕ) (item : Input) → Gives built order line (Ok (Some item)) → IsInput order item
+is_input built order line item gives = let taken = is_taken built order line item gives in input_is order item taken.input_of
 
 -- the bytes of a trace give one list of inputs, and have one first bad line
 pub trace_read_once : (work : Work) (p : Assignment) (ended : Bool) (bytes : List ℕ) (is js : List Input) (bad other : Option (BadLine TraceFault)) → IsTraceFor work p ended bytes is bad → IsTraceFor work p ended bytes js other → (is ≡ js) × (bad ≡ other)

@@ -1,6 +1,6 @@
 -- The headline for the multi-executed run over a trace, also where it ended at a bad line or at a
 -- read that failed.
-use Rattle.std.proofs.Common.{◌≡◌, ℕ, true, Option, Some, None, Ok, List, All, ap, ◌∙◌}
+use Rattle.std.proofs.Common.{◌≡◌, ℕ, true, Option, Some, None, List, All, ap, ◌∙◌}
 use Rattle.ff_io.specs.Pieces.{got_of, put_of, has_end}
 use Rattle.ff_io.specs.Port.{Told}
 use Rattle.ff_reactive.specs.Laws.{IsProjection, IsSecure, IsPrecise}
@@ -8,23 +8,17 @@ use Rattle.ff_reactive.proofs.Laws.{projected, secured, precised}
 use Rattle.ff_value.specs.declared.input.Input.{Input}
 use Rattle.ff_policy.specs.Assignment.{Assignment, IsAssignment}
 use Rattle.ff_levels.specs.Levels.{levels, machine, IsInput}
-use Rattle.ff_levels.proofs.Inputs.{input_is}
 use Rattle.ff_levels.proofs.Lawful.{lawful}
 use Rattle.ff_status.specs.declared.status.Status.{Status}
 use Rattle.ff_status.specs.declared.status.Status.TheVariants.{Done, Usage, Policy, Trace, ReadFault, WriteFault, ShelfFault, NoMemory}
 use Rattle.ff_status.specs.declared.status.TraceFault.{TraceFault}
 use Rattle.ff_stream.specs.declared.end.BadLine.{BadLine}
 use Rattle.ff_stream.proofs.Laws.{reads_each, trace_once}
-use Rattle.ff_session.specs.Giving.{Gives}
 use Rattle.ff_session.specs.Once.{gives_once}
 use Rattle.ff_session.specs.Multi.{multi_text}
 use Rattle.ff_session.specs.Works.{AreInputsGot, IsOwed, IsWritten, Exchanged, IsAnswered, Claims}
 use Rattle.ff_session.specs.declared.work.Work.TheVariants.{Multi}
-use Rattle.ff_session.proofs.Giving.{is_taken}
-
--- an input that a line gives is one that the levels and the browser take
-is_input : (p : Assignment) (line : List ℕ) (i : Input) → Gives true p.order line (Ok (Some i)) → IsInput p.order i
-is_input p line i gives = let taken = is_taken true p.order line i gives in input_is p.order i taken.input_of
+use Rattle.ff_session.proofs.Giving.{is_input}
 
 module _ {before now : Told} {turns_before turns_now : ℕ} (p : Assignment) (s : Status) (run : Exchanged Multi p before now turns_before turns_now s) where
   text_is : (other : Option (BadLine TraceFault)) → IsOwed Multi p run.pieces other turns_before turns_now → (is : List Input) (bad : Option (BadLine TraceFault)) → AreInputsGot Multi p run.pieces is bad → put_of run.pieces ≡ multi_text p is
@@ -45,7 +39,7 @@ module _ {before now : Told} {turns_before turns_now : ℕ} (p : Assignment) (s 
   claimed claim answered follows = record {
     pieces = run.pieces;
     passed = run.passed;
-    held = λ is bad reads. follows is (put_of run.pieces) (reads_each (IsInput p.order) (is_input p) (has_end run.pieces) 1 0 (got_of run.pieces) is bad reads) (from s answered run.written is bad reads);
+    held = λ is bad reads. follows is (put_of run.pieces) (reads_each (IsInput p.order) (is_input true p.order) (has_end run.pieces) 1 0 (got_of run.pieces) is bad reads) (from s answered run.written is bad reads);
   }
 
   pub projection : IsAssignment p → IsAnswered s → Claims Multi p before now (λ is put. IsProjection (machine p) (levels p) is put)

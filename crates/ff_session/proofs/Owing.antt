@@ -9,6 +9,8 @@ use Rattle.ff_io.specs.Port.{Told}
 use Rattle.ff_io.specs.Fronts.{IsFront, IsProperFront}
 use Rattle.ff_reactive.specs.Runs.{work_plain}
 use Rattle.ff_reactive.proofs.Runs.{work_plain_start, work_plain_more}
+use Rattle.ff_reactive.proofs.Sharing.{work_start, work_more}
+use Rattle.ff_pool.specs.Heads.{same_input}
 use Rattle.ff_reactive.proofs.Loops.{text_start, text_more, plain_text_start, plain_text_more}
 use Rattle.ff_value.specs.declared.input.Input.{Input}
 use Rattle.ff_policy.specs.Assignment.{Assignment}
@@ -32,7 +34,6 @@ use Rattle.ff_session.specs.Multi.{copies_entry, copies_turns, multi_turns}
 use Rattle.ff_session.specs.Works.{built_only, text_for, turns_for, entry_for, entry_turns, IsOwed, IsOwedMore, IsWritten, Exchanged, status_as}
 use Rattle.ff_session.specs.declared.work.Work.{Work}
 use Rattle.ff_session.specs.declared.work.Work.TheVariants.{Multi, Plain, Format}
-use Rattle.ff_session.proofs.Feeding.{multi_turns_start, multi_turns_more}
 
 -- the text for inputs is that of one after another
 pub same_text : (work : Work) (p : Assignment) (is : List Input) → owed.text_of (entry_for work p) is ≡ text_for work p is
@@ -43,7 +44,7 @@ same_text Format p is = text_by_steps (format_entry p.order) (text_for Format p)
 
 -- and so are the turns
 pub same_turns : (work : Work) (p : Assignment) (is : List Input) → owed.turns_of (entry_turns work p) is ≡ turns_for work p is
-same_turns Multi p is = turns_by_steps (copies_turns p) (multi_turns p) (multi_turns_start p) (multi_turns_more p) is
+same_turns Multi p is = turns_by_steps (copies_turns p) (multi_turns p) (work_start (machine p) (levels p) same_input) (work_more (machine p) (levels p) same_input) is
 same_turns Plain p is = turns_by_steps (plain_turns p) (work_plain (machine p)) (work_plain_start (machine p)) (work_plain_more (machine p)) is
 same_turns Format p is = turns_by_steps no_turns (λ js. 0) refl (λ js i. omega arith) is
 

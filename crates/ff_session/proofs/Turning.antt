@@ -1,8 +1,7 @@
 -- A browser takes an input and makes one turn after another until it is quiet.
-use Rattle.std.proofs.Common.{◌≡◌, ℕ, suc, ◌+◌, ◌-◌, ◌<◌, ◌≤◌, true, false, List, [], ◌∷◌, ◌++◌, Some, sym, ap, subst, ◌∙◌, arith}
+use Rattle.std.proofs.Common.{◌≡◌, ℕ, suc, ◌+◌, ◌-◌, ◌<◌, ◌≤◌, true, false, List, [], ◌∷◌, ◌++◌, sym, ap, subst, ◌∙◌, arith}
 use Rattle.ff_reactive.specs.Runs.{after}
 use Rattle.ff_reactive.specs.Turns.{settle, turns_left, IsSettling}
-use Rattle.ff_reactive.specs.Loops.{handle_seen}
 use Rattle.ff_reactive.proofs.Runs.{after_more, after_start}
 use Rattle.ff_reactive.proofs.Turns.{settle_turn, settle_enough, settling_start, settling_turn, settling_room, handling_done, turns_left_falls}
 use Rattle.ff_value.specs.declared.input.Input.{Input}
@@ -11,7 +10,6 @@ use Rattle.ff_core.specs.State.{State, IsState, empty}
 use Rattle.ff_core.specs.Machine.{begin, turn, reactor, browser}
 use Rattle.ff_core.proofs.Keeping.{keeps, fuelled}
 use Rattle.ff_policy.specs.Assignment.{Assignment}
-use Rattle.ff_route.specs.Route.{sees}
 use Rattle.ff_levels.specs.Levels.{machine}
 use Rattle.ff_session.specs.Handling.{IsReady, handled}
 use Rattle.ff_session.specs.Plain.{IsPlainAt}
@@ -93,10 +91,6 @@ module _ (s : State) (i : Input) (before : ℕ) (now : State) (outs : List Out) 
 -- with the fuel of the policy this is the machine of the policy
 pub handled_is : (p : Assignment) (s : State) (i : Input) → IsReady p.fuel s → handled s i ≡ (machine p).handle s i
 handled_is p s i ready = ap (λ fuel. (browser fuel).handle s i) ready.budget_is
-
--- the same of what a level sees
-pub seen_handled : (p : Assignment) (s : State) (l : ℕ) (i x : Input) → IsReady p.fuel s → sees p l i ≡ Some x → handled s x ≡ handle_seen (machine p) s (sees p l i)
-seen_handled p s l i x ready seen = handled_is p s x ready ∙ sym (ap (handle_seen (machine p) s) seen)
 
 -- one browser took an input
 pub plain_taken : (p : Assignment) (s now : State) (i : Input) (is : List Input) → IsPlainAt p s is → IsReady s.budget now → now ≡ (handled s i).after → IsPlainAt p now (is ++ i ∷ [])

@@ -14,9 +14,6 @@ mod work;
 pub use format::Formatting;
 pub use input_reader::InputReader;
 pub use law::a_trace_is_read_in_one_way;
-pub use multi::Copies;
+pub use multi::{Copies, new_pool};
 pub use plain::Plain;
 pub use work::{Work, walk};
-
-#[cfg(test)]
-mod tests;

@@ -58,7 +58,7 @@ impl Taker for Plain<'_> {
 }
 
 /// Runs one browser over the trace that the port gives.
-#[tactic(auto, using(crate::proofs::Giving::is_taken))]
+#[tactic(auto, using(crate::proofs::Giving::is_taken, crate::proofs::Turning::fresh_plain))]
 pub(crate) fn walk_plain<P: Port, C: Ledger, L: Ledger>(
     alloc: Global,
     policy: &Policy,

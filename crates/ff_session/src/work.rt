@@ -1,4 +1,4 @@
-ghost use Rattle.std.specs.Prelude.{◌≡◌, ◌≤◌};
+ghost use Rattle.std.specs.Prelude.{◌≡◌, ◌≤◌, ◌<◌};
 ghost use Rattle.ff_io.specs.Counts.{Rose};
 ghost use Rattle.ff_reactive.specs.Laws.{IsProjection, IsSecure, IsPrecise};
 ghost use Rattle.ff_policy.specs.Assignment.{IsAssignment};
@@ -29,15 +29,18 @@ pub enum Work {
 
 /// Does the work over the trace that the port gives, line by line: before the port is read again,
 /// the whole text of the lines that were got is written. `turns` counts the turns of all
-/// browsers, and `copies` the cells that are copied.
+/// browsers, and `copies` the cells that are copied. Where the inputs are multi-executed, copies
+/// with work take turns, and each makes up to `slice` steps at a time, from 1 on.
 pub fn walk<P: Port, C: Ledger, L: Ledger>(
     alloc: Global,
     work: Work,
     policy: &Policy,
+    slice: u32,
     port: &mut P,
     copies: &mut Steps<C>,
     turns: &mut Steps<L>,
 ) -> Status
+    requires { 0 < slice }
     ensures exchanged { Exchanged work policy.now (P.told port.old) (P.told port.new) turns.old turns.new result }
     ensures projected { work ≡ Work.Multi → IsAnswered result → Claims Work.Multi policy.now (P.told port.old) (P.told port.new) (λ is put. IsProjection (machine policy.now) (levels policy.now) is put) }
     ensures secure { work ≡ Work.Multi → IsAnswered result → Claims Work.Multi policy.now (P.told port.old) (P.told port.new) (λ is put. IsSecure (machine policy.now) (levels policy.now) (IsInput policy.now.order) is put) }
@@ -47,7 +50,7 @@ pub fn walk<P: Port, C: Ledger, L: Ledger>(
 {
     let lattice = policy.lattice();
     match work {
-        Work::Multi => status_of(walk_multi(alloc, policy, port, copies, turns)),
+        Work::Multi => status_of(walk_multi(alloc, policy, slice, port, copies, turns)),
         Work::Plain => status_of(walk_plain(alloc, policy, port, copies, turns)),
         Work::Format => status_of(walk_format(alloc, lattice, port, copies, turns)),
     }

@@ -1,4 +1,5 @@
 use Rattle.ff_run.proofs.Headline.{projection_under, security_under, precision_under}
+use Rattle.ff_run.proofs.Counting.{counts_under}
 use Rattle.ff_run.proofs.Obeying.{unfailing}
 use Rattle.ff_run.proofs.top.run.Goals as goal
 
@@ -21,3 +22,8 @@ pub returns-clause-complete : goal.returns-clause-complete
 returns-clause-complete g c command name asks fine =
     unfailing command name (g.S.Shelf.told c.args.shelf.now) (g.S.Shelf.told c.answer-status.new.shelf) (g.P.Port.told c.args.port.now) (g.P.Port.told c.answer-status.new.port) c.args.turns.now c.answer-status.new.turns
     c.answer-status.result (c.answer-status.ensures.obeys command name asks) fine
+
+pub returns-clause-counted : goal.returns-clause-counted
+returns-clause-counted g c work name asks answered =
+    counts_under work name (g.S.Shelf.told c.args.shelf.now) (g.S.Shelf.told c.answer-status.new.shelf) (g.P.Port.told c.args.port.now) (g.P.Port.told c.answer-status.new.port) c.args.turns.now c.answer-status.new.turns
+    c.answer-status.result answered (c.answer-status.ensures.obeys _ name asks)
