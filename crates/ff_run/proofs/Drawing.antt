@@ -55,6 +55,10 @@ at_most p start k n before turns is low few within js many =
     let same = ap (multi_turns p) front.1 in
     omega (arith, grows, same)
 
+-- what follows for the text
+pub ran_then : {p : Assignment} {start n before turns : ℕ} {P Q : List ℕ → Type 0} → RanDrawn p start n before turns P → ((text : List ℕ) → P text → Q text) → RanDrawn p start n before turns Q
+ran_then {p} run follows = record { drawn = run.drawn; are_drawn = run.are_drawn; counted = run.counted; held = follows (multi_text p run.drawn) run.held }
+
 -- ---- the loop over the lines
 
 -- Where it stands: so many inputs were drawn and multi-executed.

@@ -2,6 +2,7 @@
 use Rattle.std.proofs.Common.{◌≡◌, ℕ, ◌+◌, ◌*◌, ◌/◌, ◌<◌, ◌≤◌, ◌^◌, ◌==◌, ◌%◌, Bool, true, false, if◌then◌else◌, Option, Some, None, List, [], ◌∷◌, ◌++◌, length, codes, refl, sym, ap, ap₂, ◌∙◌, append_assoc, append-nil, length-append, arith}
 use Rattle.std.specs.Option.{IsSome, option_to_list}
 use Rattle.std.proofs.lemmas.Fmt.{length-decimal-le}
+use Rattle.std.proofs.lemmas.Bool.{false≢true}
 use Rattle.std.proofs.lemmas.Nat.{mod_below}
 use Rattle.ff_number.specs.Decimal.{nat_text}
 use Rattle.ff_gen.specs.Workload.{following, typed, line_of, draw_of}
@@ -61,7 +62,7 @@ small_draw number old is =
 -- a drawn line without the byte that was taken from its end
 pub drawn_line : (number : ℕ) (start full popped : List ℕ) (last : Option ℕ) → (old : ℕ) → number ≡ following old → start ≡ [] → full ≡ start ++ line_of (draw_of number) → full ≡ popped ++ option_to_list last → IsSome last
     → line_of (draw_of number) ≡ popped ++ 10 ∷ []
-drawn_line number start full popped None old small none made cut some = absurd some
+drawn_line number start full popped None old small none made cut some = absurd (false≢true some)
 drawn_line number start full popped (Some x) old small none made cut some =
     let ends = short_line (draw_of number) (small_draw number old small) in
     let whole : line_of (draw_of number) ≡ popped ++ x ∷ [] = sym (made ∙ ap (λ bs. bs ++ line_of (draw_of number)) none) ∙ cut in

@@ -99,7 +99,9 @@ fn next_input(alloc: Global, lattice: &Lattice, draws: &mut Draws) -> Result<Inp
 {
     let mut line = Vec::new(alloc);
     draws.next_line(&mut line)?;
-    line.pop();
+    let Some(_newline) = line.pop() else {
+        return Err(AllocError);
+    };
     let reader = InputReader {
         lattice,
         built_only: false,
