@@ -7,6 +7,7 @@ pub mod Opening
 pub mod Ready
 pub mod Sent
 pub mod Showing
+pub mod Copying
 pub mod Shown
 pub mod Slack
 pub mod Started
