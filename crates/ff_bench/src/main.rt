@@ -1,12 +1,11 @@
 //! Times parts of the browser. For the word `list` it times a shared list, for `text` the reader of
-//! items, for `operators` the pure operators, for `frames` the reductions of a script, for `nodes`
-//! the searches of a page: a line for each thing that is timed, with its name and the nanoseconds
-//! that one takes. With any other words it says how to call it.
+//! items, for `operators` the pure operators, for `frames` the reductions of a script: a line for
+//! each thing that is timed, with its name and the nanoseconds that one takes. With any other words
+//! it says how to call it.
 #![tactic(auto)]
 
 mod frames;
 mod list;
-mod nodes;
 mod operators;
 mod spent;
 mod text;
@@ -23,12 +22,11 @@ fn main(rt: HostRuntime) -> Result<()> {
         Some("text") => text::measure(&rt, rt.alloc()),
         Some("operators") => operators::measure(&rt, rt.alloc()),
         Some("frames") => frames::measure(&rt, rt.alloc()),
-        Some("nodes") => nodes::measure::<Brand, HostRuntime>(&rt, rt.alloc(), Blank::new(1)),
         _ => usage(&rt),
     }
 }
 
 fn usage(rt: &HostRuntime) -> Result<()> {
-    println!(rt; "usage: ff_bench list | text | operators | frames | nodes")?;
+    println!(rt; "usage: ff_bench list | text | operators | frames")?;
     Ok(())
 }

@@ -58,7 +58,7 @@ module _ (s : Stores) (u : Url) (docs : List Doc) (valid : IsStores s) (spelled 
       windows_grow (length s.windows.windows) wins (length s.windows.pages) (length pages) le (omega (arith, pages_more)) s.windows.windows valid.windows.windows
 
   -- a page that a window shows keeps stores valid
-  shown_valid : w.0 < length s.windows.windows → Keeps s (stores.with_shown_page s w u docs)
+  pub shown_valid : w.0 < length s.windows.windows → Keeps s (stores.with_shown_page s w u docs)
   shown_valid lives =
       let was : IsWindow (length s.windows.windows) (length s.windows.pages) (window_at s.windows w) = valid.windows.windows w.0 no_window lives in
       let shows : Window = record (window_at s.windows w) { page = windows.next_page s.windows } in

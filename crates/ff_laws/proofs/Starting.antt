@@ -67,7 +67,7 @@ pub null_spelled : IsWellSpelledExpr (expr.Lit lit.Null)
 null_spelled = record { spelled = subst (λ (T : Type 0). T) (sym (IsSpelledExpr-Lit lit.Null)) tt; shallow = omega (arith, null_depth) }
 
 -- there is room for one entry and one slot more
-record HasSlack (s : Stores) : Type 0 where
+pub record HasSlack (s : Stores) : Type 0 where
   pub entries : sum_by (λ page. length page.queue) s.windows.pages + 1 ≤ count_started s.nodes
   pub slots : sum_by (λ page. page.next) s.windows.pages + 1 ≤ count_started s.nodes
 
@@ -78,7 +78,8 @@ module _ (s : Stores) (page : PageId) (valid : IsStores s) (lives : page.0 < len
   was : IsPage (length s.windows.acts) old
   was = valid.windows.pages.each page.0 no_page lives
 
-  queued_valid : (body : Expr) → IsWellSpelledExpr body → Keeps s (stores.queued s page body).after
+  -- one entry more in the page's queue keeps stores valid
+  pub queued_valid : (body : Expr) → IsWellSpelledExpr body → Keeps s (stores.queued s page body).after
   queued_valid body spelled =
       page_changed s page (record old { queue = old.queue ++ Ready body ∷ [] }) valid lives (record {
         same = record { url = refl; win = refl; root = refl; act = refl };
@@ -87,7 +88,8 @@ module _ (s : Stores) (page : PageId) (valid : IsStores s) (lives : page.0 < len
         slots = omega (arith, valid.queued.slots);
       })
 
-  slotted_valid : Keeps s (stores.slotted page s).after
+  -- and so does one slot more
+  pub slotted_valid : Keeps s (stores.slotted page s).after
   slotted_valid =
       page_changed s page (record old { queue = old.queue ++ Wait old.next ∷ []; next = suc old.next }) valid lives (record {
         same = record { url = refl; win = refl; root = refl; act = refl };
@@ -124,7 +126,7 @@ fetched_nodes : (s : Stores) (b : Bool) (x y : Stepped Out Stores) → x.after.n
 fetched_nodes s true x y g h = g
 fetched_nodes s false x y g h = h
 
-begun_nodes : (s : Stores) (page : PageId) (x : Shape) → (stores.begun s page x).after.nodes ≡ s.nodes
+pub begun_nodes : (s : Stores) (page : PageId) (x : Shape) → (stores.begun s page x).after.nodes ≡ s.nodes
 begun_nodes s page (shape.Src x started url.Blank) = refl
 begun_nodes s page (shape.Src x started (url.At domain uri)) = fetched_nodes s (stores.has_ask_room s domain) _ (stores.queued s page (expr.Lit lit.Null)) refl refl
 begun_nodes s page other = refl
@@ -137,11 +139,11 @@ unstarted_is (shape.Src x false url) h = (refl, refl)
 unstarted_is other h = cc
 
 -- a script that wasn't started was made
-unstarted_lives : (all : List Node) (n : NodeId) → is_unstarted (node_at all n).shape ≡ true → n.0 < length all
+pub unstarted_lives : (all : List Node) (n : NodeId) → is_unstarted (node_at all n).shape ≡ true → n.0 < length all
 unstarted_lives all n h = ⊎_elim (λ l. l) (λ l. absurd (false≢true (sym (ap (λ (node : Node). is_unstarted node.shape) (get_or_past all n.0 no_node l)) ∙ h))) (cases_lt n.0 (length all))
 
 -- a script that counts as started leaves room for its entry
-started_slack : (s : Stores) (n : NodeId) → IsStores s → is_unstarted (node_at s.nodes n).shape ≡ true → HasSlack (record s { nodes = nodes.started s.nodes n })
+pub started_slack : (s : Stores) (n : NodeId) → IsStores s → is_unstarted (node_at s.nodes n).shape ≡ true → HasSlack (record s { nodes = nodes.started s.nodes n })
 started_slack s n valid h =
     let node = node_at s.nodes n in
     let is = unstarted_is node.shape h in
@@ -162,7 +164,7 @@ start_one_valid page n s valid lives h =
 -- Scripts one after another.
 
 -- none of the scripts was started
-abbrev AreUnstarted : List Node → List NodeId → Type 0
+abbrev pub AreUnstarted : List Node → List NodeId → Type 0
 AreUnstarted all ns = AllByRecursion (λ n. is_unstarted (node_at all n).shape ≡ true) ns
 
 no_one : (b : Bool) (k : ℕ) → if_so b + k ≡ 0 → b ≡ false
@@ -175,7 +177,7 @@ other_unstarted s n m other h =
     (λ e. absurd (eqb-false n.0 n.0 e refl)) (λ e. h) other
 
 -- the others are still not started
-others_unstarted : (page : PageId) (n : NodeId) (s : Stores) (ns : List NodeId) → times n ns ≡ 0 → AreUnstarted s.nodes ns → AreUnstarted (stores.start_one page n s).after.nodes ns
+pub others_unstarted : (page : PageId) (n : NodeId) (s : Stores) (ns : List NodeId) → times n ns ≡ 0 → AreUnstarted s.nodes ns → AreUnstarted (stores.start_one page n s).after.nodes ns
 others_unstarted page n s [] none h = tt
 others_unstarted page n s (m ∷ ns) none h =
     let t : Stores = record s { nodes = nodes.started s.nodes n } in
@@ -204,7 +206,8 @@ chosen_unstarted : (all : List Node) (b : Bool) (n : NodeId) (ns : List NodeId) 
 chosen_unstarted all true n ns h rest = (h, rest)
 chosen_unstarted all false n ns h rest = rest
 
-filter_unstarted : (all : List Node) (ns : List NodeId) → AreUnstarted all (filter (λ m. is_unstarted (node_at all m).shape) ns)
+-- the scripts of a walk that weren't started weren't
+pub filter_unstarted : (all : List Node) (ns : List NodeId) → AreUnstarted all (filter (λ m. is_unstarted (node_at all m).shape) ns)
 filter_unstarted all [] = tt
 filter_unstarted all (n ∷ ns) = chosen_unstarted all (is_unstarted (node_at all n).shape) n (filter (λ m. is_unstarted (node_at all m).shape) ns) refl (filter_unstarted all ns)
 

@@ -1,0 +1,22 @@
+//! The operators of scripts over the stores: one function for each, which does what the written
+//! machine's definition of that operator says, or answers the fault that it says.
+//!
+//! [`operate`] takes an operator, its operands and the page of the task that runs. Operators that
+//! only read take the stores lent and put nothing. No function here touches a field of the stores:
+//! each change is one call of theirs. After want of memory nothing is promised of the stores, and of
+//! the outputs that a front of the new ones stands behind the old ones.
+#![tactic(auto)]
+
+mod asking;
+mod changes;
+mod cookies;
+mod nodes;
+mod opening;
+mod operands;
+mod operating;
+mod pure;
+mod readers;
+mod windows;
+mod words;
+
+pub use operating::operate;

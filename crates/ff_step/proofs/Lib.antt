@@ -1,0 +1,4 @@
+pub mod Values
+pub mod Reductions
+pub mod Entering
+pub mod Works

@@ -1,0 +1,25 @@
+//! One reduction of a script over the stores, and the work of one fuel on a task.
+//!
+//! [`reduce`] is the written reduction. It asks the control for the redex, has the row of the redex
+//! decide, and puts what the row gives for the redex: one function a row. Rows change the stores by
+//! the methods of `Stores` alone, so the stores are valid at every return. [`Task::work`] is what one
+//! fuel makes of a task.
+//!
+//! A fault leaves everything as it was. After want of memory the stores are valid, and what they
+//! and the control hold is not stated; a front of the new outputs stands behind the old ones.
+//!
+//! # Copies of cells
+//!
+//! `MayCopy` of `specs/Copies` bounds how many cells a reduction copies, by its redex: 64 for a
+//! variable that is declared or assigned, 64 for each parameter of a call and 64, 47 for each node
+//! of a tree that is made, what the operator copies, and else none.
+#![tactic(auto)]
+
+mod calls;
+mod reducing;
+mod rows;
+mod task;
+mod working;
+
+pub use reducing::reduce;
+pub use task::Task;

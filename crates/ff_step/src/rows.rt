@@ -1,0 +1,83 @@
+//! The rows of redexes that become a value.
+ghost use Rattle.std.specs.Prelude.{◌≡◌, ◌+◌, ◌*◌, ◌<◌, ◌≤◌, List, length};
+ghost use Rattle.ff_tree.specs.Spelled.{IsVar, IsWellSpelledDoc};
+ghost use Rattle.ff_value.specs.declared.output.Out.{Out};
+ghost use Rattle.ff_machine.specs.Answers.{Does, Reads};
+ghost use Rattle.ff_machine.specs.Documents.{laid};
+ghost use Rattle.ff_machine.specs.Reduction as red;
+ghost use Rattle.ff_machine.specs.References.{made};
+ghost use Rattle.ff_machine.specs.Valid.{IsVal};
+ghost use Rattle.ff_machine.specs.Windows as w;
+
+use ff_name::Name;
+use ff_operators::Fail;
+use ff_steps::Steps;
+use ff_stores::Stores;
+use ff_value::{ActId, Doc, Fault, Val};
+use std::sync::ledger::Ledger;
+
+/// The value of the nearest variable of a name. Its fault is `Name`, where there is none.
+pub(crate) fn variable(stores: &Stores, a: ActId, x: &Name) -> Result<Val, Fail>
+    requires { a.0 < length stores.now.windows.acts }
+    ensures { Reads (red.variable stores.now (w.lookup stores.now.windows.acts a x.now)) result }
+{
+    match stores.lookup(a, x) {
+        Some(v) => Ok(v.copy()?),
+        None => Err(Fail::Fault(Fault::Name)),
+    }
+}
+
+/// Declares a variable, or overwrites it in its activation; gives the value. Its fault is `Limit`.
+pub(crate) fn declare<C: Ledger>(
+    stores: &mut Stores,
+    a: ActId,
+    x: &Name,
+    v: Val,
+    copies: &mut Steps<C>,
+) -> Result<Val, Fail>
+    requires lives { a.0 < length stores.old.windows.acts }
+    requires name { IsVar x.now }
+    requires value { IsVal (made stores.old) v }
+    ensures does { (puts : List Out) → Does (red.declare stores.old a x.now v) result stores.old stores.new puts puts }
+    ensures later { copies.old ≤ copies.new }
+    ensures copies { copies.new ≤ copies.old + 64 }
+{
+    stores.declare(a, x, &v, copies)?;
+    Ok(v)
+}
+
+/// Assigns the nearest variable of a name; gives the value. Its fault is `Name`, where there is
+/// none.
+pub(crate) fn assign<C: Ledger>(
+    stores: &mut Stores,
+    a: ActId,
+    x: &Name,
+    v: Val,
+    copies: &mut Steps<C>,
+) -> Result<Val, Fail>
+    requires lives { a.0 < length stores.old.windows.acts }
+    requires value { IsVal (made stores.old) v }
+    ensures does { (puts : List Out) → Does (red.assign stores.old (w.holder stores.old.windows.acts a x.now) x.now v) result stores.old stores.new puts puts }
+    ensures later { copies.old ≤ copies.new }
+    ensures copies { copies.new ≤ copies.old + 64 }
+{
+    stores.assign(a, x, &v, copies)?;
+    Ok(v)
+}
+
+/// Makes a tree without a parent; gives its root. Its fault is `Limit`.
+pub(crate) fn make_tree<C: Ledger>(
+    stores: &mut Stores,
+    a: ActId,
+    doc: &Doc,
+    copies: &mut Steps<C>,
+) -> Result<Val, Fail>
+    requires lives { a.0 < length stores.old.windows.acts }
+    requires spelled { IsWellSpelledDoc doc.now }
+    ensures does { (puts : List Out) → Does (red.make_tree stores.old a doc.now) result stores.old stores.new puts puts }
+    ensures later { copies.old ≤ copies.new }
+    ensures copies { copies.new ≤ copies.old + 47 * (laid a doc.now).size }
+{
+    let n = stores.make_tree(a, doc, copies)?;
+    Ok(Val::Node(n))
+}

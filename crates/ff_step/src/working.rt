@@ -1,0 +1,71 @@
+//! The work of one fuel on a task.
+ghost use Rattle.std.specs.Prelude.{◌≡◌, ◌<◌, ◌≤◌, ◌++◌, [], ◌∷◌, length, OnErr, OnOk};
+ghost use Rattle.ff_machine.specs.Answers.{Works};
+ghost use Rattle.ff_machine.specs.Turns as turns;
+ghost use Rattle.ff_machine.specs.Valid.{IsStores, IsTask};
+ghost use Rattle.ff_machine.specs.Windows.{is_live};
+
+use crate::reducing::reduce;
+use crate::task::Task;
+use ff_machine::Reduced;
+use ff_name::NoMemory;
+use ff_steps::Steps;
+use ff_stores::Stores;
+use ff_value::{Fault, Out, PageId};
+use std::alloc::Global;
+use std::sync::ledger::Ledger;
+
+impl Task {
+    /// What one fuel makes of the task: one reduction, where its page is live; answers the task where
+    /// it goes on. It is gone where its page isn't live, where it is a value, and where it failed:
+    /// then its error is put, at the place of the page's window.
+    pub fn work<C: Ledger>(
+        self,
+        alloc: Global,
+        stores: &mut Stores,
+        outs: &mut Vec<Out>,
+        copies: &mut Steps<C>,
+    ) -> Result<Option<Task>, NoMemory>
+        requires { IsTask stores.old self }
+        ensures works { Works (turns.work stores.old self) result stores.new outs.old.items outs.new.items }
+        ensures later { copies.old ≤ copies.new }
+    {
+        let Task { page, mut control } = self;
+        if !lives(stores, page) {
+            return Ok(None);
+        }
+        match reduce(alloc, &mut control, stores, page, outs, copies)? {
+            Reduced::Moved => Ok(Some(Task { page, control })),
+            Reduced::Done(_v) => Ok(None),
+            Reduced::Failed(fault) => {
+                put_error(stores, page, fault, outs)?;
+                Ok(None)
+            }
+        }
+    }
+}
+
+/// Puts the error of a task of a page, at the place of the page's window.
+fn put_error(
+    stores: &Stores,
+    page: PageId,
+    fault: Fault,
+    outs: &mut Vec<Out>,
+) -> Result<(), NoMemory>
+    requires { page.0 < length stores.now.windows.pages }
+    ensures done { OnOk result (outs.new.items ≡ outs.old.items ++ turns.error_at stores.now page fault ∷ []) }
+    ensures err { OnErr result (outs.new.items ≡ outs.old.items) }
+{
+    let windows = stores.windows();
+    let place = windows.position(windows.win_of(page)).unwrap_or(0);
+    outs.push(Out::Error(place, fault))?;
+    Ok(())
+}
+
+/// Whether a page is live: that of an open window.
+fn lives(stores: &Stores, page: PageId) -> bool
+    ensures value { result ≡ is_live stores.now.windows page }
+    ensures valid { IsStores stores.now }
+{
+    stores.windows().live(page)
+}

@@ -1,0 +1,16 @@
+pub mod Begun
+pub mod Blank
+pub mod Changed
+pub mod Joined
+pub mod Loaded
+pub mod Opening
+pub mod Ready
+pub mod Sent
+pub mod Showing
+pub mod Copying
+pub mod Shown
+pub mod Slack
+pub mod Started
+pub mod Steps
+pub mod Touching
+pub mod Updating

@@ -1,0 +1,10 @@
+use Rattle.std.proofs.Common.{subst}
+use Rattle.ff_name.specs.Spelling.{IsDomain}
+use Rattle.ff_laws.proofs.Cookies.{put_cookies_valid}
+use Rattle.ff_stores.specs.Views.{stores_of}
+use Rattle.ff_stores.proofs.stores.Stores.put_cookies.Goals as goal
+
+pub invariant_of-self : goal.invariant_of-self
+invariant_of-self g c =
+    let domain = subst IsDomain c.text-domain.ensures.value c.text-domain.ensures.domain in
+    rw c.in-Ok.ensures.done ((put_cookies_valid (stores_of c.self.inside) c.args.domain.now c.args.entries.now c.self.invariant domain c.requires).stores)

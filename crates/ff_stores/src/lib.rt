@@ -1,0 +1,25 @@
+//! The stores of one copy of the browser together.
+//!
+//! [`Stores`] is seen as the record of that name of the written machine: nodes, windows, cookies,
+//! pending requests, the mass and the touched pages. That all of it is valid, references from one
+//! store to another included, is the type's own invariant, so it holds at every return. Each change
+//! is one method, which leaves what the machine's definition of that change says. What stands above
+//! this crate touches no store but through these methods.
+//!
+//! A change that is refused memory promises nothing of what the stores hold, and of the outputs
+//! only that a front of the new ones stands behind the old ones. Where a part of the change was
+//! written by then, the stores become empty ones, which takes no memory; nothing is undone.
+#![tactic(auto)]
+
+mod cookies;
+mod loading;
+mod replies;
+mod sending;
+mod starting;
+mod stores;
+mod touched;
+mod trees;
+mod turns;
+mod variables;
+
+pub use stores::Stores;

@@ -1,0 +1,131 @@
+//! The stores and what is read off them.
+ghost use Rattle.std.specs.Prelude.{◌≡◌, ◌<◌, length, IfOk, IfSome};
+ghost use Rattle.std.specs.Option.{option_copied};
+ghost use Rattle.ff_machine.specs.Stores as s;
+ghost use Rattle.ff_machine.specs.Windows as w;
+ghost use Rattle.ff_machine.specs.Valid.{IsStores};
+
+use crate::touched::Touched;
+use ff_name::{Name, NoMemory};
+use ff_net::{Jar, Requests};
+use ff_nodes::Nodes;
+use ff_steps::Steps;
+use ff_value::{ActId, Val};
+use ff_windows::Windows;
+use std::alloc::Global;
+use std::marker::Model;
+use std::sync::ledger::Ledger;
+
+/// The stores of one copy of the browser: nodes, windows, cookies, pending requests, the mass in
+/// bytes, and the pages that were touched. They are valid at all times, references from one store
+/// to another included. After want of memory they are the old ones, later ones or empty ones.
+#[derive(Drop)]
+pub struct Stores {
+    pub(crate) alloc: Global,
+    pub(crate) nodes: Nodes,
+    pub(crate) windows: Windows,
+    pub(crate) jar: Jar,
+    pub(crate) requests: Requests,
+    pub(crate) mass: u64,
+    pub(crate) touched: Touched,
+}
+
+impl Model for Stores {
+    ghost use Rattle.ff_machine.specs.Stores as record_of;
+    ghost use Rattle.ff_machine.specs.Codes.{coded_stores};
+
+    ghost Value = { record_of.Stores };
+
+    ghost coded = { coded_stores };
+
+    ghost use Rattle.ff_machine.specs.Valid.{IsStores};
+    ghost use Rattle.ff_stores.specs.Views.{stores_of};
+
+    ghost view = { stores_of };
+
+    ghost invariant = { λ s. IsStores (stores_of s) };
+}
+
+impl Stores {
+    /// Stores in which nothing was made, which take no memory. What they grow by is taken from
+    /// `alloc`.
+    #[tactic(auto, using(ff_machine::proofs::Empty::empty_valid))]
+    pub fn new(alloc: Global) -> Stores
+        ensures { result ≡ s.empty }
+    {
+        Stores {
+            alloc,
+            nodes: Nodes::new(alloc),
+            windows: Windows::new(alloc),
+            jar: Jar::new(alloc),
+            requests: Requests::new(alloc),
+            mass: 0,
+            touched: Touched::new(alloc),
+        }
+    }
+
+    /// Equal stores that share what they hold with these: no cell is copied, and no later change of
+    /// one of the two is seen in the other. Only the touched pages' numbers are written anew.
+    pub fn fork<C: Ledger>(&self, copies: &mut Steps<C>) -> Result<Stores, NoMemory>
+        ensures equal { IfOk result (λ stores. stores ≡ self.now) }
+        ensures copies { copies.new ≡ copies.old }
+    {
+        Ok(Stores {
+            alloc: self.alloc,
+            nodes: self.nodes.fork(copies)?,
+            windows: self.windows.fork(copies)?,
+            jar: self.jar.fork(copies)?,
+            requests: self.requests.fork(copies)?,
+            mass: self.mass,
+            touched: self.touched.copy()?,
+        })
+    }
+
+    /// The nodes.
+    pub fn nodes(&self) -> &Nodes
+        ensures value { result.now ≡ self.now.nodes }
+        ensures valid { IsStores self.now }
+    {
+        &self.nodes
+    }
+
+    /// Windows, pages and activations.
+    pub fn windows(&self) -> &Windows
+        ensures value { result.now ≡ self.now.windows }
+        ensures valid { IsStores self.now }
+    {
+        &self.windows
+    }
+
+    /// The cookies.
+    pub fn jar(&self) -> &Jar
+        ensures value { result.now ≡ self.now.jar }
+        ensures valid { IsStores self.now }
+    {
+        &self.jar
+    }
+
+    /// The pending requests.
+    pub fn requests(&self) -> &Requests
+        ensures value { result.now ≡ self.now.requests }
+        ensures valid { IsStores self.now }
+    {
+        &self.requests
+    }
+
+    /// The mass, in bytes.
+    pub fn mass(&self) -> u64
+        ensures value { result ≡ self.now.mass }
+        ensures valid { IsStores self.now }
+    {
+        self.mass
+    }
+
+    /// The value of the nearest variable of that name, lent.
+    pub fn lookup(&self, a: ActId, x: &Name) -> Option<&Val>
+        requires { a.0 < length self.now.windows.acts }
+        ensures { option_copied result ≡ w.lookup self.now.windows.acts a x.now }
+    {
+        self.windows.lookup(a, x)
+    }
+}

@@ -1,0 +1,102 @@
+//! Variables and activations.
+ghost use Rattle.std.specs.Prelude.{◌≡◌, ◌+◌, ◌*◌, ◌<◌, ◌≤◌, length, IfOk, OnOk, All};
+ghost use Rattle.ff_operators.specs.Answers.{Answers, OnFault};
+ghost use Rattle.ff_tree.specs.Spelled.{IsVar, AreParams};
+ghost use Rattle.ff_machine.specs.Windows as w;
+ghost use Rattle.ff_machine.specs.Reduction as red;
+ghost use Rattle.ff_machine.specs.References.{made};
+ghost use Rattle.ff_machine.specs.Valid.{IsVal};
+
+use crate::stores::Stores;
+use ff_name::Name;
+use ff_operators::Fail;
+use ff_steps::Steps;
+use ff_value::{ActId, Names, Val, Vals};
+use std::sync::ledger::Ledger;
+
+impl Stores {
+    /// Declares a variable in an activation, or overwrites it there. It is refused with `Limit`
+    /// exactly where it is new and there is no room for one more.
+    pub fn declare<C: Ledger>(
+        &mut self,
+        a: ActId,
+        x: &Name,
+        v: &Val,
+        copies: &mut Steps<C>,
+    ) -> Result<(), Fail>
+        requires lives { a.0 < length self.old.windows.acts }
+        requires name { IsVar x.now }
+        requires value { IsVal (made self.old) v.now }
+        ensures done { OnOk result (self.new ≡ red.with_acts self.old (w.set_var self.old.windows.acts a x.now v.now)) }
+        ensures answer { Answers (w.declare_fault self.old.windows.acts a x.now) result }
+        ensures kept { OnFault result (self.new ≡ self.old) }
+        ensures later { copies.old ≤ copies.new }
+        ensures copies { copies.new ≤ copies.old + 64 }
+    {
+        match self.windows.declare(a, x, v, copies) {
+            Ok(()) => Ok(()),
+            Err(Fail::Fault(fault)) => Err(Fail::Fault(fault)),
+            Err(Fail::NoMemory) => {
+                *self = Stores::new(self.alloc);
+                Err(Fail::NoMemory)
+            }
+        }
+    }
+
+    /// Assigns the nearest variable of that name. It is refused with `Name` exactly where there is
+    /// none.
+    pub fn assign<C: Ledger>(
+        &mut self,
+        a: ActId,
+        x: &Name,
+        v: &Val,
+        copies: &mut Steps<C>,
+    ) -> Result<(), Fail>
+        requires lives { a.0 < length self.old.windows.acts }
+        requires value { IsVal (made self.old) v.now }
+        ensures done { OnOk result (self.new ≡ red.with_acts self.old (w.assigned self.old.windows.acts (w.holder self.old.windows.acts a x.now) x.now v.now)) }
+        ensures answer { Answers (w.assign_fault (w.holder self.old.windows.acts a x.now)) result }
+        ensures kept { OnFault result (self.new ≡ self.old) }
+        ensures later { copies.old ≤ copies.new }
+        ensures copies { copies.new ≤ copies.old + 64 }
+    {
+        match self.windows.assign(a, x, v, copies) {
+            Ok(()) => Ok(()),
+            Err(Fail::Fault(fault)) => Err(Fail::Fault(fault)),
+            Err(Fail::NoMemory) => {
+                *self = Stores::new(self.alloc);
+                Err(Fail::NoMemory)
+            }
+        }
+    }
+
+    /// Makes an activation in which a function runs, with a variable for each parameter. It is
+    /// refused with `Limit` exactly where there is no room for it or its variables.
+    pub fn new_act<C: Ledger>(
+        &mut self,
+        parent: ActId,
+        params: &Names,
+        args: &Vals,
+        copies: &mut Steps<C>,
+    ) -> Result<ActId, Fail>
+        requires lives { parent.0 < length self.old.windows.acts }
+        requires lengths { length params.now ≡ length args.now }
+        requires names { AreParams params.now }
+        requires values { All (IsVal (made self.old)) args.now }
+        ensures done { OnOk result (self.new ≡ red.with_acts self.old (w.with_act self.old.windows.acts parent params.now args.now)) }
+        ensures number { IfOk result (λ n. n ≡ w.next_act self.old.windows) }
+        ensures answer { Answers (w.call_fault self.old.windows.acts (length params.now)) result }
+        ensures kept { OnFault result (self.new ≡ self.old) }
+        ensures later { copies.old ≤ copies.new }
+        ensures copies { copies.new ≤ copies.old + 64 * (length params.now + 1) }
+    {
+        match self.windows.new_act(parent, params, args, copies) {
+            Ok(n) => Ok(n),
+            Err(Fail::Fault(fault)) => Err(Fail::Fault(fault)),
+            Err(Fail::NoMemory) => {
+                *self = Stores::new(self.alloc);
+                Err(Fail::NoMemory)
+            }
+        }
+    }
+}
