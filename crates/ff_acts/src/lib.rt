@@ -16,5 +16,7 @@ mod acts;
 mod cells;
 mod growing;
 mod searching;
+#[cfg(test)]
+mod tests;
 
 pub use acts::Acts;

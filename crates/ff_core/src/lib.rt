@@ -14,3 +14,5 @@ pub use browser::{
 };
 pub use law::{an_input_ends_within_its_fuel, states_stay_valid};
 
+#[cfg(test)]
+mod tests;

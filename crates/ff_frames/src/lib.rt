@@ -26,6 +26,8 @@ mod row;
 mod seek;
 mod source;
 mod stack;
+#[cfg(test)]
+mod tests;
 mod values;
 
 pub use control::Control;

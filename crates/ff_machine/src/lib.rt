@@ -53,6 +53,8 @@ mod law;
 mod limits;
 mod records;
 mod reduced;
+#[cfg(test)]
+mod tests;
 mod traces;
 mod validity;
 

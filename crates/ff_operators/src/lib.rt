@@ -11,6 +11,8 @@ mod comparisons;
 mod limits;
 pub mod operands;
 mod operators;
+#[cfg(test)]
+mod tests;
 mod texts;
 
 pub use answer::{Applied, Fail};

@@ -1,3 +1,4 @@
 pub mod Halves
 pub mod Searching
 pub mod Kept
+pub mod Counted

@@ -15,6 +15,8 @@ mod page;
 mod queue;
 mod queues;
 mod readers;
+#[cfg(test)]
+mod tests;
 mod window;
 mod windows;
 
