@@ -26,6 +26,3 @@ mod steps;
 pub use event::Event;
 pub use ff_core::NoMemory;
 pub use pool::{MOST_COPIES, Pool};
-
-#[cfg(test)]
-mod tests;
