@@ -37,8 +37,8 @@ use std::sync::ledger::Ledger;
 /// none either, and writes the policy as version 2. `gen START N` multi-executes N inputs, at most
 /// 100,000, that are drawn from START, below 2^64, under the built-in policy, and writes how many
 /// lines and bytes each level has. POLICY is the name of a file on the shelf, of which the first
-/// 65,537 bytes count, or `-` for the built-in policy. Numbers are in canonical decimal. Every other
-/// list of words is `Usage`.
+/// 65,537 bytes count, or `-` for the built-in policy. Numbers are in canonical decimal. Every
+/// other list of words is `Usage`.
 ///
 /// `words` doesn't hold the program's name. Each status but `Done` puts its one line on the error
 /// sink; a fault of that sink changes no status. `turns` counts the turns of all browsers, those of

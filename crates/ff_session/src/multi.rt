@@ -101,8 +101,8 @@ fn let_out(policy: &Policy, pool: &mut Pool, text: &mut Vec<u8>) -> Result<(), A
     Ok(())
 }
 
-/// A pool for the levels of a policy, in which nothing came to any of them yet. It is refused only for
-/// want of memory.
+/// A pool for the levels of a policy, in which nothing came to any of them yet. It is refused only
+/// for want of memory.
 pub fn new_pool(alloc: Global, policy: &Policy) -> Result<Pool, AllocError>
     ensures { IfOk result (λ pool. AreCopiesAt policy.now pool []) }
 {
