@@ -224,7 +224,10 @@ fn show_drawn(rt: &HostRuntime, start: &str, inputs: &str) -> io::Result<()> {
     println!(rt; "{line:?}")?;
     println!(rt; "  {} got {} bytes", ended.number, ended.got)?;
     println!(rt; "  put {:?}", text_of(&ended.put))?;
-    println!(rt; "  the same again: {}", again.put.as_slice() == ended.put.as_slice())
+    println!(rt;
+        "  the same again: {}",
+        again.put.as_slice() == ended.put.as_slice()
+    )
 }
 
 fn show_generated(rt: &HostRuntime) -> io::Result<()> {
