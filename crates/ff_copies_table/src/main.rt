@@ -154,7 +154,7 @@ fn drained_and_forked<C: Ledger, L: Ledger>(
     alloc: Global,
     copies: Blank,
     turns: Blank,
-) -> Result<(Classes, [usize; 4], bool), NoMemory>
+) -> Result<(Vec<Classes>, Vec<usize>, bool), NoMemory>
     requires copies_name { copies.name ≡ C.name }
     requires copies_parts { copies.parts ≡ C.parts }
     requires copies_some { 0 < copies.parts }
@@ -170,12 +170,13 @@ fn drained_and_forked<C: Ledger, L: Ledger>(
     pool.drain(1, &mut copies, &mut turns)?;
     pool.play(&[], &mut copies, &mut turns)?;
     let mut fork = pool.fork(&mut copies)?;
-    let told = classes(&fork);
-    let high = opened(&mut pool, 1)?;
-    let again = opened(&mut pool, 1)?;
-    let low = opened(&mut pool, 0)?;
-    let forked = opened(&mut fork, 1)?;
-    Ok((told, [high, again, low, forked], pool.spent()))
+    let told = vec![in alloc; classes(&fork)]?;
+    let mut windows = Vec::new(alloc);
+    windows.push(opened(&mut pool, 1)?)?;
+    windows.push(opened(&mut pool, 1)?)?;
+    windows.push(opened(&mut pool, 0)?)?;
+    windows.push(opened(&mut fork, 1)?)?;
+    Ok((told, windows, pool.spent()))
 }
 
 /// Prints the first story.
@@ -193,11 +194,16 @@ fn show_parting(rt: &HostRuntime) -> io::Result<()> {
 /// Prints the second one.
 fn show_takes(rt: &HostRuntime) -> io::Result<()> {
     let story = drained_and_forked::<Brand, Brand>(rt.alloc(), Blank::new(1), Blank::new(1));
-    let Ok((told, [high, again, low, forked], spent)) = story else {
+    let Ok((told, windows, spent)) = story else {
         return println!(rt; "no memory");
     };
-    show_classes(rt, &told)?;
-    println!(rt; "opened {high} {again} {low}, in the fork {forked}, spent {spent}")
+    for classes in told {
+        show_classes(rt, &classes)?;
+    }
+    for opened in windows {
+        println!(rt; "opened {opened}")?;
+    }
+    println!(rt; "spent {spent}")
 }
 
 /// Prints what is told at one moment.
