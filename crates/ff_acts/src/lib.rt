@@ -16,7 +16,5 @@ mod acts;
 mod cells;
 mod growing;
 mod searching;
-#[cfg(test)]
-mod tests;
 
 pub use acts::Acts;

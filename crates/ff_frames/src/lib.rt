@@ -26,8 +26,6 @@ mod row;
 mod seek;
 mod source;
 mod stack;
-#[cfg(test)]
-mod tests;
 mod values;
 
 pub use control::Control;

@@ -53,8 +53,6 @@ mod law;
 mod limits;
 mod records;
 mod reduced;
-#[cfg(test)]
-mod tests;
 mod traces;
 mod validity;
 

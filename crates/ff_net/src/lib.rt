@@ -13,8 +13,6 @@ mod jar;
 mod pairs;
 mod requests;
 mod rows;
-#[cfg(test)]
-mod tests;
 
 pub use jar::Jar;
 pub use requests::Requests;

@@ -11,8 +11,6 @@ mod comparisons;
 mod limits;
 pub mod operands;
 mod operators;
-#[cfg(test)]
-mod tests;
 mod texts;
 
 pub use answer::{Applied, Fail};

@@ -1,4 +1,3 @@
 pub mod Halves
 pub mod Searching
 pub mod Kept
-pub mod Counted

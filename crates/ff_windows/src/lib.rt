@@ -15,8 +15,6 @@ mod page;
 mod queue;
 mod queues;
 mod readers;
-#[cfg(test)]
-mod tests;
 mod window;
 mod windows;
 

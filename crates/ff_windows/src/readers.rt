@@ -64,7 +64,7 @@ impl Windows {
     }
 
     /// Whether a window is open.
-    pub(crate) fn is_open(&self, n: WinId) -> bool
+    pub fn is_open(&self, n: WinId) -> bool
         ensures { result ≡ w.is_open self.now n }
     {
         let opened = self.opened();
