@@ -6,6 +6,7 @@ ghost use Rattle.ff_machine.specs.Answers.{Does};
 ghost use Rattle.ff_machine.specs.Operators as operators;
 ghost use Rattle.ff_machine.specs.References.{made};
 ghost use Rattle.ff_machine.specs.Valid.{IsCode, IsVal};
+ghost use Rattle.ff_rows.specs.Copies.{inserting, most_copies};
 
 use crate::operands::{node_code, node_str, nodes_num};
 use ff_name::Text;
@@ -58,6 +59,7 @@ pub(crate) fn listen<C: Ledger>(
     requires { All (IsVal (made stores.old)) args.now }
     ensures does { (puts : List Out) → Does (operators.operate stores.old page op.Listen args.now) result stores.old stores.new puts puts }
     ensures later { copies.old ≤ copies.new }
+    ensures copies { copies.new ≤ copies.old + 16 }
 {
     match node_code(args) {
         Some((n, code)) => listen_at(stores, n, code, copies),
@@ -75,6 +77,7 @@ fn listen_at<C: Ledger>(
     requires code { IsCode (made stores.old) code.now }
     ensures does { (puts : List Out) → Does (operators.listen stores.old n code.now) result stores.old stores.new puts puts }
     ensures later { copies.old ≤ copies.new }
+    ensures copies { copies.new ≤ copies.old + 16 }
 {
     stores.add_handler(n, code, copies)?;
     Ok(Val::Null)
@@ -91,6 +94,7 @@ pub(crate) fn insert<C: Ledger>(
     requires { All (IsVal (made stores.old)) args.now }
     ensures does { Does (operators.operate stores.old page op.Insert args.now) result stores.old stores.new outs.old.items outs.new.items }
     ensures later { copies.old ≤ copies.new }
+    ensures copies { copies.new ≤ copies.old + most_copies stores.old op.Insert args.now }
 {
     match nodes_num(args) {
         Some((parent, child, at)) => insert_at(stores, parent, child, at, outs, copies),
@@ -110,6 +114,7 @@ fn insert_at<C: Ledger>(
     requires child { child.0 < length stores.old.nodes }
     ensures does { Does (operators.insert stores.old parent child at) result stores.old stores.new outs.old.items outs.new.items }
     ensures later { copies.old ≤ copies.new }
+    ensures copies { copies.new ≤ copies.old + inserting stores.old parent child at }
 {
     stores.insert(parent, child, at, outs, copies)?;
     Ok(Val::Null)

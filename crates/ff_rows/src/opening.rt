@@ -1,6 +1,6 @@
 //! The operators that open, move and close windows. Where there is no room for the window or its
 //! request nothing is left of either: both rooms are tested before the first change.
-ghost use Rattle.std.specs.Prelude.{◌≡◌, ◌<◌, ◌≤◌, List, length, All, IsTrue, None, Some};
+ghost use Rattle.std.specs.Prelude.{◌≡◌, ◌+◌, ◌<◌, ◌≤◌, List, length, All, IsTrue, None, Some};
 ghost use Rattle.std.specs.Option.{option_copied};
 ghost use Rattle.ff_name.specs.Address.{IsWellSpelled};
 ghost use Rattle.ff_name.specs.Reading.{read_url};
@@ -38,6 +38,7 @@ pub(crate) fn open<C: Ledger>(
     requires { page.0 < length stores.old.windows.pages }
     ensures does { Does (operators.operate stores.old page op.Open args.now) result stores.old stores.new outs.old.items outs.new.items }
     ensures later { copies.old ≤ copies.new }
+    ensures copies { copies.new ≤ copies.old + 125 }
 {
     match one_str(args) {
         Some(address) => open_spelled(alloc, stores, page, address, outs, copies),
@@ -56,6 +57,7 @@ fn open_spelled<C: Ledger>(
     requires { page.0 < length stores.old.windows.pages }
     ensures does { Does (operators.at_url (read_url address.now) (operators.open_at stores.old page None)) result stores.old stores.new outs.old.items outs.new.items }
     ensures later { copies.old ≤ copies.new }
+    ensures copies { copies.new ≤ copies.old + 125 }
 {
     match read_address(alloc, address)? {
         Some(url) => open_at(alloc, stores, page, None, &url, outs, copies),
@@ -75,6 +77,7 @@ pub(crate) fn open_named<C: Ledger>(
     requires { page.0 < length stores.old.windows.pages }
     ensures does { Does (operators.operate stores.old page op.OpenNamed args.now) result stores.old stores.new outs.old.items outs.new.items }
     ensures later { copies.old ≤ copies.new }
+    ensures copies { copies.new ≤ copies.old + 125 }
 {
     match two_strs(args) {
         Some((name, address)) => {
@@ -96,6 +99,7 @@ fn open_named_spelled<C: Ledger>(
     requires { page.0 < length stores.old.windows.pages }
     ensures does { Does (operators.at_url (read_url address.now) (λ u. operators.open_named stores.old page name.now u (w.named stores.old.windows name.now))) result stores.old stores.new outs.old.items outs.new.items }
     ensures later { copies.old ≤ copies.new }
+    ensures copies { copies.new ≤ copies.old + 125 }
 {
     match read_address(alloc, address)? {
         Some(url) => open_named_at(alloc, stores, page, name, &url, outs, copies),
@@ -116,6 +120,7 @@ fn open_named_at<C: Ledger>(
     requires url { IsWellSpelled url.now }
     ensures does { Does (operators.open_named stores.old page name.now url.now (w.named stores.old.windows name.now)) result stores.old stores.new outs.old.items outs.new.items }
     ensures later { copies.old ≤ copies.new }
+    ensures copies { copies.new ≤ copies.old + 125 }
 {
     match stores.windows().named(name) {
         Some(window) => go_at(stores, window, url, Val::Win(window), outs, copies),
@@ -136,6 +141,7 @@ fn open_at<C: Ledger>(
     requires url { IsWellSpelled url.now }
     ensures does { Does (operators.open_at stores.old page (option_copied name.entry) url.now) result stores.old stores.new outs.old.items outs.new.items }
     ensures later { copies.old ≤ copies.new }
+    ensures copies { copies.new ≤ copies.old + 125 }
 {
     match url {
         Url::Blank => open_blank(stores, page, name, outs, copies),
@@ -153,6 +159,7 @@ fn open_blank<C: Ledger>(
     requires { page.0 < length stores.old.windows.pages }
     ensures does { Does (operators.open_at stores.old page (option_copied name.entry) url.Blank) result stores.old stores.new outs.old.items outs.new.items }
     ensures later { copies.old ≤ copies.new }
+    ensures copies { copies.new ≤ copies.old + 92 }
 {
     let opener = own_window(stores, page);
     match stores.open_window(name, Some(opener), outs, copies)? {
@@ -177,6 +184,7 @@ fn open_asking<C: Ledger>(
     requires url { IsWellSpelled (url.At domain.now uri.now) }
     ensures does { Does (operators.open_at stores.old page (option_copied name.entry) (url.At domain.now uri.now)) result stores.old stores.new outs.old.items outs.new.items }
     ensures later { copies.old ≤ copies.new }
+    ensures copies { copies.new ≤ copies.old + 125 }
 {
     let has_room = stores.requests().room(domain);
     if !has_room {
@@ -204,6 +212,7 @@ pub(crate) fn go<C: Ledger>(
 ) -> Result<Val, Fail>
     ensures does { Does (operators.operate stores.old page op.Go args.now) result stores.old stores.new outs.old.items outs.new.items }
     ensures later { copies.old ≤ copies.new }
+    ensures copies { copies.new ≤ copies.old + 94 }
 {
     match win_str(args) {
         Some((window, address)) => go_spelled(alloc, stores, window, address, outs, copies),
@@ -221,6 +230,7 @@ fn go_spelled<C: Ledger>(
 ) -> Result<Val, Fail>
     ensures does { Does (operators.go stores.old window address.now) result stores.old stores.new outs.old.items outs.new.items }
     ensures later { copies.old ≤ copies.new }
+    ensures copies { copies.new ≤ copies.old + 94 }
 {
     if !is_open(stores, window) {
         return Err(Fail::Fault(Fault::Dead));
@@ -244,6 +254,7 @@ fn go_at<C: Ledger>(
     requires url { IsWellSpelled url.now }
     ensures does { Does (operators.does_or_limit value (s.go stores.old window url.now)) result stores.old stores.new outs.old.items outs.new.items }
     ensures later { copies.old ≤ copies.new }
+    ensures copies { copies.new ≤ copies.old + 94 }
 {
     if stores.go(window, url, outs, copies)? {
         Ok(value)

@@ -1,12 +1,12 @@
 //! Which function does what an operator does.
-ghost use Rattle.std.specs.Prelude.{◌≡◌, ◌≤◌, length, All, IsTrue};
+ghost use Rattle.std.specs.Prelude.{◌≡◌, ◌+◌, ◌≤◌, length, All, IsTrue};
 ghost use Rattle.ff_tree.specs.Ops.{arity_of};
 ghost use Rattle.ff_machine.specs.Answers.{Does};
 ghost use Rattle.ff_machine.specs.Operators as operators;
 ghost use Rattle.ff_machine.specs.Windows.{is_live};
 ghost use Rattle.ff_machine.specs.References.{made};
 ghost use Rattle.ff_machine.specs.Valid.{IsVal};
-ghost use Rattle.ff_rows.specs.Copies.{CopiesAtMost, most_copies};
+ghost use Rattle.ff_rows.specs.Copies.{most_copies};
 
 use crate::pure::pure;
 use crate::readers::made_live;
@@ -35,7 +35,7 @@ pub fn operate<C: Ledger>(
     requires live { IsTrue (is_live stores.old.windows page) }
     ensures does { Does (operators.operate stores.old page op args.now) result stores.old stores.new outs.old.items outs.new.items }
     ensures later { copies.old ≤ copies.new }
-    ensures copies { CopiesAtMost (most_copies op) copies.old copies.new }
+    ensures copies { copies.new ≤ copies.old + most_copies stores.old op args.now }
 {
     made_live(stores, page);
     match op {

@@ -1,24 +1,32 @@
 -- How many cells a reduction copies at most.
-use Rattle.std.specs.Prelude.{◌≡◌, ◌+◌, ◌*◌, ◌≤◌, ℕ, length}
+use Rattle.std.specs.Prelude.{ℕ, ◌+◌, ◌*◌, length}
 use Rattle.ff_value.specs.declared.ids.ActId.{ActId}
 use Rattle.ff_value.specs.declared.value.Val.{Val}
 use Rattle.ff_value.specs.declared.value.Val.TheVariants as val
 use Rattle.ff_term.specs.declared.redex.Redex.{Redex}
 use Rattle.ff_term.specs.declared.redex.Redex.TheVariants as redex
+use Rattle.ff_term.specs.Redexes.{read_redex}
+use Rattle.ff_term.specs.Running as term
+use Rattle.ff_term.specs.Running.{Evaluation, innermost}
 use Rattle.ff_machine.specs.Documents.{laid}
-use Rattle.ff_rows.specs.Copies.{CopiesAtMost, most_copies}
+use Rattle.ff_machine.specs.Stores.{Stores}
+use Rattle.ff_rows.specs.Copies.{most_copies}
 
--- of a call: for each parameter of the function, and for its activation; none where no function is
+-- for a call: for each parameter of the function, and for its activation; none where no function is
 -- called
 abbrev pub called : Val → ℕ
 called (val.Code code) = 64 * (length code.params + 1)
 called other = 0
 
--- so far the counter may have moved when a redex, which stands in the activation, is reduced
-abbrev pub MayCopy : ActId → Redex → ℕ → ℕ → Type 0
-MayCopy a (redex.Let x v) before after = after ≤ before + 64
-MayCopy a (redex.Set x v) before after = after ≤ before + 64
-MayCopy a (redex.Apply f args) before after = after ≤ before + called f
-MayCopy a (redex.Tree doc) before after = after ≤ before + 47 * (laid a doc).size
-MayCopy a (redex.Prim op args) before after = CopiesAtMost (most_copies op) before after
-MayCopy a other before after = after ≡ before
+-- for the row of a redex, which stands in the activation; rows that aren't named copy none
+abbrev pub copied : Stores → ActId → Redex → ℕ
+copied s a (redex.Let x v) = 64
+copied s a (redex.Set x v) = 64
+copied s a (redex.Apply f args) = called f
+copied s a (redex.Tree doc) = 47 * (laid a doc).size
+copied s a (redex.Prim op args) = most_copies s op args
+copied s a other = 0
+
+-- for one reduction of an evaluation: for the row of its redex, in its innermost activation
+abbrev pub working : Stores → Evaluation → ℕ
+working s t = copied s (innermost t.base t.expr) (read_redex (term.redex t.expr))

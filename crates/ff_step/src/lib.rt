@@ -10,8 +10,8 @@
 //!
 //! # Copies of cells
 //!
-//! `MayCopy` of `specs/Copies` bounds how many cells a reduction copies, by its redex: 64 for a
-//! variable that is declared or assigned, 64 for each parameter of a call and 64, 47 for each node
+//! `working` of `specs/Copies` says how many cells a reduction copies at most, by its redex: 64 for
+//! a variable that is declared or assigned, 64 for each parameter of a call and 64, 47 for each node
 //! of a tree that is made, what the operator copies, and else none.
 #![tactic(auto)]
 

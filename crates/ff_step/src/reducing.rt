@@ -1,15 +1,15 @@
 //! The one reduction: which row decides, and what is put for the redex.
-ghost use Rattle.std.specs.Prelude.{◌≡◌, ◌<◌, ◌≤◌, false, length, IsTrue};
+ghost use Rattle.std.specs.Prelude.{◌≡◌, ◌+◌, ◌<◌, ◌≤◌, false, length, IsTrue};
 ghost use Rattle.ff_term.specs.Calls.{calls_around};
-ghost use Rattle.ff_term.specs.Redexes.{IsRedexOf, read_redex};
+ghost use Rattle.ff_term.specs.Redexes.{IsRedexOf};
 ghost use Rattle.ff_term.specs.Running as term;
-ghost use Rattle.ff_term.specs.Running.{innermost, is_value};
+ghost use Rattle.ff_term.specs.Running.{is_value};
 ghost use Rattle.ff_machine.specs.Answers.{Finishes, Reduces};
 ghost use Rattle.ff_machine.specs.Reduction as red;
 ghost use Rattle.ff_machine.specs.References.{made};
 ghost use Rattle.ff_machine.specs.Valid.{IsRedex, IsRunning};
 ghost use Rattle.ff_machine.specs.Windows.{is_live};
-ghost use Rattle.ff_step.specs.Copies.{MayCopy};
+ghost use Rattle.ff_step.specs.Copies.{copied, working};
 
 use crate::calls::{reduce_call, reduce_test};
 use crate::rows::{assign, declare, make_tree, variable};
@@ -40,7 +40,7 @@ pub fn reduce<C: Ledger>(
     requires live { IsTrue (is_live stores.old.windows page) }
     ensures reduces { Reduces (red.reduction stores.old page control.old) result control.new stores.new outs.old.items outs.new.items }
     ensures later { copies.old ≤ copies.new }
-    ensures copies { MayCopy (innermost control.old.base control.old.expr) (read_redex (term.redex control.old.expr)) copies.old copies.new }
+    ensures copies { copies.new ≤ copies.old + working stores.old control.old }
 {
     match control.done() {
         Some(v) => Ok(Reduced::Done(v.copy()?)),
@@ -63,7 +63,7 @@ fn reduce_redex<C: Ledger>(
     requires live { IsTrue (is_live stores.old.windows page) }
     ensures reduces { Reduces (red.reduction stores.old page control.old) result control.new stores.new outs.old.items outs.new.items }
     ensures later { copies.old ≤ copies.new }
-    ensures copies { MayCopy (innermost control.old.base control.old.expr) (read_redex (term.redex control.old.expr)) copies.old copies.new }
+    ensures copies { copies.new ≤ copies.old + working stores.old control.old }
 {
     let a = control.act();
     let redex = control.next(alloc)?;
@@ -88,7 +88,7 @@ fn rewrite<C: Ledger>(
     requires live { IsTrue (is_live stores.old.windows page) }
     ensures reduces { Reduces (red.by_redex stores.old control.old (red.reduced stores.old page a (calls_around control.old.expr) (term.redex control.old.expr) redex)) result control.new stores.new outs.old.items outs.new.items }
     ensures later { copies.old ≤ copies.new }
-    ensures copies { MayCopy a redex copies.old copies.new }
+    ensures copies { copies.new ≤ copies.old + copied stores.old a redex }
 {
     match redex {
         Redex::Local => {

@@ -1,9 +1,10 @@
 //! The work of one fuel on a task.
-ghost use Rattle.std.specs.Prelude.{◌≡◌, ◌<◌, ◌≤◌, ◌++◌, [], ◌∷◌, length, OnErr, OnOk};
+ghost use Rattle.std.specs.Prelude.{◌≡◌, ◌+◌, ◌<◌, ◌≤◌, ◌++◌, [], ◌∷◌, length, OnErr, OnOk};
 ghost use Rattle.ff_machine.specs.Answers.{Works};
 ghost use Rattle.ff_machine.specs.Turns as turns;
 ghost use Rattle.ff_machine.specs.Valid.{IsStores, IsTask};
 ghost use Rattle.ff_machine.specs.Windows.{is_live};
+ghost use Rattle.ff_step.specs.Copies.{working};
 
 use crate::reducing::reduce;
 use crate::task::Task;
@@ -29,6 +30,7 @@ impl Task {
         requires { IsTask stores.old self }
         ensures works { Works (turns.work stores.old self) result stores.new outs.old.items outs.new.items }
         ensures later { copies.old ≤ copies.new }
+        ensures copies { copies.new ≤ copies.old + working stores.old self.running }
     {
         let Task { page, mut control } = self;
         if !lives(stores, page) {
