@@ -1,2 +1,3 @@
-pub mod State
-pub mod Machine
+pub mod Copies
+pub mod Views
+pub mod Calls

@@ -2,12 +2,13 @@ ghost use Rattle.std.specs.Prelude.{◌≡◌, ◌≤◌, ◌+◌, ℕ, true};
 ghost use Rattle.ff_reactive.specs.Turns.{KeepsOk, IsFuelled};
 ghost use Rattle.ff_value.specs.Spelled.{IsWellSpelledInput, IsWellSpelledOut};
 ghost use Rattle.ff_value.specs.declared.input.Input.{Input};
-ghost use Rattle.ff_core.specs.State.{State, IsState};
-ghost use Rattle.ff_core.specs.Machine.{browser, reactor};
+ghost use Rattle.ff_machine.specs.State.{State};
+ghost use Rattle.ff_machine.specs.Valid.{IsState};
+ghost use Rattle.ff_machine.specs.Machine.{browser, reactor};
 
 /// Valid states stay valid and put well spelled outputs, when a well spelled input is taken and at
 /// each turn; and each turn spends fuel or is the last.
-#[tactic(auto, using(crate::proofs::Keeping::fuelled))]
+#[tactic(auto, using(crate::proofs::Keeping::keeps, crate::proofs::Keeping::fuelled))]
 pub fn states_stay_valid()
     ensures kept { (budget : ℕ) → KeepsOk (reactor budget) IsWellSpelledInput (IsState budget) IsWellSpelledOut }
     ensures fuelled { (budget : ℕ) → IsFuelled (reactor budget) (λ s. s.fuel) budget IsWellSpelledInput (IsState budget) }

@@ -1,18 +1,19 @@
-//! One browser: a reactive machine that takes an input when it is quiet, and then makes one turn
-//! after another until it is quiet again (Bohannon and Pierce 2010).
+//! One browser as a reactor (Bohannon and Pierce 2010): quiet, it takes an input; else it makes one
+//! turn after another until it is quiet again.
 //!
-//! At this stage a browser makes something of the inputs that open windows alone. It holds the open
-//! windows, the requests whose replies haven't come, and fuel: what each input brings, and what of
-//! it is left.
+//! [`Browser`] is seen as the state of the written machine, and each call does what the machine's
+//! definition says. That the state is valid is the type's own invariant, so it holds at every
+//! return. A call that is refused memory leaves a new browser with the same budget.
 #![tactic(auto)]
 
 mod browser;
+mod calls;
+mod inputs;
 mod law;
+mod parts;
+mod replies;
+mod turns;
 
-pub use browser::{
-    Browser, MOST_BUDGET, MOST_WAITING, MOST_WAITING_AT_ONE, MOST_WINDOWS, NoMemory, Pending,
-};
+pub use browser::{Browser, MOST_BUDGET};
+pub use ff_name::NoMemory;
 pub use law::{an_input_ends_within_its_fuel, states_stay_valid};
-
-#[cfg(test)]
-mod tests;

@@ -6,8 +6,8 @@ use Rattle.ff_reactive.proofs.Laws.{noninterfering}
 use Rattle.ff_reactive.proofs.Turns.{machine_handle_ok, machine_outputs_ok}
 use Rattle.ff_lattice.specs.Order.{Order}
 use Rattle.ff_value.specs.Spelled.{IsWellSpelledOut}
-use Rattle.ff_core.specs.State.{IsState}
-use Rattle.ff_core.specs.Machine.{reactor}
+use Rattle.ff_machine.specs.Valid.{IsState}
+use Rattle.ff_machine.specs.Machine.{reactor}
 use Rattle.ff_core.proofs.Keeping as core
 use Rattle.ff_policy.specs.Assignment.{Assignment, IsAssignment}
 use Rattle.ff_route.proofs.Fits.{sees_below, level_ok, name_ok, names_differ}

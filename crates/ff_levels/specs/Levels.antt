@@ -5,8 +5,8 @@ use Rattle.ff_lattice.specs.Order.{Order}
 use Rattle.ff_value.specs.Spelled.{IsWellSpelledInput}
 use Rattle.ff_value.specs.declared.input.Input.{Input}
 use Rattle.ff_value.specs.declared.output.Out.{Out}
-use Rattle.ff_core.specs.State.{State}
-use Rattle.ff_core.specs.Machine.{browser}
+use Rattle.ff_machine.specs.State.{State}
+use Rattle.ff_machine.specs.Machine.{browser}
 use Rattle.ff_policy.specs.Assignment.{Assignment}
 use Rattle.ff_route.specs.Route.{the_levels, IsTagged}
 use Rattle.ff_trace.specs.Printed.{out_text}

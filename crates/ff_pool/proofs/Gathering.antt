@@ -7,8 +7,9 @@ use Rattle.ff_lattice.specs.declared.names.TheConstants.{MOST_LEVELS}
 use Rattle.ff_value.specs.Spelled.{IsWellSpelledInput}
 use Rattle.ff_value.specs.declared.input.Input.{Input}
 use Rattle.ff_value.specs.declared.output.Out.{Out}
-use Rattle.ff_core.specs.State.{State, IsState}
-use Rattle.ff_core.specs.Machine.{reactor}
+use Rattle.ff_machine.specs.State.{State}
+use Rattle.ff_machine.specs.Valid.{IsState}
+use Rattle.ff_machine.specs.Machine.{reactor}
 use Rattle.ff_core.proofs.Keeping.{keeps, fuelled}
 use Rattle.ff_reactive.specs.Worlds.{Copy, World, leader, offer, each, levels, copy_at, step_copy, offered, emptied, has_work, works, step_turns, keep_together, new_leader, split, new_world, world_arrive, world_turn, world_take, Ends, IsCopy, AreLeaders, IsWorld, AreOffers}
 use Rattle.ff_reactive.proofs.Below.{length-each, get_or-each, each_agree}

@@ -2,7 +2,7 @@
 use Rattle.std.proofs.Common.{◌≡◌, ℕ, ◌+◌, false, List, All, sym, ap, subst, ◌∙◌}
 use Rattle.std.proofs.lemmas.List.Elements.{All-map}
 use Rattle.ff_value.specs.Spelled.{IsWellSpelledInput}
-use Rattle.ff_core.specs.Machine.{reactor}
+use Rattle.ff_machine.specs.Machine.{reactor}
 use Rattle.ff_reactive.specs.Worlds.{EventOk, IsPlayed}
 use Rattle.ff_reactive.proofs.Worlds.{levels-new}
 use Rattle.ff_reactive.proofs.Schedules.{every_schedule}

@@ -3,7 +3,7 @@ use Rattle.std.proofs.Common.{◌≡◌, ℕ, ◌+◌, ◌<◌, ◌≤◌, Bool,
 use Rattle.ff_value.specs.Spelled.{IsWellSpelledInput}
 use Rattle.ff_value.specs.declared.input.Input.{Input}
 use Rattle.ff_value.specs.declared.output.Out.{Out}
-use Rattle.ff_core.specs.Machine.{reactor}
+use Rattle.ff_machine.specs.Machine.{reactor}
 use Rattle.ff_reactive.specs.Worlds.{leader, split, AreOffers, world_turn}
 use Rattle.ff_reactive.proofs.Classes.{length-split}
 use Rattle.ff_pool.specs.Heads.{Head, HasArrived, same_input, new_head, head_at, step_of, step_head, head_turns, head_works, given, gathered, IsKept}

@@ -5,7 +5,7 @@ use Rattle.ff_value.specs.declared.input.Input.{Input}
 use Rattle.ff_reactive.specs.Worlds as worlds
 use Rattle.ff_reactive.specs.Worlds.{EventOk}
 use Rattle.ff_reactive.specs.Worlds.Event.{arrive, turn}
-use Rattle.ff_core.specs.Machine.{reactor}
+use Rattle.ff_machine.specs.Machine.{reactor}
 use Rattle.ff_reactive.specs.Worlds.{play_event}
 use Rattle.ff_pool.specs.Heads.{same_input}
 use Rattle.ff_pool.specs.Pooled.{Pooled}

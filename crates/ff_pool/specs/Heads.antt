@@ -11,8 +11,9 @@ use Rattle.ff_value.specs.Spelled.{IsWellSpelledInput}
 use Rattle.ff_value.specs.declared.input.Input.{Input}
 use Rattle.ff_value.specs.declared.output.Out.{Out}
 use Rattle.ff_value.specs.contracts.input.Input as input
-use Rattle.ff_core.specs.State.{State, empty, IsState}
-use Rattle.ff_core.specs.Machine.{reactor}
+use Rattle.ff_machine.specs.State.{State, empty}
+use Rattle.ff_machine.specs.Valid.{IsState}
+use Rattle.ff_machine.specs.Machine.{reactor}
 use Rattle.ff_core.specs.contracts.browser.Browser as browser
 use Rattle.ff_reactive.specs.Worlds.{Copy, World, IsWorld, each, leader, offer, split, stepped, works, step_turns}
 

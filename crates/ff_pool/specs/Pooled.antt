@@ -6,8 +6,8 @@ use Rattle.ff_value.specs.declared.input.Input.{Input}
 use Rattle.ff_value.specs.declared.output.Out.{Out}
 use Rattle.ff_value.specs.contracts.input.Input as input
 use Rattle.ff_value.specs.contracts.output.Out as out
-use Rattle.ff_core.specs.State.{State}
-use Rattle.ff_core.specs.Machine.{reactor}
+use Rattle.ff_machine.specs.State.{State}
+use Rattle.ff_machine.specs.Machine.{reactor}
 use Rattle.ff_core.specs.contracts.browser.Browser as browser
 use Rattle.ff_reactive.specs.Worlds as worlds
 use Rattle.ff_reactive.specs.Worlds.{Copy, World, Event, leader, new_world, world_arrive, world_turn, world_take, world_drain, world_left, play_events, AreOffers, EventOk}

@@ -1,6 +1,6 @@
 //! Playing a list of events.
 ghost use Rattle.std.specs.Prelude.{◌≡◌, ◌+◌, ◌≤◌, ℕ, true, false, All, OnOk, OnErr};
-ghost use Rattle.ff_core.specs.Machine.{reactor};
+ghost use Rattle.ff_machine.specs.Machine.{reactor};
 ghost use Rattle.ff_reactive.specs.Worlds.{IsPlayed};
 ghost use Rattle.ff_pool.specs.Pooled.{size, played, new_pool};
 ghost use Rattle.ff_pool.specs.Events.{events_of, played_one, IsEvent};

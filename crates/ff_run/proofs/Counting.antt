@@ -8,7 +8,7 @@ use Rattle.ff_policy.specs.Assignment.{Assignment}
 use Rattle.ff_stream.specs.declared.end.BadLine.{BadLine}
 use Rattle.ff_stream.proofs.Laws.{trace_once}
 use Rattle.ff_session.specs.Once.{gives_once}
-use Rattle.ff_session.specs.Works.{built_only, turns_for, AreInputsGot, IsOwed, IsWritten, Exchanged, IsAnswered}
+use Rattle.ff_session.specs.Works.{turns_for, AreInputsGot, IsOwed, IsWritten, Exchanged, IsAnswered}
 use Rattle.ff_session.specs.declared.work.Work.{Work}
 use Rattle.ff_run.specs.Policies.{Under}
 use Rattle.ff_run.specs.Run.{Obeys, Counts}
@@ -18,11 +18,11 @@ use Rattle.ff_status.specs.declared.status.Status.{Status}
 use Rattle.ff_status.specs.declared.status.Status.TheVariants.{Done, Usage, Policy, Trace, ReadFault, WriteFault, ShelfFault, NoMemory}
 
 module _ {before now : Told} {turns_before turns_now : ℕ} (work : Work) (p : Assignment) (s : Status) (run : Exchanged work p before now turns_before turns_now s) where
-  owed_turns : (other : Option (BadLine TraceFault)) → IsOwed work p run.pieces other turns_before turns_now → (is : List Input) (bad : Option (BadLine TraceFault)) → AreInputsGot work p run.pieces is bad → turns_now ≡ turns_before + turns_for work p is
+  owed_turns : (other : Option (BadLine TraceFault)) → IsOwed work p run.pieces other turns_before turns_now → (is : List Input) (bad : Option (BadLine TraceFault)) → AreInputsGot p run.pieces is bad → turns_now ≡ turns_before + turns_for work p is
   owed_turns other owed is bad reads =
-      owed.counted ∙ ap (λ js. turns_before + turns_for work p js) (trace_once (gives_once (built_only work) p.order) (has_end run.pieces) (got_of run.pieces) owed.inputs is other bad owed.read reads).0
+      owed.counted ∙ ap (λ js. turns_before + turns_for work p js) (trace_once (gives_once p.order) (has_end run.pieces) (got_of run.pieces) owed.inputs is other bad owed.read reads).0
 
-  from : (t : Status) → IsAnswered t → IsWritten work p t run.pieces turns_before turns_now → (is : List Input) (bad : Option (BadLine TraceFault)) → AreInputsGot work p run.pieces is bad → turns_now ≡ turns_before + turns_for work p is
+  from : (t : Status) → IsAnswered t → IsWritten work p t run.pieces turns_before turns_now → (is : List Input) (bad : Option (BadLine TraceFault)) → AreInputsGot p run.pieces is bad → turns_now ≡ turns_before + turns_for work p is
   from Done answered written is bad reads = owed_turns None written.1 is bad reads
   from (Trace number fault) answered written is bad reads = owed_turns _ written.owed is bad reads
   from ReadFault answered written is bad reads = owed_turns None written.1 is bad reads

@@ -27,7 +27,7 @@ input_or_none (Err fault) = None
 drawn_once : (order : Order) (number : ℕ) (i j : Input) → IsDrawn order number i → IsDrawn order number j → i ≡ j
 drawn_once order number i j a b =
     let same : b.line ≡ a.line = same_front b.line a.line 10 10 (sym b.line_is ∙ a.line_is) in
-    same_Some i j (ap input_or_none (gives_once false order a.line (Ok (Some i)) (Ok (Some j)) a.gives (subst (λ line. Gives false order line (Ok (Some j))) same b.gives)))
+    same_Some i j (ap input_or_none (gives_once order a.line (Ok (Some i)) (Ok (Some j)) a.gives (subst (λ line. Gives order line (Ok (Some j))) same b.gives)))
 
 all_once : (order : Order) (start n : ℕ) (is js : List Input) → AreDrawn order start n is → AreDrawn order start n js → is ≡ js
 all_once order start zero is js a b = a ∙ sym b

@@ -20,7 +20,7 @@ use Rattle.ff_run.specs.Checked.{IsPut}
 pub record IsDrawn (order : Order) (number : ℕ) (i : Input) : Type 0 where
   pub line : List ℕ
   pub line_is : line_of (draw_of number) ≡ line ++ 10 ∷ []
-  pub gives : Gives false order line (Ok (Some i))
+  pub gives : Gives order line (Ok (Some i))
 
 -- the first so many lines that are drawn from a start give these inputs
 abbrev pub AreDrawn : Order → ℕ → ℕ → List Input → Type 0

@@ -62,7 +62,7 @@ ClaimsUnder shelf name before now claim = Under shelf name (λ p. Claims Multi p
 pub record Counts (work : Work) (p : Assignment) (before now : Told) (turns_before turns_now : ℕ) : Type 0 where
   pub pieces : List Piece
   pub passed : Passes before now pieces
-  pub counted : (is : List Input) (bad : Option (BadLine TraceFault)) → AreInputsGot work p pieces is bad → turns_now ≡ turns_before + turns_for work p is
+  pub counted : (is : List Input) (bad : Option (BadLine TraceFault)) → AreInputsGot p pieces is bad → turns_now ≡ turns_before + turns_for work p is
 
 -- Nothing failed: no fetch of the file of this name, no read and no write.
 pub record NothingFailed (name : List ℕ) (shelf shelf_now : ShelfTold) (before now : Told) : Type 0 where

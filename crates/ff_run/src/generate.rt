@@ -102,10 +102,7 @@ fn next_input(alloc: Global, lattice: &Lattice, draws: &mut Draws) -> Result<Inp
     let Some(_newline) = line.pop() else {
         return Err(AllocError);
     };
-    let reader = InputReader {
-        lattice,
-        built_only: false,
-    };
+    let reader = InputReader { lattice };
     match reader.read(alloc, line.as_slice())? {
         Ok(Some(input)) => Ok(input),
         _ => Err(AllocError),

@@ -12,8 +12,8 @@ use Rattle.ff_lattice.specs.Order.{size}
 use Rattle.ff_value.specs.Spelled.{IsWellSpelledInput}
 use Rattle.ff_value.specs.declared.input.Input.{Input}
 use Rattle.ff_value.specs.declared.output.Out.{Out}
-use Rattle.ff_core.specs.State.{State}
-use Rattle.ff_core.specs.Machine.{reactor}
+use Rattle.ff_machine.specs.State.{State}
+use Rattle.ff_machine.specs.Machine.{reactor}
 use Rattle.ff_pool.specs.Heads.{same_input, IsWorldOf}
 use Rattle.ff_pool.specs.Pooled as pooled
 use Rattle.ff_pool.specs.Pooled.{Pooled, arrived, drained, taken, left, copy_of, new_pool, AreOffersTo}

@@ -21,10 +21,10 @@ use Rattle.ff_session.specs.declared.work.Work.TheVariants.{Multi}
 use Rattle.ff_session.proofs.Giving.{is_input}
 
 module _ {before now : Told} {turns_before turns_now : ℕ} (p : Assignment) (s : Status) (run : Exchanged Multi p before now turns_before turns_now s) where
-  text_is : (other : Option (BadLine TraceFault)) → IsOwed Multi p run.pieces other turns_before turns_now → (is : List Input) (bad : Option (BadLine TraceFault)) → AreInputsGot Multi p run.pieces is bad → put_of run.pieces ≡ multi_text p is
-  text_is other owed is bad reads = owed.text_is ∙ ap (multi_text p) (trace_once (gives_once true p.order) (has_end run.pieces) (got_of run.pieces) owed.inputs is other bad owed.read reads).0
+  text_is : (other : Option (BadLine TraceFault)) → IsOwed Multi p run.pieces other turns_before turns_now → (is : List Input) (bad : Option (BadLine TraceFault)) → AreInputsGot p run.pieces is bad → put_of run.pieces ≡ multi_text p is
+  text_is other owed is bad reads = owed.text_is ∙ ap (multi_text p) (trace_once (gives_once p.order) (has_end run.pieces) (got_of run.pieces) owed.inputs is other bad owed.read reads).0
 
-  from : (t : Status) → IsAnswered t → IsWritten Multi p t run.pieces turns_before turns_now → (is : List Input) (bad : Option (BadLine TraceFault)) → AreInputsGot Multi p run.pieces is bad → put_of run.pieces ≡ multi_text p is
+  from : (t : Status) → IsAnswered t → IsWritten Multi p t run.pieces turns_before turns_now → (is : List Input) (bad : Option (BadLine TraceFault)) → AreInputsGot p run.pieces is bad → put_of run.pieces ≡ multi_text p is
   from Done answered written is bad reads = text_is None written.1 is bad reads
   from (Trace number fault) answered written is bad reads = text_is _ written.owed is bad reads
   from ReadFault answered written is bad reads = text_is None written.1 is bad reads
@@ -39,7 +39,7 @@ module _ {before now : Told} {turns_before turns_now : ℕ} (p : Assignment) (s 
   claimed claim answered follows = record {
     pieces = run.pieces;
     passed = run.passed;
-    held = λ is bad reads. follows is (put_of run.pieces) (reads_each (IsInput p.order) (is_input true p.order) (has_end run.pieces) 1 0 (got_of run.pieces) is bad reads) (from s answered run.written is bad reads);
+    held = λ is bad reads. follows is (put_of run.pieces) (reads_each (IsInput p.order) (is_input p.order) (has_end run.pieces) 1 0 (got_of run.pieces) is bad reads) (from s answered run.written is bad reads);
   }
 
   pub projection : IsAssignment p → IsAnswered s → Claims Multi p before now (λ is put. IsProjection (machine p) (levels p) is put)

@@ -31,7 +31,7 @@ use Rattle.ff_trace.specs.Printed.{input_line}
 use Rattle.ff_session.specs.Formatting.{format_entry, no_turns}
 use Rattle.ff_session.specs.Plain.{plain_entry, plain_turns}
 use Rattle.ff_session.specs.Multi.{copies_entry, copies_turns, multi_turns}
-use Rattle.ff_session.specs.Works.{built_only, text_for, turns_for, entry_for, entry_turns, IsOwed, IsOwedMore, IsWritten, Exchanged, status_as}
+use Rattle.ff_session.specs.Works.{text_for, turns_for, entry_for, entry_turns, IsOwed, IsOwedMore, IsWritten, Exchanged, status_as}
 use Rattle.ff_session.specs.declared.work.Work.{Work}
 use Rattle.ff_session.specs.declared.work.Work.TheVariants.{Multi, Plain, Format}
 
@@ -102,25 +102,25 @@ abbrev pub told_of : Option (List Piece) → Option (List ℕ) → ℕ → ℕ �
 told_of log rest reads writes = record { log = log; rest = rest; read_faults = reads; write_faults = writes }
 
 module _ {IsAt : List Input → Type 0} {log_before log_now : Option (List Piece)} {rest_before rest_now : Option (List ℕ)} {turns_before turns_now : ℕ} (work : Work) (p : Assignment) (end : End TraceFault)
-    (streams : Streams (Gives (built_only work) p.order) (entry_for work p) (entry_turns work p) IsAt log_before log_now rest_before rest_now turns_before turns_now end) where
-  is_owed : (bad : Option (BadLine TraceFault)) → Owes (Gives (built_only work) p.order) (entry_for work p) (entry_turns work p) IsAt (got_of streams.pieces) (put_of streams.pieces) (has_end streams.pieces) bad turns_before turns_now
+    (streams : Streams (Gives p.order) (entry_for work p) (entry_turns work p) IsAt log_before log_now rest_before rest_now turns_before turns_now end) where
+  is_owed : (bad : Option (BadLine TraceFault)) → Owes (Gives p.order) (entry_for work p) (entry_turns work p) IsAt (got_of streams.pieces) (put_of streams.pieces) (has_end streams.pieces) bad turns_before turns_now
       → IsOwed work p streams.pieces bad turns_before turns_now
   is_owed bad owes = record { inputs = owes.items; read = owes.read; text_is = owes.text_is ∙ same_text work p owes.items; counted = owes.counted ∙ ap (λ n. turns_before + n) (same_turns work p owes.items) }
 
-  is_owed_more : (IsPart : List ℕ → List ℕ → Type 0) → ((front whole more : List ℕ) → IsPart front whole → IsPart front (whole ++ more)) → OwesMore (Gives (built_only work) p.order) (entry_for work p) (entry_turns work p) (got_of streams.pieces) (put_of streams.pieces) (has_end streams.pieces) IsPart turns_before turns_now
+  is_owed_more : (IsPart : List ℕ → List ℕ → Type 0) → ((front whole more : List ℕ) → IsPart front whole → IsPart front (whole ++ more)) → OwesMore (Gives p.order) (entry_for work p) (entry_turns work p) (got_of streams.pieces) (put_of streams.pieces) (has_end streams.pieces) IsPart turns_before turns_now
       → IsOwedMore work p IsPart streams.pieces turns_before turns_now
   is_owed_more IsPart grows owes is bad reads =
-      let both = laws.part_put (gives_once (built_only work) p.order) end streams IsPart grows (got_of streams.pieces) (put_of streams.pieces) (has_end streams.pieces) owes is bad reads in
+      let both = laws.part_put (gives_once p.order) end streams IsPart grows (got_of streams.pieces) (put_of streams.pieces) (has_end streams.pieces) owes is bad reads in
       (subst (IsPart (put_of streams.pieces)) (same_text work p is) both.0, subst (λ n. turns_now ≤ turns_before + n) (same_turns work p is) both.1)
 
   no_turns_of : (is : List Input) → work ≡ Format → owed.turns_of (entry_turns work p) is ≡ 0
   no_turns_of is format = same_turns work p is ∙ ap (λ w. turns_for w p is) format
 
-  none_owed : (bad : Option (BadLine TraceFault)) → Owes (Gives (built_only work) p.order) (entry_for work p) (entry_turns work p) IsAt (got_of streams.pieces) (put_of streams.pieces) (has_end streams.pieces) bad turns_before turns_now
+  none_owed : (bad : Option (BadLine TraceFault)) → Owes (Gives p.order) (entry_for work p) (entry_turns work p) IsAt (got_of streams.pieces) (put_of streams.pieces) (has_end streams.pieces) bad turns_before turns_now
       → work ≡ Format → turns_now ≤ turns_before
   none_owed bad owes format = let counted = owes.counted in let none = no_turns_of owes.items format in omega arith
 
-  written : (e : End TraceFault) → IsStreamed (Gives (built_only work) p.order) (entry_for work p) (entry_turns work p) IsAt e (got_of streams.pieces) (put_of streams.pieces) (has_end streams.pieces) turns_before turns_now
+  written : (e : End TraceFault) → IsStreamed (Gives p.order) (entry_for work p) (entry_turns work p) IsAt e (got_of streams.pieces) (put_of streams.pieces) (has_end streams.pieces) turns_before turns_now
       → IsWritten work p (status_as e) streams.pieces turns_before turns_now
   written Done held = (held.0, is_owed None held.1)
   written (Bad line) held = record { which = line.fault; fault_is = refl; owed = is_owed (Some line) held }
@@ -129,7 +129,7 @@ module _ {IsAt : List Input → Type 0} {log_before log_now : Option (List Piece
   written NoMemory held = is_owed_more IsFront longer_front held
 
   -- formatting makes no turn
-  none_made : (e : End TraceFault) → IsStreamed (Gives (built_only work) p.order) (entry_for work p) (entry_turns work p) IsAt e (got_of streams.pieces) (put_of streams.pieces) (has_end streams.pieces) turns_before turns_now
+  none_made : (e : End TraceFault) → IsStreamed (Gives p.order) (entry_for work p) (entry_turns work p) IsAt e (got_of streams.pieces) (put_of streams.pieces) (has_end streams.pieces) turns_before turns_now
       → work ≡ Format → turns_now ≤ turns_before
   none_made Done held format = none_owed None held.1 format
   none_made (Bad line) held format = none_owed (Some line) held format
@@ -149,7 +149,7 @@ module _ {IsAt : List Input → Type 0} {log_before log_now : Option (List Piece
     unturned = λ format. let none = none_made end streams.held format in omega arith;
     read_fault = λ is. read_fault (is_read_fault end is);
     write_fault = λ is. write_fault (is_write_fault end is);
-    bad_line = λ fine items line reads. answers end (Bad line) (laws.bad_line (gives_once (built_only work) p.order) end streams (λ e. fine.read (ap status_as e)) (λ e. fine.write (ap status_as e)) items line reads);
-    good_rest = λ fine rest items rest_is good. answers end Done (laws.good_rest (gives_once (built_only work) p.order) end streams (λ e. fine.read (ap status_as e)) (λ e. fine.write (ap status_as e)) rest items rest_is good);
-    all_got = λ done rest rest_is. laws.all_got (gives_once (built_only work) p.order) end streams (is_done end done) rest rest_is;
+    bad_line = λ fine items line reads. answers end (Bad line) (laws.bad_line (gives_once p.order) end streams (λ e. fine.read (ap status_as e)) (λ e. fine.write (ap status_as e)) items line reads);
+    good_rest = λ fine rest items rest_is good. answers end Done (laws.good_rest (gives_once p.order) end streams (λ e. fine.read (ap status_as e)) (λ e. fine.write (ap status_as e)) rest items rest_is good);
+    all_got = λ done rest rest_is. laws.all_got (gives_once p.order) end streams (is_done end done) rest rest_is;
   }

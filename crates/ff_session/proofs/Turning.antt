@@ -6,8 +6,11 @@ use Rattle.ff_reactive.proofs.Runs.{after_more, after_start}
 use Rattle.ff_reactive.proofs.Turns.{settle_turn, settle_enough, settling_start, settling_turn, settling_room, handling_done, turns_left_falls}
 use Rattle.ff_value.specs.declared.input.Input.{Input}
 use Rattle.ff_value.specs.declared.output.Out.{Out}
-use Rattle.ff_core.specs.State.{State, IsState, empty}
-use Rattle.ff_core.specs.Machine.{begin, turn, reactor, browser}
+use Rattle.ff_machine.specs.State.{State, empty}
+use Rattle.ff_machine.specs.Valid.{IsState}
+use Rattle.ff_machine.specs.Machine.{reactor, browser}
+use Rattle.ff_machine.specs.Inputs.{begin}
+use Rattle.ff_machine.specs.Turns.{turn}
 use Rattle.ff_core.proofs.Keeping.{keeps, fuelled}
 use Rattle.ff_policy.specs.Assignment.{Assignment}
 use Rattle.ff_levels.specs.Levels.{machine}

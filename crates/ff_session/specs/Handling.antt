@@ -3,8 +3,8 @@ use Rattle.std.specs.Prelude.{◌≡◌, ℕ, true}
 use Rattle.ff_reactive.specs.Runs.{Handled}
 use Rattle.ff_value.specs.declared.input.Input.{Input}
 use Rattle.ff_value.specs.declared.output.Out.{Out}
-use Rattle.ff_core.specs.State.{State}
-use Rattle.ff_core.specs.Machine.{browser}
+use Rattle.ff_machine.specs.State.{State}
+use Rattle.ff_machine.specs.Machine.{browser}
 
 -- A browser to which an input brings so much fuel takes one.
 pub record IsReady (budget : ℕ) (s : State) : Type 0 where

@@ -6,7 +6,7 @@ use Rattle.ff_reactive.specs.Text.{text_of, text_out}
 use Rattle.ff_reactive.specs.Sharing.{work, work_entry}
 use Rattle.ff_reactive.specs.Worlds.{IsRested, IsTaking}
 use Rattle.ff_value.specs.declared.input.Input.{Input}
-use Rattle.ff_core.specs.Machine.{reactor}
+use Rattle.ff_machine.specs.Machine.{reactor}
 use Rattle.ff_pool.specs.Heads.{same_input, IsWorldOf}
 use Rattle.ff_pool.specs.Pooled.{Pooled}
 use Rattle.ff_policy.specs.Assignment.{Assignment}

@@ -3,7 +3,7 @@ use Rattle.std.specs.Prelude.{◌≡◌, ℕ, List}
 use Rattle.ff_reactive.specs.Runs.{after, plain}
 use Rattle.ff_reactive.specs.Text.{text_of, text_out}
 use Rattle.ff_value.specs.declared.input.Input.{Input}
-use Rattle.ff_core.specs.State.{State}
+use Rattle.ff_machine.specs.State.{State}
 use Rattle.ff_policy.specs.Assignment.{Assignment}
 use Rattle.ff_levels.specs.Levels.{levels, machine}
 use Rattle.ff_session.specs.Handling.{IsReady}

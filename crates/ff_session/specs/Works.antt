@@ -26,12 +26,6 @@ use Rattle.ff_session.specs.Multi.{copies_entry, copies_turns, multi_text, multi
 use Rattle.ff_session.specs.declared.work.Work.{Work}
 use Rattle.ff_session.specs.declared.work.Work.TheVariants.{Multi, Plain, Format}
 
--- whether only those inputs are taken whose kinds are built
-abbrev pub built_only : Work → Bool
-built_only Multi = true
-built_only Plain = true
-built_only Format = false
-
 -- the text for inputs
 abbrev pub text_for : Work → Assignment → List Input → List ℕ
 text_for Multi p is = multi_text p is
@@ -57,12 +51,12 @@ entry_turns Format p = no_turns
 
 -- these bytes of a trace, of which `ended` says whether they are all, give these inputs up to the
 -- first bad line
-abbrev pub IsTraceFor : Work → Assignment → Bool → List ℕ → List Input → Option (BadLine TraceFault) → Type 0
-IsTraceFor work p ended bytes is bad = IsTrace (Gives (built_only work) p.order) ended bytes is bad
+abbrev pub IsTraceFor : Assignment → Bool → List ℕ → List Input → Option (BadLine TraceFault) → Type 0
+IsTraceFor p ended bytes is bad = IsTrace (Gives p.order) ended bytes is bad
 
 -- the bytes got give these inputs up to the first bad line
-abbrev pub AreInputsGot : Work → Assignment → List Piece → List Input → Option (BadLine TraceFault) → Type 0
-AreInputsGot work p pieces is bad = IsTraceFor work p (has_end pieces) (got_of pieces) is bad
+abbrev pub AreInputsGot : Assignment → List Piece → List Input → Option (BadLine TraceFault) → Type 0
+AreInputsGot p pieces is bad = IsTraceFor p (has_end pieces) (got_of pieces) is bad
 
 -- the fault of a line, as the status has it
 abbrev pub fault_as : Fault TraceFault → TraceFault
@@ -82,13 +76,13 @@ status_as end.NoMemory = NoMemory
 -- exactly its turns were made.
 pub record IsOwed (work : Work) (p : Assignment) (pieces : List Piece) (bad : Option (BadLine TraceFault)) (turns_before turns_now : ℕ) : Type 0 where
   pub inputs : List Input
-  pub read : AreInputsGot work p pieces inputs bad
+  pub read : AreInputsGot p pieces inputs bad
   pub text_is : put_of pieces ≡ text_for work p inputs
   pub counted : turns_now ≡ turns_before + turns_for work p inputs
 
 -- A part of it was put, and at most its turns were made: whatever the bytes got give.
 abbrev pub IsOwedMore : Work → Assignment → (List ℕ → List ℕ → Type 0) → List Piece → ℕ → ℕ → Type 0
-IsOwedMore work p IsPart pieces turns_before turns_now = (is : List Input) (bad : Option (BadLine TraceFault)) → AreInputsGot work p pieces is bad
+IsOwedMore work p IsPart pieces turns_before turns_now = (is : List Input) (bad : Option (BadLine TraceFault)) → AreInputsGot p pieces is bad
     → IsPart (put_of pieces) (text_for work p is) × (turns_now ≤ turns_before + turns_for work p is)
 
 -- The line of this number is the first bad one, with this fault.
@@ -122,7 +116,7 @@ pub record Exchanged (work : Work) (p : Assignment) (before now : Told) (turns_b
   pub passed : Passes before now pieces
   -- before each read, the end wasn't seen, the bytes got have no bad line, and the text owed for
   -- them was put
-  pub prompt : Prompt (Gives (built_only work) p.order) (entry_for work p) pieces
+  pub prompt : Prompt (Gives p.order) (entry_for work p) pieces
   pub written : IsWritten work p status pieces turns_before turns_now
   -- the count of turns never falls, and formatting makes none
   pub later : turns_before ≤ turns_now
@@ -131,10 +125,10 @@ pub record Exchanged (work : Work) (p : Assignment) (before now : Told) (turns_b
   pub read_fault : status ≡ ReadFault → Rose before.read_faults now.read_faults
   pub write_fault : status ≡ WriteFault → Rose before.write_faults now.write_faults
   -- a bad line of the bytes got is what it ends with
-  pub bad_line : IsWithoutFault status → (is : List Input) (line : BadLine TraceFault) → AreInputsGot work p pieces is (Some line)
+  pub bad_line : IsWithoutFault status → (is : List Input) (line : BadLine TraceFault) → AreInputsGot p pieces is (Some line)
       → (status ≡ Trace line.number (fault_as line.fault)) ⊎ (status ≡ NoMemory)
   -- it is done where the rest that the port told has no bad line, and then all of that was got
-  pub good_rest : IsWithoutFault status → (rest : List ℕ) (is : List Input) → before.rest ≡ Some rest → IsTraceFor work p true rest is None
+  pub good_rest : IsWithoutFault status → (rest : List ℕ) (is : List Input) → before.rest ≡ Some rest → IsTraceFor p true rest is None
       → (status ≡ Done) ⊎ (status ≡ NoMemory)
   pub all_got : status ≡ Done → (rest : List ℕ) → before.rest ≡ Some rest → got_of pieces ≡ rest
 
@@ -149,4 +143,4 @@ IsAnswered other = ⊥
 pub record Claims (work : Work) (p : Assignment) (before now : Told) (claim : List Input → List ℕ → Type 0) : Type 0 where
   pub pieces : List Piece
   pub passed : Passes before now pieces
-  pub held : (is : List Input) (bad : Option (BadLine TraceFault)) → AreInputsGot work p pieces is bad → claim is (put_of pieces)
+  pub held : (is : List Input) (bad : Option (BadLine TraceFault)) → AreInputsGot p pieces is bad → claim is (put_of pieces)

@@ -24,14 +24,14 @@ pub struct Formatting<'a> {
 
 impl Taker for Formatting<'_> {
     ghost use Rattle.std.specs.Prelude.{⊤, false};
-    ghost use Rattle.ff_session.specs.Giving.{IsTaken};
+    ghost use Rattle.ff_trace.specs.Lines.{IsInputOf};
     ghost use Rattle.ff_session.specs.Formatting.{format_entry, no_turns};
 
     type Item = Input;
 
     type State = ();
 
-    ghost accepts = { λ taker input. IsTaken false taker.lattice.now input };
+    ghost accepts = { λ taker input. IsInputOf taker.lattice.now input };
 
     ghost entry = { λ taker. format_entry taker.lattice.now };
 
@@ -54,7 +54,7 @@ impl Taker for Formatting<'_> {
 }
 
 /// Writes each input of the trace that the port gives in its canonical form.
-#[tactic(auto, using(crate::proofs::Giving::is_taken))]
+#[tactic(auto, using(crate::proofs::Giving::is_given))]
 pub(crate) fn walk_format<P: Port, C: Ledger, L: Ledger>(
     alloc: Global,
     lattice: &Lattice,
@@ -62,17 +62,14 @@ pub(crate) fn walk_format<P: Port, C: Ledger, L: Ledger>(
     copies: &mut Steps<C>,
     turns: &mut Steps<L>,
 ) -> End<TraceFault>
-    ensures streams { Streams (Gives false lattice.now) (format_entry lattice.now) no_turns (λ is. ⊤)
+    ensures streams { Streams (Gives lattice.now) (format_entry lattice.now) no_turns (λ is. ⊤)
         (P.log port.old) (P.log port.new) (P.rest port.old) (P.rest port.new) turns.old turns.new result }
     ensures later { turns.old ≤ turns.new }
     ensures later_copies { copies.old ≤ copies.new }
     ensures read_fault { result ≡ End.ReadFault → Rose (P.read_faults port.old) (P.read_faults port.new) }
     ensures write_fault { result ≡ End.WriteFault → Rose (P.write_faults port.old) (P.write_faults port.new) }
 {
-    let reader = InputReader {
-        lattice,
-        built_only: false,
-    };
+    let reader = InputReader { lattice };
     stream(
         alloc,
         &reader,

@@ -121,7 +121,7 @@ pub(crate) fn walk_multi<P: Port, C: Ledger, L: Ledger>(
     turns: &mut Steps<L>,
 ) -> End<TraceFault>
     requires { 0 < slice }
-    ensures streams { Streams (Gives true policy.now.order) (copies_entry policy.now) (copies_turns policy.now) (λ is. ⊤)
+    ensures streams { Streams (Gives policy.now.order) (copies_entry policy.now) (copies_turns policy.now) (λ is. ⊤)
         (P.log port.old) (P.log port.new) (P.rest port.old) (P.rest port.new) turns.old turns.new result }
     ensures later { turns.old ≤ turns.new }
     ensures later_copies { copies.old ≤ copies.new }
@@ -129,10 +129,7 @@ pub(crate) fn walk_multi<P: Port, C: Ledger, L: Ledger>(
     ensures write_fault { result ≡ End.WriteFault → Rose (P.write_faults port.old) (P.write_faults port.new) }
 {
     let lattice = policy.lattice();
-    let reader = InputReader {
-        lattice,
-        built_only: true,
-    };
+    let reader = InputReader { lattice };
     match new_pool(alloc, policy) {
         Ok(mut pool) => stream(
             alloc,

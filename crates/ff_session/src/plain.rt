@@ -28,14 +28,14 @@ pub struct Plain<'a> {
 
 impl Taker for Plain<'_> {
     ghost use Rattle.std.specs.Prelude.{true};
-    ghost use Rattle.ff_session.specs.Giving.{IsTaken};
+    ghost use Rattle.ff_trace.specs.Lines.{IsInputOf};
     ghost use Rattle.ff_session.specs.Plain.{plain_entry, plain_turns, IsPlainAt};
 
     type Item = Input;
 
     type State = Browser;
 
-    ghost accepts = { λ taker input. IsTaken true taker.policy.now.order input };
+    ghost accepts = { λ taker input. IsInputOf taker.policy.now.order input };
 
     ghost entry = { λ taker. plain_entry taker.policy.now };
 
@@ -58,7 +58,7 @@ impl Taker for Plain<'_> {
 }
 
 /// Runs one browser over the trace that the port gives.
-#[tactic(auto, using(crate::proofs::Giving::is_taken, crate::proofs::Turning::fresh_plain))]
+#[tactic(auto, using(crate::proofs::Giving::is_given, crate::proofs::Turning::fresh_plain))]
 pub(crate) fn walk_plain<P: Port, C: Ledger, L: Ledger>(
     alloc: Global,
     policy: &Policy,
@@ -66,7 +66,7 @@ pub(crate) fn walk_plain<P: Port, C: Ledger, L: Ledger>(
     copies: &mut Steps<C>,
     turns: &mut Steps<L>,
 ) -> End<TraceFault>
-    ensures streams { Streams (Gives true policy.now.order) (plain_entry policy.now) (plain_turns policy.now) (λ is. ⊤)
+    ensures streams { Streams (Gives policy.now.order) (plain_entry policy.now) (plain_turns policy.now) (λ is. ⊤)
         (P.log port.old) (P.log port.new) (P.rest port.old) (P.rest port.new) turns.old turns.new result }
     ensures later { turns.old ≤ turns.new }
     ensures later_copies { copies.old ≤ copies.new }
@@ -74,10 +74,7 @@ pub(crate) fn walk_plain<P: Port, C: Ledger, L: Ledger>(
     ensures write_fault { result ≡ End.WriteFault → Rose (P.write_faults port.old) (P.write_faults port.new) }
 {
     let lattice = policy.lattice();
-    let reader = InputReader {
-        lattice,
-        built_only: true,
-    };
+    let reader = InputReader { lattice };
     let mut browser = Browser::new(alloc, policy.fuel());
     stream(
         alloc,

@@ -95,7 +95,6 @@ abbrev pub trace_words : TraceFault → List ℕ
 trace_words (trace.Line fault) = line_words fault
 trace_words trace.TooLong = codes "line too long"
 trace_words trace.TooMuch = codes "trace too long"
-trace_words trace.Unbuilt = codes "not built yet"
 
 abbrev pub policy_line : PolicyFault → List ℕ
 policy_line fault = codes "ffox: policy: " ++ (policy_words fault ++ codes "\n")

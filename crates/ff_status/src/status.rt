@@ -16,8 +16,6 @@ pub enum TraceFault {
     TooLong,
     /// The line goes past the most bytes that a trace may have.
     TooMuch,
-    /// The line is an input of a kind that isn't built yet.
-    Unbuilt,
 }
 
 /// How a run ended.

@@ -109,7 +109,6 @@ fn put_trace<E: Sink>(fault: TraceFault, err: &mut E) -> Result<(), Failed>
         TraceFault::Line(fault) => put_line_fault(fault, err),
         TraceFault::TooLong => put(b"line too long", err),
         TraceFault::TooMuch => put(b"trace too long", err),
-        TraceFault::Unbuilt => put(b"not built yet", err),
     }
 }
 

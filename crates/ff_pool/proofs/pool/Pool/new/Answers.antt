@@ -1,8 +1,10 @@
-use Rattle.std.proofs.Common.{◌≡◌, ◌∙◌, ap, false, arith}
-use Rattle.ff_core.specs.Machine.{reactor}
+use Rattle.std.proofs.Common.{◌≡◌, ◌∙◌, ◌++◌, ◌∷◌, [], ap, false, arith}
+use Rattle.ff_machine.specs.Machine.{reactor}
 use Rattle.ff_reactive.specs.Worlds.{new_world}
+use Rattle.ff_pool.specs.Heads.{new_head}
 use Rattle.ff_pool.specs.Pooled.{Pooled}
 use Rattle.ff_pool.proofs.Gathering.{gathered-new, kept-new}
+use Rattle.ff_pool.proofs.Making.{made_more}
 use Rattle.ff_pool.proofs.pool.Pool.new.Goals as goal
 
 pub invariant_of-result : goal.invariant_of-result
@@ -17,3 +19,12 @@ returns c =
     ap (λ w. record { fuel = c.args.fuel; spent = false; world = w })
     (gathered-new c.args.fuel at._level at.heads.items at.puts.items at.leaders.items at.invariant.heads at.invariant.puts at.invariant.leaders
     ∙ ap (new_world (reactor c.args.fuel)) all)
+
+pub loop-level-preserved : goal.loop-level-preserved
+loop-level-preserved c =
+    let at = c.loop-level in
+    record {
+      heads = c.in_ok-push.ensures.items ∙ ap (λ head. at.heads.items ++ head ∷ []) c.new.ensures ∙ made_more (new_head c.args.fuel) at.heads.items at._level at.invariant.heads;
+      puts = c.in_ok-push-2.ensures.items ∙ ap (λ outs. at.puts.items ++ outs ∷ []) c.new-in-loop-level.ensures ∙ made_more [] at.puts.items at._level at.invariant.puts;
+      leaders = c.in_ok-push-3.ensures.items ∙ made_more 0 at.leaders.items at._level at.invariant.leaders;
+    }
