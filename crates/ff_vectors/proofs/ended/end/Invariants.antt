@@ -1,4 +1,4 @@
-use Rattle.ff_run_table.proofs.ends.Given as goal
+use Rattle.ff_vectors.proofs.ended.end.Given as goal
 
 abbrev pub ghosts-obey-C-Ledger : goal.ghosts-obey-C-Ledger
 ghosts-obey-C-Ledger a = record { name = a.copies.name; parts = a.copies.parts }

@@ -1,0 +1,67 @@
+//! Obeys the cases of the input, over a port, a shelf and a sink in memory, and prints how each ends:
+//! the status, what was put and what was reported. The input has one line for each thing that is said
+//! of a case, so anyone can add one.
+//!
+//! | Line | What it says |
+//! |---|---|
+//! | `# TEXT` | a heading, which begins a new case |
+//! | `words W W ..` | the words, with one blank between two; `EMPTY` is the empty word |
+//! | `file BYTES` | what the file `p.json` holds; there is no other |
+//! | `in LINE` | the next line of the trace |
+//! | `times N LINE` | that line of the trace, N times |
+//! | `end LINE` | the last line of the trace, without a newline |
+//! | `grain N` | the trace comes in pieces of N bytes, and a write takes at most N; 65,536 where it isn't said |
+//! | `read N`, `write N` | the N-th read, or write, from 1, fails |
+//! | `run` | how the case ends |
+//! | `last N` | the same, with the number of lines put and the last N of them |
+//! | `twice` | as by `run`, and whether it ends so once more |
+//! | `each read`, `each write` | how it ends where each of its reads, or writes, fails in turn |
+//! | `each cut` | how it ends where the trace is cut after each of its bytes |
+//!
+//! Blank lines are passed over.
+#![tactic(auto)]
+
+mod case;
+mod ended;
+mod sweeps;
+
+use anyhow::{Context, Result};
+use case::Case;
+
+fn main(rt: HostRuntime) -> Result<()> {
+    let mut case = Case::new(rt.alloc());
+    for line in rt.lines(rt.alloc()) {
+        let line = line?;
+        if !line.as_str().is_empty() {
+            take(&rt, &mut case, line.as_str())?;
+        }
+    }
+    Ok(())
+}
+
+/// Takes a line of the input.
+fn take(rt: &HostRuntime, case: &mut Case, line: &str) -> Result<()> {
+    match line {
+        "run" => sweeps::show(rt, case),
+        "twice" => sweeps::show_twice(rt, case),
+        "each read" => sweeps::show_each(rt, case, sweeps::Part::Read),
+        "each write" => sweeps::show_each(rt, case, sweeps::Part::Write),
+        "each cut" => sweeps::show_each_cut(rt, case),
+        _ => {
+            let (sort, text) = line.split_once(' ').context("a sort and a text")?;
+            say(rt, case, sort, text)
+        }
+    }
+}
+
+/// Takes a line that has a sort and a text.
+fn say(rt: &HostRuntime, case: &mut Case, sort: &str, text: &str) -> Result<()> {
+    match sort {
+        "last" => sweeps::show_last(rt, case, usize::from(text.parse::<u16>()?)),
+        "#" => {
+            println!(rt; "\n## {text}")?;
+            case.say(rt.alloc(), sort, text)
+        }
+        _ => case.say(rt.alloc(), sort, text),
+    }
+}
