@@ -1,7 +1,10 @@
 //! Prints the story of a pool of two levels, of which the lower one is level 0: an arrival of equal
 //! offers, one step, an arrival for the higher level alone, and steps of both until all is quiet;
-//! and that of a pool that is drained, forked and taken.
+//! and that of a pool that is drained, forked and taken. Then, for each trace of its input, which a
+//! heading begins, how many turns each of its inputs takes.
 #![tactic(auto)]
+
+mod counting;
 
 ghost use Rattle.std.specs.Prelude.{◌≡◌, ◌<◌, false, IfOk};
 ghost use Rattle.std.specs.Bool.{OnTrue};
@@ -216,7 +219,42 @@ fn show_classes(rt: &HostRuntime, classes: &Classes) -> io::Result<()> {
     }
 }
 
+/// Prints a heading, and how many turns the inputs of the lines take.
+fn show_turns(rt: &HostRuntime, heading: &str, lines: &[String]) -> io::Result<()> {
+    if lines.is_empty() {
+        return Ok(());
+    }
+    let counts = counting::count::<Brand, Brand>(rt.alloc(), lines, Blank::new(1), Blank::new(1));
+    let Ok(counts) = counts else {
+        return println!(rt; "no memory");
+    };
+    let mut all = 0_u32;
+    for count in counts.iter() {
+        all = all.saturating_add(*count);
+    }
+    println!(rt; "{heading}: turns {:?}, in all {all}", counts.as_slice())
+}
+
+/// Prints how many turns the traces of the input take.
+fn show_traces(rt: &HostRuntime) -> io::Result<()> {
+    let mut heading = String::new(rt.alloc());
+    let mut lines = Vec::new(rt.alloc());
+    for line in rt.lines(rt.alloc()) {
+        let line = line?;
+        match line.as_str().split_once(' ') {
+            Some(("##", title)) => {
+                show_turns(rt, heading.as_str(), lines.as_slice())?;
+                heading = String::from_str(rt.alloc(), title)?;
+                lines = Vec::new(rt.alloc());
+            }
+            _ => lines.push(line)?,
+        }
+    }
+    show_turns(rt, heading.as_str(), lines.as_slice())
+}
+
 fn main(rt: HostRuntime) -> io::Result<()> {
     show_parting(&rt)?;
-    show_takes(&rt)
+    show_takes(&rt)?;
+    show_traces(&rt)
 }

@@ -1,0 +1,144 @@
+//! How many turns the inputs of a trace take under the built-in policy, counted call by call: each
+//! class with work makes steps until it has none, and the step in which a class takes an input is no
+//! turn.
+ghost use Rattle.std.specs.Prelude.{◌≡◌, ◌<◌, false, IfOk, IfSome};
+ghost use Rattle.ff_lattice.specs.Order.{size as count_levels};
+ghost use Rattle.ff_reactive.specs.Worlds.{OfferOk, AreOffers};
+ghost use Rattle.ff_value.specs.Spelled.{IsWellSpelledInput};
+ghost use Rattle.ff_levels.specs.Levels.{IsInput};
+
+use crate::is_of_two;
+use ff_name::Level;
+use ff_policy::Policy;
+use ff_pool::{NoMemory, Pool};
+use ff_route::sees;
+use ff_steps::Steps;
+use ff_trace::read_input;
+use ff_value::{Input, Offers};
+use std::alloc::{AllocError, Global};
+use std::sync::ledger::{Blank, Ledger};
+
+/// More steps than any trace of the input takes at one input.
+const MOST_STEPS: u32 = 20_000;
+
+/// What a level is offered of an input.
+#[tactic(auto, using(crate::proofs::Offered::seen_ok))]
+fn offer(alloc: Global, policy: &Policy, l: u8, input: &Input) -> Result<Option<Input>, NoMemory>
+    requires level { l < count_levels policy.now.order }
+    requires input { IsInput policy.now.order input.now }
+    ensures { IfOk result (OfferOk IsWellSpelledInput) }
+{
+    sees(alloc, policy, Level(l), input)
+}
+
+/// What the two levels are offered of an input.
+fn offers(alloc: Global, policy: &Policy, input: &Input) -> Result<Offers, NoMemory>
+    requires input { IsInput policy.now.order input.now }
+    ensures { IfOk result (λ offers. AreOffers IsWellSpelledInput 2 offers) }
+{
+    if policy.lattice().size() != 2 {
+        return Err(AllocError);
+    }
+    let low = offer(alloc, policy, 0, input)?;
+    let high = offer(alloc, policy, 1, input)?;
+    let mut offers = Offers::new(alloc);
+    offers.push(low)?;
+    offers.push(high)?;
+    Ok(offers)
+}
+
+/// The input of a line, if it holds one.
+#[tactic(auto, using(ff_levels::proofs::Inputs::input_is))]
+fn input_of(alloc: Global, policy: &Policy, line: &str) -> Result<Option<Input>, NoMemory>
+    ensures { IfOk result (λ input. IfSome input (IsInput policy.now.order)) }
+{
+    if line.len() > 65_536 {
+        return Err(AllocError);
+    }
+    match read_input(alloc, line.as_bytes(), policy.lattice()) {
+        Ok(input) => Ok(input),
+        Err(_) => Err(AllocError),
+    }
+}
+
+/// Whether a level leads its class and has work.
+fn is_due(pool: &Pool, l: u8) -> bool
+    requires { l < 2 }
+{
+    if !is_of_two(pool) {
+        return false;
+    }
+    let leads = l == 0 || pool.members(Level(0)).len() == 1;
+    leads && pool.has_work(Level(l))
+}
+
+/// The steps of a level's class until it has no work.
+fn steps<C: Ledger, L: Ledger>(
+    pool: &mut Pool,
+    l: u8,
+    copies: &mut Steps<C>,
+    turns: &mut Steps<L>,
+) -> Result<u32, NoMemory>
+    requires { l < 2 }
+{
+    for made in 0..MOST_STEPS {
+        if !is_due(pool, l) || !is_of_two(pool) {
+            return Ok(made);
+        }
+        pool.turn(Level(l), copies, turns)?;
+    }
+    Ok(MOST_STEPS)
+}
+
+/// The turns that an input takes.
+fn turns_of<C: Ledger, L: Ledger>(
+    alloc: Global,
+    policy: &Policy,
+    input: &Input,
+    pool: &mut Pool,
+    copies: &mut Steps<C>,
+    turns: &mut Steps<L>,
+) -> Result<u32, NoMemory>
+    requires { IsInput policy.now.order input.now }
+{
+    if !is_of_two(pool) {
+        return Err(AllocError);
+    }
+    let offers = offers(alloc, policy, input)?;
+    pool.arrive(&offers, copies)?;
+    let mut count = 0;
+    for l in 0..2 {
+        let takes = is_due(pool, l);
+        let made = steps(pool, l, copies, turns)?;
+        count = made.saturating_sub(u32::from(takes)).saturating_add(count);
+    }
+    Ok(count)
+}
+
+/// The turns that the inputs of these lines take, each by itself.
+pub fn count<C: Ledger, L: Ledger>(
+    alloc: Global,
+    lines: &[String],
+    copies: Blank,
+    turns: Blank,
+) -> Result<Vec<u32>, NoMemory>
+    requires copies_name { copies.name ≡ C.name }
+    requires copies_parts { copies.parts ≡ C.parts }
+    requires copies_some { 0 < copies.parts }
+    requires turns_name { turns.name ≡ L.name }
+    requires turns_parts { turns.parts ≡ L.parts }
+    requires turns_some { 0 < turns.parts }
+{
+    let mut copies = Steps::<C>::new(copies);
+    let mut turns = Steps::<L>::new(turns);
+    let policy = Policy::builtin(alloc)?;
+    let mut pool = Pool::new(alloc, 2, policy.fuel())?;
+    let mut counts = Vec::new(alloc);
+    for line in lines {
+        if let Some(input) = input_of(alloc, &policy, line.as_str())? {
+            let made = turns_of(alloc, &policy, &input, &mut pool, &mut copies, &mut turns)?;
+            counts.push(made)?;
+        }
+    }
+    Ok(counts)
+}
