@@ -14,13 +14,20 @@ const MOST_PRINTED: u32 = 200;
 /// Prints the expression of a line, its reductions and its value, and those of the fork.
 pub fn show<R: Print>(rt: &R, alloc: Global, line: &str) -> Result<()> {
     println!(rt; "{line}")?;
-    let body = read_body(alloc, line)?;
-    let mut script = Script::start(alloc, &body)?;
+    let mut script = started(alloc, line)?;
     reduce(rt, alloc, &mut script, FORKED_AFTER)?;
     let mut fork = script.fork(alloc)?;
     finish(rt, alloc, &mut script)?;
     println!(rt; "the fork:")?;
     finish(rt, alloc, &mut fork)
+}
+
+/// Begins to run the expression of a line, or to call the function whose body stands on it.
+fn started(alloc: Global, line: &str) -> Result<Script> {
+    match line.strip_prefix("! ") {
+        Some(body) => Ok(Script::start_call(alloc, &read_body(alloc, body)?)?),
+        None => Ok(Script::start(alloc, &read_body(alloc, line)?)?),
+    }
 }
 
 /// Prints at most so many reductions.

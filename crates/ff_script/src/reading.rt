@@ -1,4 +1,6 @@
 //! The expression of a line.
+ghost use Rattle.std.specs.Prelude.{IfOk};
+ghost use Rattle.ff_tree.specs.Spelled.{IsWellSpelledExpr};
 
 use anyhow::{Result, bail};
 use ff_reading::read_expr;
@@ -8,7 +10,9 @@ use std::alloc::Global;
 
 /// The expression that a line of the notation spells. It says what is wrong with a line that spells
 /// none, or that is longer than the notation's readers take.
-pub fn read_body(alloc: Global, line: &str) -> Result<Body> {
+pub fn read_body(alloc: Global, line: &str) -> Result<Body>
+    ensures { IfOk result (λ body. IsWellSpelledExpr body) }
+{
     let bytes = line.as_bytes();
     if bytes.len() > MOST_BYTES {
         bail!("a line is too long");

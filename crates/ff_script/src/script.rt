@@ -26,6 +26,16 @@ impl Script {
         Ok(Script { control, store })
     }
 
+    /// Begins to call a function without parameters, whose body is an expression, with the number 6.
+    pub fn start_call(alloc: Global, body: &Body) -> Result<Script, NoMemory> {
+        let params = Names::from_vec(alloc, Vec::new(alloc))?;
+        let code = code(&params, body, ActId(0))?;
+        let mut control = Control::new(alloc);
+        control.start_call(alloc, &code, &Val::Num(6), ActId(0))?;
+        let store = Store::new(alloc)?;
+        Ok(Script { control, store })
+    }
+
     /// A script that goes on in the same way.
     pub fn fork(&self, alloc: Global) -> Result<Script, NoMemory> {
         let control = self.control.fork(alloc)?;
