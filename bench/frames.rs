@@ -1,4 +1,5 @@
-// The term machine in plain Rust: the nanoseconds of a reduction, of two programs.
+// The term machine in plain Rust: the nanoseconds of a reduction, of two programs. The machine over
+// stores has its control and its expressions.
 use std::mem;
 use std::rc::Rc;
 use std::time::Instant;
@@ -7,26 +8,40 @@ const TURNS: i64 = 100_000;
 const CALLS: i64 = 900;
 const DESCENTS: u32 = 100;
 
-type Body = Rc<Expr>;
-type Exprs = Rc<[Body]>;
+pub type Body = Rc<Expr>;
+pub type Exprs = Rc<[Body]>;
 
 #[derive(Clone, Copy)]
-enum Op {
+pub enum Op {
     Add,
+    Sub,
+    Mul,
+    Div,
+    Rem,
     Less,
+    Equal,
+    Window,
+    Page,
+    Find,
+    Text,
+    SetText,
 }
 
 #[derive(Clone)]
-enum Val {
+pub enum Val {
     Null,
     Bool(bool),
     Num(i64),
+    Str(Rc<str>),
+    Win(u32),
+    Node(u32),
     Code(Body),
 }
 
-enum Expr {
+pub enum Expr {
     Lit(Val),
     Var(Rc<str>),
+    Let(Rc<str>, Body),
     Set(Rc<str>, Body),
     If(Body, Body, Body),
     While(Body, Body),
@@ -35,10 +50,11 @@ enum Expr {
     Prim(Op, Exprs),
 }
 
-enum Redex {
+pub enum Redex {
     Local,
     Test(Val),
     Var(Rc<str>),
+    Let(Rc<str>, Val),
     Set(Rc<str>, Val),
     Apply(Val, Vec<Val>),
     Prim(Op, Vec<Val>),
@@ -55,10 +71,10 @@ enum Focus {
     Part(Body),
 }
 
-struct Control {
+pub struct Control {
     frames: Vec<Frame>,
     focus: Focus,
-    act: u32,
+    pub act: u32,
     depth: u32,
 }
 
@@ -71,7 +87,9 @@ fn focus_on(expr: Body) -> Focus {
 
 fn operand(expr: &Expr, at: usize) -> Option<Body> {
     match expr {
-        Expr::Set(_, part) | Expr::If(part, _, _) => (at == 0).then(|| part.clone()),
+        Expr::Let(_, part) | Expr::Set(_, part) | Expr::If(part, _, _) => {
+            (at == 0).then(|| part.clone())
+        }
         Expr::Apply(function, args) => {
             if at == 0 {
                 Some(function.clone())
@@ -85,7 +103,7 @@ fn operand(expr: &Expr, at: usize) -> Option<Body> {
 }
 
 impl Control {
-    fn start(body: &Body) -> Control {
+    pub fn start(body: &Body) -> Control {
         let mut control = Control {
             frames: Vec::new(),
             focus: focus_on(body.clone()),
@@ -96,7 +114,7 @@ impl Control {
         control
     }
 
-    fn is_done(&self) -> bool {
+    pub fn is_done(&self) -> bool {
         self.frames.is_empty() && matches!(self.focus, Focus::Value(_))
     }
 
@@ -131,14 +149,16 @@ impl Control {
         }
     }
 
-    fn next(&self) -> Redex {
+    pub fn next(&self) -> Redex {
         match &self.focus {
             Focus::Part(form) => match &**form {
                 Expr::Var(name) => Redex::Var(name.clone()),
+                Expr::Prim(op, _) => Redex::Prim(*op, Vec::new()),
                 _ => Redex::Local,
             },
             Focus::Value(value) => match self.frames.last() {
                 Some(Frame::Part(form, values)) => match &**form {
+                    Expr::Let(name, _) => Redex::Let(name.clone(), value.clone()),
                     Expr::Set(name, _) => Redex::Set(name.clone(), value.clone()),
                     Expr::If(_, _, _) => Redex::Test(value.clone()),
                     Expr::Apply(_, _) => Redex::Apply(values[0].clone(), with(&values[1..], value)),
@@ -159,13 +179,13 @@ impl Control {
         }
     }
 
-    fn give(&mut self, value: Val) {
+    pub fn give(&mut self, value: Val) {
         self.take_redex();
         self.focus = Focus::Value(value);
         self.seek();
     }
 
-    fn choose(&mut self, yes: bool) {
+    pub fn choose(&mut self, yes: bool) {
         let Some(Frame::Part(form, _)) = self.frames.pop() else {
             unreachable!();
         };
@@ -175,7 +195,7 @@ impl Control {
         self.seek();
     }
 
-    fn enter(&mut self, act: u32, body: &Body) {
+    pub fn enter(&mut self, act: u32, body: &Body) {
         self.take_redex();
         self.frames.push(Frame::Inside(mem::replace(&mut self.act, act)));
         self.depth += 1;
@@ -183,7 +203,7 @@ impl Control {
         self.seek();
     }
 
-    fn local(&mut self) {
+    pub fn local(&mut self) {
         match &self.focus {
             Focus::Part(form) => {
                 let Expr::While(test, body) = &**form else {
@@ -253,6 +273,7 @@ fn reduce(control: &mut Control, store: &mut Store, function: &Body) {
             let number = store.numbers.get(control.act as usize).copied().unwrap_or(0);
             control.give(Val::Num(number));
         }
+        Redex::Let(_, value) => control.give(value),
         Redex::Set(name, value) => {
             if &*name == "i" {
                 store.put(control.act, &value);
@@ -282,16 +303,20 @@ fn run(body: &Body, function: &Body) -> u32 {
     made
 }
 
-fn num(number: i64) -> Body {
+pub fn num(number: i64) -> Body {
     Rc::new(Expr::Lit(Val::Num(number)))
 }
 
-fn var(name: &str) -> Body {
+pub fn var(name: &str) -> Body {
     Rc::new(Expr::Var(Rc::from(name)))
 }
 
-fn prim(op: Op, left: Body, right: Body) -> Body {
-    Rc::new(Expr::Prim(op, Rc::from([left, right])))
+pub fn prim(op: Op, left: Body, right: Body) -> Body {
+    apply(op, vec![left, right])
+}
+
+pub fn apply(op: Op, operands: Vec<Body>) -> Body {
+    Rc::new(Expr::Prim(op, operands.into()))
 }
 
 /// `(while (< i TURNS) (set i (+ i 1)))`

@@ -1,6 +1,9 @@
-// What crates/ff_bench and the bench of crates/ff_frames_table time, in plain Rust: for each word the
-// same names, with the nanoseconds that one takes.
+// What crates/ff_bench times, in plain Rust: for each word the same names, with the nanoseconds that
+// one takes. For the word `loop` it times one of the things of `steps` alone.
 mod frames;
+mod searches;
+mod steps;
+mod variables;
 
 use std::hint::black_box;
 use std::rc::Rc;
@@ -76,6 +79,10 @@ fn main() {
         Some("text") => text(),
         Some("operators") => operators(),
         Some("frames") => frames::measure(),
-        _ => eprintln!("usage: plain list | text | operators | frames"),
+        Some("searches") => searches::measure(),
+        Some("variables") => variables::measure(),
+        Some("steps") => steps::measure(),
+        Some("loop") => steps::measure_loop(),
+        _ => eprintln!("usage: plain list | text | operators | frames | searches | variables | steps | loop"),
     }
 }

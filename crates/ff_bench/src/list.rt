@@ -1,12 +1,10 @@
 //! A shared list: pushes, reads and writes at places that jump about, and forks of a full one.
-ghost use Rattle.std.specs.Prelude.{◌≡◌, ◌<◌};
-
 use crate::spent::print_since;
 use anyhow::Result;
 use ff_cow::{Cell, CowVec, MOST_CELLS, NoMemory};
 use ff_steps::Steps;
 use std::alloc::{AllocError, Global};
-use std::sync::ledger::{Blank, Ledger};
+use std::sync::ledger::Ledger;
 use std::time::{Clock, Instant};
 
 #[derive(Clone, Drop)]
@@ -28,16 +26,15 @@ const OPERATIONS: u32 = 1_000_000;
 const FORKS: u32 = 1_000;
 
 /// Prints what each operation takes.
-pub fn measure<C: Ledger, R: Clock + Print>(rt: &R, alloc: Global, blank: Blank) -> Result<()>
-    requires name { blank.name ≡ C.name }
-    requires parts { blank.parts ≡ C.parts }
-    requires some { 0 < blank.parts }
-{
-    let mut copies = Steps::<C>::new(blank);
+pub fn measure<C: Ledger, R: Clock + Print>(
+    rt: &R,
+    alloc: Global,
+    copies: &mut Steps<C>,
+) -> Result<()> {
     let mut list = CowVec::new(alloc);
 
     let start = Instant::now(rt)?;
-    push(&mut list, OPERATIONS, &mut copies)?;
+    push(&mut list, OPERATIONS, copies)?;
     print_since(rt, "push", start, OPERATIONS)?;
 
     let start = Instant::now(rt)?;
@@ -45,12 +42,12 @@ pub fn measure<C: Ledger, R: Clock + Print>(rt: &R, alloc: Global, blank: Blank)
     print_since(rt, "get", start, OPERATIONS)?;
 
     let start = Instant::now(rt)?;
-    set(&mut list, sum, &mut copies)?;
+    set(&mut list, sum, copies)?;
     print_since(rt, "set", start, OPERATIONS)?;
 
-    push(&mut list, MOST_CELLS - OPERATIONS, &mut copies)?;
+    push(&mut list, MOST_CELLS - OPERATIONS, copies)?;
     let start = Instant::now(rt)?;
-    fork(&list, &mut copies)?;
+    fork(&list, copies)?;
     print_since(rt, "fork", start, FORKS)
 }
 

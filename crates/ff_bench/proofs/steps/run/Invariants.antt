@@ -1,0 +1,7 @@
+use Rattle.std.specs.Option.{ForSome}
+use Rattle.ff_machine.specs.Valid.{IsTask}
+use Rattle.ff_bench.proofs.steps.run.Given as goal
+
+-- the task that is left is valid
+abbrev pub invariant-loop-made : goal.invariant-loop-made
+invariant-loop-made g l = ForSome l.left (IsTask l.stores)
