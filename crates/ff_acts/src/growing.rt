@@ -21,8 +21,8 @@ pub(crate) fn write<C: Ledger>(
     copies: &mut Steps<C>,
 ) -> Result<(), NoMemory>
     requires { k < length vars.old }
-    ensures ok { (cell : Variable) → slice_get vars.old k ≡ Some cell → OnOk result (vars.new ≡ slice_set vars.old k (record cell { value = value.now })) }
-    ensures err { OnErr result (vars.new ≡ vars.old) }
+    ensures done { (cell : Variable) → slice_get vars.old k ≡ Some cell → OnOk result (vars.new ≡ slice_set vars.old k (record cell { value = value.now })) }
+    ensures kept { OnErr result (vars.new ≡ vars.old) }
     ensures later { copies.old ≤ copies.new }
     ensures copies { copies.new ≤ copies.old + 16 }
 {

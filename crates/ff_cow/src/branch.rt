@@ -127,8 +127,8 @@ where
     requires valid { T.is_valid (rc_value kid.old) }
     requires room { room ≡ T.capacity }
     requires within { i < length (T.cells (rc_value kid.old)) }
-    ensures ok { OnOk result (T.cells (rc_value kid.new) ≡ slice_set (T.cells (rc_value kid.old)) i value) }
-    ensures err { OnErr result (T.cells (rc_value kid.new) ≡ T.cells (rc_value kid.old)) }
+    ensures done { OnOk result (T.cells (rc_value kid.new) ≡ slice_set (T.cells (rc_value kid.old)) i value) }
+    ensures kept { OnErr result (T.cells (rc_value kid.new) ≡ T.cells (rc_value kid.old)) }
     ensures returned { IfErr result (λ back. back ≡ value) }
     ensures valid { T.is_valid (rc_value kid.new) }
     ensures later { copies.old ≤ copies.new }
@@ -160,8 +160,8 @@ where
     requires room { room ≡ T.capacity }
     requires count { count ≡ length (T.cells (rc_value kid.old)) }
     requires space { count < room }
-    ensures ok { OnOk result (T.cells (rc_value kid.new) ≡ T.cells (rc_value kid.old) ++ value ∷ []) }
-    ensures err { OnErr result (T.cells (rc_value kid.new) ≡ T.cells (rc_value kid.old)) }
+    ensures done { OnOk result (T.cells (rc_value kid.new) ≡ T.cells (rc_value kid.old) ++ value ∷ []) }
+    ensures kept { OnErr result (T.cells (rc_value kid.new) ≡ T.cells (rc_value kid.old)) }
     ensures returned { IfErr result (λ back. back ≡ value) }
     ensures valid { T.is_valid (rc_value kid.new) }
     ensures later { copies.old ≤ copies.new }

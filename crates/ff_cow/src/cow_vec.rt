@@ -85,8 +85,8 @@ impl<V> CowVec<V> {
     pub fn push<C: Ledger>(&mut self, value: V, copies: &mut Steps<C>) -> Result<(), PushFail<V>>
     where
         V: Cell<C>,
-        ensures ok { OnOk result (self.new ≡ self.old ++ value ∷ []) }
-        ensures err { OnErr result (self.new ≡ self.old) }
+        ensures done { OnOk result (self.new ≡ self.old ++ value ∷ []) }
+        ensures kept { OnErr result (self.new ≡ self.old) }
         ensures returned { IfErr result (λ refusal. returned refusal ≡ value) }
         ensures full { IsTrue (is_full result) ↔ (length self.old ≡ MOST_CELLS) }
         ensures later { copies.old ≤ copies.new }
@@ -110,8 +110,8 @@ impl<V> CowVec<V> {
     where
         V: Cell<C>,
         requires { i < length self.old }
-        ensures ok { OnOk result (self.new ≡ slice_set self.old i value) }
-        ensures err { OnErr result (self.new ≡ self.old) }
+        ensures done { OnOk result (self.new ≡ slice_set self.old i value) }
+        ensures kept { OnErr result (self.new ≡ self.old) }
         ensures returned { IfErr result (λ back. back ≡ value) }
         ensures later { copies.old ≤ copies.new }
         ensures copies { copies.new ≤ copies.old + 16 }

@@ -60,8 +60,8 @@ pub(crate) trait Writable<V>: Layer<V> + Drop {
         requires valid { Self.is_valid self.old }
         requires room { room ≡ Self.capacity }
         requires within { i < length (Self.cells self.old) }
-        ensures ok { OnOk result (Self.cells self.new ≡ slice_set (Self.cells self.old) i value) }
-        ensures err { OnErr result (Self.cells self.new ≡ Self.cells self.old) }
+        ensures done { OnOk result (Self.cells self.new ≡ slice_set (Self.cells self.old) i value) }
+        ensures kept { OnErr result (Self.cells self.new ≡ Self.cells self.old) }
         ensures returned { IfErr result (λ back. back ≡ value) }
         ensures valid { Self.is_valid self.new }
         ensures later { copies.old ≤ copies.new }
@@ -83,8 +83,8 @@ pub(crate) trait Writable<V>: Layer<V> + Drop {
         requires room { room ≡ Self.capacity }
         requires count { count ≡ length (Self.cells self.old) }
         requires space { count < room }
-        ensures ok { OnOk result (Self.cells self.new ≡ Self.cells self.old ++ value ∷ []) }
-        ensures err { OnErr result (Self.cells self.new ≡ Self.cells self.old) }
+        ensures done { OnOk result (Self.cells self.new ≡ Self.cells self.old ++ value ∷ []) }
+        ensures kept { OnErr result (Self.cells self.new ≡ Self.cells self.old) }
         ensures returned { IfErr result (λ back. back ≡ value) }
         ensures valid { Self.is_valid self.new }
         ensures later { copies.old ≤ copies.new }

@@ -173,7 +173,7 @@ fn get_piece(source: &mut Source, tape: &mut Tape, into: &mut [u8]) -> Result<us
     ensures source { IfOk result (λ n. source.new ≡ without_front n source.old) }
     ensures tape { IfOk result (λ n. tape.new ≡ tape.old ++ Got (take n (front_piece source.old)) ∷ []) }
     ensures end { IfOk result (λ n. n ≡ 0 → source.old ≡ []) }
-    ensures err { OnErr result ((source.new ≡ source.old) × (tape.new ≡ tape.old)) }
+    ensures kept { OnErr result ((source.new ≡ source.old) × (tape.new ≡ tape.old)) }
 {
     let front = source.front();
     let n = front.len().min(into.len());

@@ -62,16 +62,16 @@ impl Tape {
 
     /// Adds a piece that was got. Where there is no memory for it, nothing changes.
     pub fn keep_got(&mut self, bytes: &[u8]) -> Result<(), AllocError>
-        ensures ok { OnOk result (self.new ≡ self.old ++ Got bytes.now ∷ []) }
-        ensures err { OnErr result (self.new ≡ self.old) }
+        ensures done { OnOk result (self.new ≡ self.old ++ Got bytes.now ∷ []) }
+        ensures kept { OnErr result (self.new ≡ self.old) }
     {
         keep(&mut self.got, &mut self.steps, bytes, Step::In(bytes.len()))
     }
 
     /// Adds a piece that was put. Where there is no memory for it, nothing changes.
     pub fn keep_put(&mut self, bytes: &[u8]) -> Result<(), AllocError>
-        ensures ok { OnOk result (self.new ≡ self.old ++ Put bytes.now ∷ []) }
-        ensures err { OnErr result (self.new ≡ self.old) }
+        ensures done { OnOk result (self.new ≡ self.old ++ Put bytes.now ∷ []) }
+        ensures kept { OnErr result (self.new ≡ self.old) }
     {
         keep(
             &mut self.put,
@@ -91,7 +91,7 @@ fn keep(
 ) -> Result<(), AllocError>
     ensures side { OnOk result (side.new.items ≡ side.old.items ++ bytes.now) }
     ensures steps { OnOk result (steps.new.items ≡ steps.old.items ++ step ∷ []) }
-    ensures err { OnErr result ((side.new.items ≡ side.old.items) × (steps.new.items ≡ steps.old.items)) }
+    ensures kept { OnErr result ((side.new.items ≡ side.old.items) × (steps.new.items ≡ steps.old.items)) }
 {
     steps.push(step)?;
     if side.extend_from_slice(bytes).is_err() {

@@ -149,7 +149,7 @@ fn slash_place(bytes: &[u8]) -> usize
 }
 
 fn check_parts(host: &[u8], request: &[u8]) -> Result<(), UrlFault>
-    ensures ok { OnOk result (ArePassed host.now request.now) }
+    ensures done { OnOk result (ArePassed host.now request.now) }
     ensures fault { IfErr result (PartFaults host.now request.now) }
 {
     if !is_domain(host) {

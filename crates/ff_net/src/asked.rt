@@ -40,7 +40,7 @@ pub(crate) fn put_ask<C: Ledger>(
     ensures done { OnOk result (finmap.from_entries rows.new ≡ net.with_ask (finmap.from_entries rows.old) domain.now pending) }
     ensures apart { OnOk result (AreApart (slice_cmp nat_cmp) rows.new) }
     ensures count { OnOk result (count_rows rows.new ≡ count_rows rows.old + 1) }
-    ensures err { OnErr result (rows.new ≡ rows.old) }
+    ensures kept { OnErr result (rows.new ≡ rows.old) }
     ensures later { copies.old ≤ copies.new }
     ensures copies { copies.new ≤ copies.old + 33 }
 {
@@ -66,7 +66,7 @@ pub(crate) fn take_ask<C: Ledger>(
     ensures done { OnOk result (finmap.from_entries rows.new ≡ net.answered (finmap.from_entries rows.old) domain.now k) }
     ensures apart { OnOk result (AreApart (slice_cmp nat_cmp) rows.new) }
     ensures count { OnOk result (count_rows rows.new + 1 ≡ count_rows rows.old) }
-    ensures err { OnErr result (rows.new ≡ rows.old) }
+    ensures kept { OnErr result (rows.new ≡ rows.old) }
     ensures later { copies.old ≤ copies.new }
     ensures copies { copies.new ≤ copies.old + 17 * length (net.asked (finmap.from_entries rows.old) domain.now) }
 {
@@ -111,7 +111,7 @@ fn put_asks<C: Ledger>(
     ensures done { OnOk result (finmap.from_entries rows.new ≡ net.with_asked (finmap.from_entries rows.old) domain.now asks) }
     ensures apart { OnOk result (AreApart (slice_cmp nat_cmp) rows.new) }
     ensures count { OnOk result (count_rows rows.new + length (net.asked (finmap.from_entries rows.old) domain.now) ≡ count_rows rows.old + length asks) }
-    ensures err { OnErr result (rows.new ≡ rows.old) }
+    ensures kept { OnErr result (rows.new ≡ rows.old) }
     ensures later { copies.old ≤ copies.new }
     ensures copies { copies.new ≤ copies.old + 17 }
 {
@@ -140,7 +140,7 @@ fn change_row<C: Ledger>(
     ensures done { OnOk result (finmap.from_entries rows.new ≡ net.with_asked (finmap.from_entries rows.old) domain.now asks) }
     ensures apart { OnOk result (AreApart (slice_cmp nat_cmp) rows.new) }
     ensures count { OnOk result (count_rows rows.new + length (net.asked (finmap.from_entries rows.old) domain.now) ≡ count_rows rows.old + length asks) }
-    ensures err { OnErr result (rows.new ≡ rows.old) }
+    ensures kept { OnErr result (rows.new ≡ rows.old) }
     ensures later { copies.old ≤ copies.new }
     ensures copies { copies.new ≤ copies.old + 17 }
 {

@@ -65,8 +65,8 @@ impl<V> Rows<V> {
     ) -> Result<(), NoMemory>
     where
         V: Cell<C>,
-        ensures ok { OnOk result (self.new ≡ self.old ++ value ∷ []) }
-        ensures err { OnErr result (self.new ≡ self.old) }
+        ensures done { OnOk result (self.new ≡ self.old ++ value ∷ []) }
+        ensures kept { OnErr result (self.new ≡ self.old) }
         ensures later { copies.old ≤ copies.new }
         ensures copies { copies.new ≤ copies.old + 16 }
     {
@@ -95,8 +95,8 @@ impl<V> Rows<V> {
     where
         V: Cell<C>,
         requires { i < length self.old }
-        ensures ok { OnOk result (self.new ≡ slice_set self.old i value) }
-        ensures err { OnErr result (self.new ≡ self.old) }
+        ensures done { OnOk result (self.new ≡ slice_set self.old i value) }
+        ensures kept { OnErr result (self.new ≡ self.old) }
         ensures later { copies.old ≤ copies.new }
         ensures copies { copies.new ≤ copies.old + 16 }
     {
@@ -116,8 +116,8 @@ impl<V> Rows<V> {
     where
         V: Cell<C>,
         requires { i < length self.old }
-        ensures ok { OnOk result ((d : V) → self.new ≡ swap_remove self.old i d) }
-        ensures err { OnErr result (self.new ≡ self.old) }
+        ensures done { OnOk result ((d : V) → self.new ≡ swap_remove self.old i d) }
+        ensures kept { OnErr result (self.new ≡ self.old) }
         ensures later { copies.old ≤ copies.new }
         ensures copies { copies.new ≤ copies.old + 17 }
     {
@@ -138,7 +138,7 @@ impl<V> Rows<V> {
     where
         V: Cell<C>,
         requires { i < length self.old }
-        ensures ok { OnOk result (self.new ≡ remove self.old i) }
+        ensures done { OnOk result (self.new ≡ remove self.old i) }
         ensures later { copies.old ≤ copies.new }
         ensures copies { copies.new + 17 ≤ copies.old + 17 * length self.old }
     {

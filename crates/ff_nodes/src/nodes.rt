@@ -94,8 +94,8 @@ impl Nodes {
         requires parent { node.parent ≡ nodes.parent self.old n }
         requires kind { shapes.kind_of node.shape ≡ shapes.kind_of (nodes.node_at self.old n).shape }
         requires name { shapes.name_of node.shape ≡ shapes.name_of (nodes.node_at self.old n).shape }
-        ensures ok { OnOk result (self.new ≡ nodes.set_node self.old n node) }
-        ensures err { OnErr result (self.new ≡ self.old) }
+        ensures done { OnOk result (self.new ≡ nodes.set_node self.old n node) }
+        ensures kept { OnErr result (self.new ≡ self.old) }
         ensures later { copies.old ≤ copies.new }
         ensures copies { copies.new ≤ copies.old + 16 }
     {

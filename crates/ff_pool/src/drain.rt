@@ -26,7 +26,7 @@ impl Pool {
         ensures unspent { OnOk result (self.old.spent ≡ false) }
         ensures done { OnOk result (self.new ≡ drained self.old) }
         ensures rests { OnOk result ((l : ℕ) → l < size self.new → pooled.has_work self.new l ≡ false) }
-        ensures err { OnErr result (self.new.spent ≡ true) }
+        ensures spent { OnErr result (self.new.spent ≡ true) }
         ensures levels { size self.new ≡ size self.old }
         ensures count { OnOk result (turns.new ≡ turns.old + left self.old) }
         ensures most { turns.new ≤ turns.old + left self.old }
@@ -58,7 +58,7 @@ impl Pool {
         requires work { pooled.has_work self.old l.0 ≡ true }
         ensures on { OnOk result (IsOnward self.old turns.old self.new turns.new) }
         ensures fewer { OnOk result (steps_left self.new < steps_left self.old) }
-        ensures err { OnErr result (self.new.spent ≡ true) }
+        ensures spent { OnErr result (self.new.spent ≡ true) }
         ensures levels { size self.new ≡ size self.old }
         ensures most { turns.new ≤ turns.old + left self.old }
         ensures turns_later { turns.old ≤ turns.new }

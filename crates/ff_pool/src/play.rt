@@ -29,7 +29,7 @@ impl Pool {
         ensures unspent { OnOk result (self.old.spent ≡ false) }
         ensures done { OnOk result (self.new ≡ played self.old (events_of events.now)) }
         ensures schedule { OnOk result ((n fuel : ℕ) → self.old ≡ new_pool n fuel → IsPlayed (reactor fuel) (fuel + 1) self.new.world (events_of events.now)) }
-        ensures err { OnErr result (self.new.spent ≡ true) }
+        ensures spent { OnErr result (self.new.spent ≡ true) }
         ensures levels { size self.new ≡ size self.old }
         ensures turns_later { turns.old ≤ turns.new }
         ensures later { copies.old ≤ copies.new }
@@ -53,7 +53,7 @@ impl Pool {
         requires unspent { self.old.spent ≡ false }
         requires event { IsEvent (size self.old) event.now }
         ensures done { OnOk result (self.new ≡ played_one self.old event.now) }
-        ensures err { OnErr result (self.new.spent ≡ true) }
+        ensures spent { OnErr result (self.new.spent ≡ true) }
         ensures levels { size self.new ≡ size self.old }
         ensures turns_later { turns.old ≤ turns.new }
         ensures later { copies.old ≤ copies.new }

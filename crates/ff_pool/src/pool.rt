@@ -149,7 +149,7 @@ impl Pool {
         requires { self.old.spent ≡ false → AreOffersTo self.old offers.now }
         ensures unspent { OnOk result (self.old.spent ≡ false) }
         ensures done { OnOk result (self.new ≡ arrived self.old offers.now) }
-        ensures err { OnErr result (self.new.spent ≡ true) }
+        ensures spent { OnErr result (self.new.spent ≡ true) }
         ensures levels { size self.new ≡ size self.old }
         ensures copies { copies.new ≡ copies.old }
     {
@@ -181,7 +181,7 @@ impl Pool {
         requires { self.old.spent ≡ false → l.0 < size self.old }
         ensures unspent { OnOk result (self.old.spent ≡ false) }
         ensures done { OnOk result (self.new ≡ turned self.old l.0) }
-        ensures err { OnErr result (self.new.spent ≡ true) }
+        ensures spent { OnErr result (self.new.spent ≡ true) }
         ensures levels { size self.new ≡ size self.old }
         ensures count { OnOk result (turns.new ≡ turns.old + step_turns self.old l.0) }
         ensures most { turns.new ≤ turns.old + step_turns self.old l.0 }
@@ -212,7 +212,7 @@ impl Pool {
         ensures unspent { OnOk result (self.old.spent ≡ false) }
         ensures done { OnOk result (self.new ≡ taken self.old l.0) }
         ensures outputs { IfOk result (λ outs. outs.items ≡ (copy_of self.old l.0).outputs) }
-        ensures err { OnErr result (self.new.spent ≡ true) }
+        ensures spent { OnErr result (self.new.spent ≡ true) }
         ensures levels { size self.new ≡ size self.old }
     {
         if self.spent {

@@ -23,8 +23,8 @@ pub(crate) struct Printer {
 impl Printer {
     /// A printer that goes on after the bytes of a vector, which it takes out of it.
     pub(crate) fn after(out: &mut Vec<u8>) -> Result<Printer, NoMemory>
-        ensures ok { IfOk result (λ printer. (printer.failed ≡ false) × (printer.bytes.items ≡ out.old.items)) }
-        ensures err { OnErr result (out.new.items ≡ out.old.items) }
+        ensures done { IfOk result (λ printer. (printer.failed ≡ false) × (printer.bytes.items ≡ out.old.items)) }
+        ensures kept { OnErr result (out.new.items ≡ out.old.items) }
     {
         match mem::try_take(out) {
             Ok(bytes) => Ok(Printer {
@@ -38,8 +38,8 @@ impl Printer {
     /// Gives the bytes back, and says whether memory had run out.
     pub(crate) fn end(self, out: &mut Vec<u8>) -> Result<(), NoMemory>
         ensures bytes { out.new.items ≡ self.bytes.items }
-        ensures ok { OnOk result (self.failed ≡ false) }
-        ensures err { OnErr result (self.failed ≡ true) }
+        ensures done { OnOk result (self.failed ≡ false) }
+        ensures failed { OnErr result (self.failed ≡ true) }
     {
         *out = self.bytes;
         if self.failed { Err(AllocError) } else { Ok(()) }

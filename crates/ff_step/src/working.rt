@@ -56,7 +56,7 @@ fn put_error(
 ) -> Result<(), NoMemory>
     requires { page.0 < length stores.now.windows.pages }
     ensures done { OnOk result (outs.new.items ≡ outs.old.items ++ turns.error_at stores.now page fault ∷ []) }
-    ensures err { OnErr result (outs.new.items ≡ outs.old.items) }
+    ensures kept { OnErr result (outs.new.items ≡ outs.old.items) }
 {
     let windows = stores.windows();
     let place = windows.position(windows.win_of(page)).unwrap_or(0);

@@ -98,8 +98,8 @@ impl Stores {
         outs: &mut Vec<Out>,
     ) -> Result<(), NoMemory>
         requires { root.0 < length self.now.nodes }
-        ensures ok { OnOk result (outs.new.items ≡ outs.old.items ++ Out.Loaded (s.place self.now window) url.now (t.shown self.now.nodes root) ∷ []) }
-        ensures err { OnErr result (outs.new.items ≡ outs.old.items) }
+        ensures done { OnOk result (outs.new.items ≡ outs.old.items ++ Out.Loaded (s.place self.now window) url.now (t.shown self.now.nodes root) ∷ []) }
+        ensures kept { OnErr result (outs.new.items ≡ outs.old.items) }
     {
         let place = self.windows.position(window).unwrap_or(0);
         let shown = self.nodes.shown(root)?;

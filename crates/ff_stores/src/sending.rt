@@ -15,8 +15,8 @@ use std::sync::ledger::Ledger;
 
 // Puts an output behind the others.
 pub(crate) fn put(outs: &mut Vec<Out>, out: Out) -> Result<(), NoMemory>
-    ensures ok { OnOk result (outs.new.items ≡ outs.old.items ++ out ∷ []) }
-    ensures err { OnErr result (outs.new.items ≡ outs.old.items) }
+    ensures done { OnOk result (outs.new.items ≡ outs.old.items ++ out ∷ []) }
+    ensures kept { OnErr result (outs.new.items ≡ outs.old.items) }
 {
     outs.push(out)?;
     Ok(())

@@ -46,8 +46,8 @@ impl Touched {
 
     /// Adds a page, if it isn't there. After want of memory the pages are as they were.
     pub(crate) fn add(&mut self, page: PageId) -> Result<(), NoMemory>
-        ensures ok { OnOk result (self.new ≡ finset.insert self.old page.0) }
-        ensures err { OnErr result (self.new ≡ self.old) }
+        ensures done { OnOk result (self.new ≡ finset.insert self.old page.0) }
+        ensures kept { OnErr result (self.new ≡ self.old) }
     {
         if !self.pages.contains(&page.0) {
             self.pages.push(page.0)?;

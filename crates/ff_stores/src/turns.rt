@@ -78,8 +78,8 @@ impl Stores {
     // Puts what the user sees of a window at a place, if its page was changed.
     fn put_update(&self, at: u32, window: WinId, outs: &mut Vec<Out>) -> Result<(), NoMemory>
         requires { window.0 < length self.now.windows.windows }
-        ensures ok { OnOk result (outs.new.items ≡ outs.old.items ++ cond (finset.contains self.now.touched (w.window_at self.now.windows window).page.0) (Out.Updated at (t.shown self.now.nodes (w.page_at self.now.windows (w.window_at self.now.windows window).page).root) ∷ []) []) }
-        ensures err { OnErr result (outs.new.items ≡ outs.old.items) }
+        ensures done { OnOk result (outs.new.items ≡ outs.old.items ++ cond (finset.contains self.now.touched (w.window_at self.now.windows window).page.0) (Out.Updated at (t.shown self.now.nodes (w.page_at self.now.windows (w.window_at self.now.windows window).page).root) ∷ []) []) }
+        ensures kept { OnErr result (outs.new.items ≡ outs.old.items) }
     {
         let page = self.windows.page(window);
         if !self.touched.has(page) {

@@ -128,8 +128,8 @@ impl Offers {
 
     /// Adds the offer of the next level. After `NoMemory` the offers are as they were.
     pub fn push(&mut self, one: Option<Input>) -> Result<(), NoMemory>
-        ensures ok { OnOk result (self.new ≡ self.old ++ one ∷ []) }
-        ensures err { OnErr result (self.new ≡ self.old) }
+        ensures done { OnOk result (self.new ≡ self.old ++ one ∷ []) }
+        ensures kept { OnErr result (self.new ≡ self.old) }
     {
         self.offers.push(one)?;
         Ok(())

@@ -12,12 +12,12 @@ returns-then-len-eq0-clause-count g c =
 
 pub returns-clause-done : goal.returns-clause-done
 returns-clause-done g c =
-    given_added c.args.domain.now c.args.rows.now c.args.place c.requires.place c.requires.apart (omega arith) c.push.new.self c.args.asks (c.in_ok-push.ensures.ok ∙ ap (λ row. c.args.rows.now ++ row ∷ []) c.in_ok-of.ensures) (omega arith)
+    given_added c.args.domain.now c.args.rows.now c.args.place c.requires.place c.requires.apart (omega arith) c.push.new.self c.args.asks (c.in_ok-push.ensures.done ∙ ap (λ row. c.args.rows.now ++ row ∷ []) c.in_ok-of.ensures) (omega arith)
 
 pub returns-clause-apart : goal.returns-clause-apart
 returns-clause-apart g c =
-    apart_added c.args.domain.now c.args.rows.now c.args.place c.requires.place c.requires.apart (omega arith) c.push.new.self c.args.asks (c.in_ok-push.ensures.ok ∙ ap (λ row. c.args.rows.now ++ row ∷ []) c.in_ok-of.ensures)
+    apart_added c.args.domain.now c.args.rows.now c.args.place c.requires.place c.requires.apart (omega arith) c.push.new.self c.args.asks (c.in_ok-push.ensures.done ∙ ap (λ row. c.args.rows.now ++ row ∷ []) c.in_ok-of.ensures)
 
 pub returns-clause-count : goal.returns-clause-count
 returns-clause-count g c =
-    count_added c.args.domain.now c.args.rows.now c.args.place c.requires.place c.requires.apart (omega arith) c.push.new.self c.args.asks (c.in_ok-push.ensures.ok ∙ ap (λ row. c.args.rows.now ++ row ∷ []) c.in_ok-of.ensures)
+    count_added c.args.domain.now c.args.rows.now c.args.place c.requires.place c.requires.apart (omega arith) c.push.new.self c.args.asks (c.in_ok-push.ensures.done ∙ ap (λ row. c.args.rows.now ++ row ∷ []) c.in_ok-of.ensures)

@@ -12,8 +12,8 @@ returns-clause-value g c =
 pub returns-clause-done : goal.returns-clause-done
 returns-clause-done g c =
     c.in_ok-put_asks.ensures.done
-    ∙ ap (net.with_asked (finmap.from_entries c.args.rows.now) c.args.domain.now) (c.in_ok-remove.ensures.ok ∙ ap (λ l. remove l c.args.k) c.in_ok-asks.ensures.equal)
+    ∙ ap (net.with_asked (finmap.from_entries c.args.rows.now) c.args.domain.now) (c.in_ok-remove.ensures.done ∙ ap (λ l. remove l c.args.k) c.in_ok-asks.ensures.equal)
 
 pub returns-clause-count : goal.returns-clause-count
 returns-clause-count g c =
-    omega (arith, c.in_ok-put_asks.ensures.count, ap length (c.in_ok-remove.ensures.ok ∙ ap (λ l. remove l c.args.k) c.in_ok-asks.ensures.equal), length-remove (net.asked (finmap.from_entries c.args.rows.now) c.args.domain.now) c.args.k c.requires.there)
+    omega (arith, c.in_ok-put_asks.ensures.count, ap length (c.in_ok-remove.ensures.done ∙ ap (λ l. remove l c.args.k) c.in_ok-asks.ensures.equal), length-remove (net.asked (finmap.from_entries c.args.rows.now) c.args.domain.now) c.args.k c.requires.there)

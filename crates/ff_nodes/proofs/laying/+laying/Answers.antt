@@ -86,7 +86,7 @@ lay_doc-returns-in_ok-copy-in-Div-clause-copies g t c =
 pub lay_over-returns-clause-new : goal.lay_over-returns-clause-new
 lay_over-returns-clause-new g t c =
     root_new c.args.env c.args.docs.now c.args.shape c.in_ok-no_codes-2.field-0 c.in_ok-children.children c.args.under c.args.cells.now c.lay_leaf.new.cells c.lay_each.new.cells c.set.new.self _ c.of-node.result c.new_cell.result c.len.result
-    c.len.ensures.value c.in_ok-lay_leaf.ensures.new c.in_ok-children.ensures.new c.in_ok-children.ensures.numbers c.in_ok-no_codes-2.ensures c.of-node.ensures c.new_cell.ensures.node c.new_cell.ensures.own c.in-Ok.ensures.ok
+    c.len.ensures.value c.in_ok-lay_leaf.ensures.new c.in_ok-children.ensures.new c.in_ok-children.ensures.numbers c.in_ok-no_codes-2.ensures c.of-node.ensures c.new_cell.ensures.node c.new_cell.ensures.own c.in-Ok.ensures.done
 
 pub lay_each-loop-doc-init : goal.lay_each-loop-doc-init
 lay_each-loop-doc-init g t c = record {

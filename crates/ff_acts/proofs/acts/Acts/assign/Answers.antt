@@ -18,14 +18,14 @@ write-requires g c =
 pub invariant_of-self-2 : goal.invariant_of-self-2
 invariant_of-self-2 g c =
     let near : IsNearestAt c.self.inside.acts c.self.inside.vars c.args.a c.args.name.now c.in-Some.k = c.in-Some.ensures in
-    subst (AreHeld c.self.inside.acts) (sym (c.in_ok-write.ensures.ok near.cell near.at))
+    subst (AreHeld c.self.inside.acts) (sym (c.in_ok-write.ensures.done near.cell near.at))
     (rewritten_held c.self.inside.acts c.self.inside.vars c.self.invariant c.in-Some.k near.cell near.at c.args.value.now)
 
 pub returns-clause-done : goal.returns-clause-done
 returns-clause-done g c =
     let near : IsNearestAt c.self.inside.acts c.self.inside.vars c.args.a c.args.name.now c.in-Some.k = c.in-Some.ensures in
     let old = seen c.self.inside.acts c.self.inside.vars in
-    ap (seen c.self.inside.acts) (c.in_ok-write.ensures.ok near.cell near.at)
+    ap (seen c.self.inside.acts) (c.in_ok-write.ensures.done near.cell near.at)
     ∙ rewritten_seen c.self.inside.acts c.self.inside.vars c.self.invariant c.in-Some.k near.cell near.at c.args.value.now
     ∙ ap (λ x. windows.set_var old near.cell.owner x c.args.value.now) near.name
     ∙ ap (λ o. windows.assigned old o c.args.name.now c.args.value.now) (sym near.holds)

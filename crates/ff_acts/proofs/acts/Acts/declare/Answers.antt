@@ -28,14 +28,14 @@ write-requires g c =
 pub invariant_of-self : goal.invariant_of-self
 invariant_of-self g c =
     let is : IsVarAt c.self.inside.vars c.args.a c.args.name.now c.in-Found.k = c.in-Found.ensures in
-    subst (AreHeld c.self.inside.acts) (sym (c.in_ok-write-in-Found.ensures.ok is.cell is.at))
+    subst (AreHeld c.self.inside.acts) (sym (c.in_ok-write-in-Found.ensures.done is.cell is.at))
     (rewritten_held c.self.inside.acts c.self.inside.vars c.self.invariant c.in-Found.k is.cell is.at c.args.value.now)
 
 pub returns-in_ok-write-in-Found-clause-done : goal.returns-in_ok-write-in-Found-clause-done
 returns-in_ok-write-in-Found-clause-done g c =
     let is : IsVarAt c.self.inside.vars c.args.a c.args.name.now c.in-Found.k = c.in-Found.ensures in
     let old = seen c.self.inside.acts c.self.inside.vars in
-    ap (seen c.self.inside.acts) (c.in_ok-write-in-Found.ensures.ok is.cell is.at)
+    ap (seen c.self.inside.acts) (c.in_ok-write-in-Found.ensures.done is.cell is.at)
     ∙ rewritten_seen c.self.inside.acts c.self.inside.vars c.self.invariant c.in-Found.k is.cell is.at c.args.value.now
     ∙ ap (λ a. windows.set_var old a is.cell.name c.args.value.now) is.owner
     ∙ ap (λ x. windows.set_var old c.args.a x c.args.value.now) is.name

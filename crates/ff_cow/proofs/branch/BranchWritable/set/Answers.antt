@@ -22,15 +22,15 @@ pub set_in-requires-clause-within : goal.set_in-requires-clause-within
 set_in-requires-clause-within g c =
     within_kid _ _ _ _ c.args.self.now.kids.items c.requires.valid c.args.room c.args.i c.requires.room c.requires.within c.index_mut-kid.result.now c.index_mut-kid.ensures.value
 
-pub returns-clause-ok : goal.returns-clause-ok
-returns-clause-ok g c =
-    on_ok_weaker c.set_in.result (writes _ _ _ _ c.args.self.now.kids.items c.requires.valid c.args.room c.args.i c.requires.room c.requires.within c.index_mut-kid.result.now c.index_mut-kid.ensures.value c.set_in.new.kid c.args.value) c.set_in.ensures.ok
+pub returns-clause-done : goal.returns-clause-done
+returns-clause-done g c =
+    on_ok_weaker c.set_in.result (writes _ _ _ _ c.args.self.now.kids.items c.requires.valid c.args.room c.args.i c.requires.room c.requires.within c.index_mut-kid.result.now c.index_mut-kid.ensures.value c.set_in.new.kid c.args.value) c.set_in.ensures.done
 
-pub returns-clause-err : goal.returns-clause-err
-returns-clause-err g c =
-    on_err_weaker c.set_in.result (keeps _ _ _ _ c.args.self.now.kids.items c.requires.valid c.args.room c.args.i c.requires.room c.requires.within c.index_mut-kid.result.now c.index_mut-kid.ensures.value c.set_in.new.kid) c.set_in.ensures.err
+pub returns-clause-kept : goal.returns-clause-kept
+returns-clause-kept g c =
+    on_err_weaker c.set_in.result (keeps _ _ _ _ c.args.self.now.kids.items c.requires.valid c.args.room c.args.i c.requires.room c.requires.within c.index_mut-kid.result.now c.index_mut-kid.ensures.value c.set_in.new.kid) c.set_in.ensures.kept
 
 pub returns-clause-valid : goal.returns-clause-valid
 returns-clause-valid g c =
     nodes-after _ _ _ _ c.args.self.now.kids.items c.requires.valid c.args.room c.args.i c.requires.room c.requires.within c.index_mut-kid.result.now c.index_mut-kid.ensures.value c.set_in.new.kid c.set_in.ensures.valid
-    (from_either c.set_in.result c.set_in.ensures.ok c.set_in.ensures.err (λ written. ap length written ∙ length-set _ _ _) (λ same. ap length same))
+    (from_either c.set_in.result c.set_in.ensures.done c.set_in.ensures.kept (λ written. ap length written ∙ length-set _ _ _) (λ same. ap length same))

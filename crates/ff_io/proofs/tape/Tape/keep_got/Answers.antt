@@ -8,8 +8,8 @@ invariant_of-self c =
     let e = c.keep.ensures in
     (got_kept c.keep.result t.steps.items now.steps.items t.got.items c.keep.new.side.items t.put.items c.args.bytes.now c.self.invariant e.side e.steps e.err).0
 
-pub returns-clause-ok : goal.returns-clause-ok
-returns-clause-ok c =
+pub returns-clause-done : goal.returns-clause-done
+returns-clause-done c =
     let t = c.self.inside in
     let now = c.keep.new in
     let e = c.keep.ensures in

@@ -9,12 +9,12 @@ use Rattle.ff_net.proofs.jar.Jar.put.Goals as goal
 pub invariant_of-self-in_ok-set : goal.invariant_of-self-in_ok-set
 invariant_of-self-in_ok-set g c =
     let place = cookie_place c.args.domain.now c.args.key.now c.self.inside.cookies c.place_of-place.result (rw c.as_bytes.ensures.value at c.place_of-place.ensures) in
-    rw (c.in_ok-set.ensures.ok, c.in_ok-of.ensures) (apart_over cookie_total cookie_exact _ _ _ place c.self.invariant (([], []), []) (omega arith) c.args.value.now)
+    rw (c.in_ok-set.ensures.done, c.in_ok-of.ensures) (apart_over cookie_total cookie_exact _ _ _ place c.self.invariant (([], []), []) (omega arith) c.args.value.now)
 
 pub returns-in_ok-set-clause-done : goal.returns-in_ok-set-clause-done
 returns-in_ok-set-clause-done g c =
     let place = cookie_place c.args.domain.now c.args.key.now c.self.inside.cookies c.place_of-place.result (rw c.as_bytes.ensures.value at c.place_of-place.ensures) in
-    ap finmap.from_entries (c.in_ok-set.ensures.ok ∙ ap (set c.self.inside.cookies c.place_of-place.result) c.in_ok-of.ensures)
+    ap finmap.from_entries (c.in_ok-set.ensures.done ∙ ap (set c.self.inside.cookies c.place_of-place.result) c.in_ok-of.ensures)
     ∙ put_over cookie_total cookie_exact _ _ _ place c.self.invariant (([], []), []) (omega arith) c.args.value.now
     ∙ ap (λ jar. net.cookie_put jar c.args.domain.now c.args.key.now c.args.value.now) c.self.view_is
 
@@ -36,11 +36,11 @@ returns-then-not-has_room-clause-answer g c =
 pub invariant_of-self-in_ok-push : goal.invariant_of-self-in_ok-push
 invariant_of-self-in_ok-push g c =
     let place = cookie_place c.args.domain.now c.args.key.now c.self.inside.cookies c.place_of-place.result (rw c.as_bytes.ensures.value at c.place_of-place.ensures) in
-    rw (c.in_ok-push.ensures.ok, c.in_ok-of-2.ensures) (apart_more cookie_total cookie_exact _ _ _ place c.self.invariant (omega arith) c.args.value.now)
+    rw (c.in_ok-push.ensures.done, c.in_ok-of-2.ensures) (apart_more cookie_total cookie_exact _ _ _ place c.self.invariant (omega arith) c.args.value.now)
 
 pub returns-in_ok-push-clause-done : goal.returns-in_ok-push-clause-done
 returns-in_ok-push-clause-done g c =
     let place = cookie_place c.args.domain.now c.args.key.now c.self.inside.cookies c.place_of-place.result (rw c.as_bytes.ensures.value at c.place_of-place.ensures) in
-    ap finmap.from_entries (c.in_ok-push.ensures.ok ∙ ap (λ row. c.self.inside.cookies ++ row ∷ []) c.in_ok-of-2.ensures)
+    ap finmap.from_entries (c.in_ok-push.ensures.done ∙ ap (λ row. c.self.inside.cookies ++ row ∷ []) c.in_ok-of-2.ensures)
     ∙ put_more cookie_total cookie_exact _ _ _ place c.self.invariant (omega arith) c.args.value.now
     ∙ ap (λ jar. net.cookie_put jar c.args.domain.now c.args.key.now c.args.value.now) c.self.view_is

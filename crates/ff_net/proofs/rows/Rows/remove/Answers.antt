@@ -7,7 +7,7 @@ use Rattle.ff_net.proofs.rows.Rows.remove.Goals as goal
 pub loop-j-preserved : goal.loop-j-preserved
 loop-j-preserved g c = record {
   rows =
-      c.in_ok-set.ensures.ok
+      c.in_ok-set.ensures.done
       ∙ ap (λ l. set l c.loop-j.j c.in_ok-moved.moved) c.loop-j.invariant.rows
       ∙ moved_more c.args.self.now c.args.i c.requires c.loop-j.j (omega arith) (omega arith) c.in_ok-moved.moved
       (ap (λ l. slice_get l (c.loop-j.j + 1)) (sym c.loop-j.invariant.rows) ∙ c.at.ensures ∙ ap Some (sym c.in_ok-moved.ensures.value));
@@ -20,8 +20,8 @@ invariant_of-self g c =
     let moved = length_moved c.args.self.now c.args.i c.requires c.loop-j.j (omega arith) (omega arith) in
     omega (arith, length-take c.self.inside.len c.self.inside.cells, ap length (c.self.view_is ∙ c.loop-j.invariant.rows), moved)
 
-pub returns-clause-ok : goal.returns-clause-ok
-returns-clause-ok g c =
+pub returns-clause-done : goal.returns-clause-done
+returns-clause-done g c =
     let moved = length_moved c.args.self.now c.args.i c.requires c.loop-j.j (omega arith) (omega arith) in
     let last : c.len-last.result - 1 ≡ c.loop-j.j = omega arith in
     ap (λ n. take n c.self.inside.cells) last

@@ -60,4 +60,4 @@ returns-in_err-put_error-in-Failed-clause-works g c =
     let stays = failed_stays c.args.stores.now task.page task.running c.in-Failed.fault (sym h.0) in
     let puts : c.reduce.new.outs.items ≡ c.args.outs.now.items = h.3 ∙ ap (λ (os : List Out). c.args.outs.now.items ++ os) stays.outputs_are ∙ append-nil c.args.outs.now.items in
     let p = err_from_is_err_and c.from_residual-in_err-put_error-in-Failed.result c.from_residual-in_err-put_error-in-Failed.ensures.1 in
-    rw (sym c.self.view_is, p.1) (record { front = []; rest = (turns.work c.args.stores.now task).outputs; cut = refl; appended = c.in_err-put_error-in-Failed.ensures.err ∙ puts ∙ sym (append-nil c.args.outs.now.items) })
+    rw (sym c.self.view_is, p.1) (record { front = []; rest = (turns.work c.args.stores.now task).outputs; cut = refl; appended = c.in_err-put_error-in-Failed.ensures.kept ∙ puts ∙ sym (append-nil c.args.outs.now.items) })

@@ -7,7 +7,7 @@ pub loop-at-preserved : goal.loop-at-preserved
 loop-at-preserved c =
     let is : slice_get c.self.inside.windows.opened c.loop-at.at ≡ Some c.in-Some.window = cc (c.at.ensures, c.in-Some.is) in
     let there = subst (λ (t : s.Stores). slice_get t.windows.opened c.loop-at.at ≡ Some c.in-Some.window) c.self.view_is is in
-    updating_more c.args.self.now c.args.outs.now.items c.loop-at.at c.loop-at.outs.items c.loop-at.invariant c.in-Some.window c.put_update.new.outs.items there c.in_ok-put_update.ensures.ok
+    updating_more c.args.self.now c.args.outs.now.items c.loop-at.at c.loop-at.outs.items c.loop-at.invariant c.in-Some.window c.put_update.new.outs.items there c.in_ok-put_update.ensures.done
 
 pub returns : goal.returns
 returns c =

@@ -19,4 +19,4 @@ invariant_of-self g c =
 pub returns-in_err-put-clause-step : goal.returns-in_err-put-clause-step
 returns-in_err-put-clause-step g c =
     let p = err_from_is_err_and c.from_residual-in_err-put.result c.from_residual-in_err-put.ensures.1 in
-    rw p.1 (nothing_stepped p.0 _ _ _ _ _ c.in_err-put.ensures.err)
+    rw p.1 (nothing_stepped p.0 _ _ _ _ _ c.in_err-put.ensures.kept)
