@@ -1,5 +1,5 @@
 //! The browser.
-ghost use Rattle.std.specs.Prelude.{◌≡◌, ◌+◌, ◌≤◌, false, IsTrue, IfOk, OnOk};
+ghost use Rattle.std.specs.Prelude.{◌≡◌, ◌+◌, ◌≤◌, false, IsTrue, IfOk, OnErr, OnOk};
 ghost use Rattle.ff_contract.specs.Appending.{Appends};
 ghost use Rattle.ff_value.specs.Spelled.{IsWellSpelledInput};
 ghost use Rattle.ff_machine.specs.State as state;
@@ -94,6 +94,7 @@ impl Browser {
         ensures done { OnOk result (self.new ≡ ((reactor self.old.budget).begin self.old input.now).after) }
         ensures busy { OnOk result (self.new.quiet ≡ false) }
         ensures outputs { Appends result outs.old.items outs.new.items ((reactor self.old.budget).begin self.old input.now).outputs }
+        ensures emptied { OnErr result (self.new ≡ state.empty self.old.budget) }
         ensures budget { self.new.budget ≡ self.old.budget }
         ensures valid { IsState self.old.budget self.new }
         ensures later { copies.old ≤ copies.new }
@@ -121,6 +122,7 @@ impl Browser {
         requires { self.old.quiet ≡ false }
         ensures done { OnOk result (self.new ≡ ((reactor self.old.budget).turn self.old).after) }
         ensures outputs { Appends result outs.old.items outs.new.items ((reactor self.old.budget).turn self.old).outputs }
+        ensures emptied { OnErr result (self.new ≡ state.empty self.old.budget) }
         ensures budget { self.new.budget ≡ self.old.budget }
         ensures valid { IsState self.old.budget self.new }
         ensures counted { turns.new ≡ turns.old + 1 }

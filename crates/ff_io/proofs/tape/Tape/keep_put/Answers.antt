@@ -6,7 +6,7 @@ invariant_of-self c =
     let t = c.self.inside in
     let now = c.keep.new in
     let e = c.keep.ensures in
-    (put_kept c.keep.result t.steps.items now.steps.items t.got.items t.put.items c.keep.new.side.items c.args.bytes.now c.self.invariant e.side e.steps e.err).0
+    (put_kept c.keep.result t.steps.items now.steps.items t.got.items t.put.items c.keep.new.side.items c.args.bytes.now c.self.invariant e.side e.steps e.kept).0
 
 pub returns-clause-done : goal.returns-clause-done
 returns-clause-done c =
@@ -14,4 +14,4 @@ returns-clause-done c =
     let now = c.keep.new in
     let e = c.keep.ensures in
     rw (← c.self.view_is)
-    (put_kept c.keep.result t.steps.items now.steps.items t.got.items t.put.items c.keep.new.side.items c.args.bytes.now c.self.invariant e.side e.steps e.err).1
+    (put_kept c.keep.result t.steps.items now.steps.items t.got.items t.put.items c.keep.new.side.items c.args.bytes.now c.self.invariant e.side e.steps e.kept).1
