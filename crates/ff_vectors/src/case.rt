@@ -1,19 +1,31 @@
 //! What is said of a case.
 use crate::ended::text_of;
 use anyhow::{Context, Result, bail};
-use ff_io::{MemPort, MemShelf};
+use ff_io::{MemPort, MemShelf, MemSink};
 use std::alloc::{AllocError, Global};
 use std::collections::BTreeMap;
 
-/// The words, the file, the trace, and how the outside behaves.
+/// Which calls of the outside fail.
+#[derive(Clone, Copy)]
+pub enum Part {
+    Read,
+    Write,
+    Fetch,
+    Report,
+}
+
+/// The words, the file, the trace with its attack and without it, and how the outside behaves.
 #[derive(Drop)]
 pub struct Case {
     pub words: Vec<String>,
     file: Vec<u8>,
     pub trace: Vec<u8>,
+    pub calm: Vec<u8>,
     grain: usize,
     bad_reads: Vec<u64>,
     bad_writes: Vec<u64>,
+    bad_fetches: Vec<u64>,
+    bad_reports: Vec<u64>,
 }
 
 /// As many bytes as a read of the program asks for.
@@ -26,9 +38,12 @@ impl Case {
             words: Vec::new(alloc),
             file: Vec::new(alloc),
             trace: Vec::new(alloc),
+            calm: Vec::new(alloc),
             grain: GRAIN,
             bad_reads: Vec::new(alloc),
             bad_writes: Vec::new(alloc),
+            bad_fetches: Vec::new(alloc),
+            bad_reports: Vec::new(alloc),
         }
     }
 
@@ -38,21 +53,28 @@ impl Case {
             "#" => *self = Case::new(alloc),
             "words" => self.words = words_of(alloc, text)?,
             "file" => self.file = Vec::from_slice(alloc, text.as_bytes())?,
+            "fill" => self.fill(text.parse::<u32>()? as usize)?,
             "in" => self.add_line(text)?,
+            "only" => add_line(&mut self.trace, text)?,
             "times" => self.add_lines(text)?,
             "end" => self.trace.extend_from_slice(text.as_bytes())?,
             "grain" => self.grain = usize::from(text.parse::<u16>()?),
-            "read" => self.bad_reads.push(text.parse::<u64>()?)?,
-            "write" => self.bad_writes.push(text.parse::<u64>()?)?,
-            _ => bail!("no sort: {sort}"),
+            _ => self.fail(part_of(sort)?, text.parse::<u64>()?)?,
+        }
+        Ok(())
+    }
+
+    /// Adds blanks to the file until it has so many bytes.
+    fn fill(&mut self, length: usize) -> Result<(), AllocError> {
+        for _ in self.file.len()..length {
+            self.file.push(b' ')?;
         }
         Ok(())
     }
 
     fn add_line(&mut self, line: &str) -> Result<(), AllocError> {
-        self.trace.extend_from_slice(line.as_bytes())?;
-        self.trace.push(b'\n')?;
-        Ok(())
+        add_line(&mut self.trace, line)?;
+        add_line(&mut self.calm, line)
     }
 
     /// Adds a line as many times as the number before it says.
@@ -64,6 +86,27 @@ impl Case {
         Ok(())
     }
 
+    /// Makes a call fail, by its number.
+    pub fn fail(&mut self, part: Part, number: u64) -> Result<(), AllocError> {
+        match part {
+            Part::Read => self.bad_reads.push(number)?,
+            Part::Write => self.bad_writes.push(number)?,
+            Part::Fetch => self.bad_fetches.push(number)?,
+            Part::Report => self.bad_reports.push(number)?,
+        }
+        Ok(())
+    }
+
+    /// Takes back the last call of a part that was to fail.
+    pub fn mend(&mut self, part: Part) {
+        let _number = match part {
+            Part::Read => self.bad_reads.pop(),
+            Part::Write => self.bad_writes.pop(),
+            Part::Fetch => self.bad_fetches.pop(),
+            Part::Report => self.bad_reports.pop(),
+        };
+    }
+
     /// The shelf, with the one file `p.json`.
     pub fn shelf(&self, alloc: Global) -> Result<MemShelf, AllocError> {
         let mut files = BTreeMap::new(alloc);
@@ -71,35 +114,44 @@ impl Case {
             String::from_str(alloc, "p.json")?,
             Vec::from_slice(alloc, self.file.as_slice())?,
         )?;
-        Ok(MemShelf::new(files, Vec::new(alloc)))
+        let bad_fetches = Vec::from_slice(alloc, self.bad_fetches.as_slice())?;
+        Ok(MemShelf::new(files, bad_fetches))
     }
 
-    /// A port that gives the trace, and fails at the reads and writes that are said and at these.
-    pub fn port(
-        &self,
-        alloc: Global,
-        trace: &[u8],
-        bad_read: Option<u64>,
-        bad_write: Option<u64>,
-    ) -> Result<MemPort, AllocError> {
+    /// A port that gives a trace.
+    pub fn port(&self, alloc: Global, trace: &[u8]) -> Result<MemPort, AllocError> {
         let grain = self.grain.max(1);
         let mut pieces = Vec::new(alloc);
         for piece in trace.chunks(grain) {
             pieces.push(Vec::from_slice(alloc, piece)?)?;
         }
-        let bad_reads = with(alloc, self.bad_reads.as_slice(), bad_read)?;
-        let bad_writes = with(alloc, self.bad_writes.as_slice(), bad_write)?;
+        let bad_reads = Vec::from_slice(alloc, self.bad_reads.as_slice())?;
+        let bad_writes = Vec::from_slice(alloc, self.bad_writes.as_slice())?;
         Ok(MemPort::new(alloc, pieces, bad_reads, bad_writes, grain))
+    }
+
+    /// The sink for what is reported.
+    pub fn sink(&self, alloc: Global) -> Result<MemSink, AllocError> {
+        let bad_reports = Vec::from_slice(alloc, self.bad_reports.as_slice())?;
+        Ok(MemSink::new(alloc, bad_reports))
     }
 }
 
-/// The numbers, and one more where there is one.
-fn with(alloc: Global, numbers: &[u64], more: Option<u64>) -> Result<Vec<u64>, AllocError> {
-    let mut all = Vec::from_slice(alloc, numbers)?;
-    if let Some(number) = more {
-        all.push(number)?;
-    }
-    Ok(all)
+/// The part that a word names.
+fn part_of(word: &str) -> Result<Part> {
+    Ok(match word {
+        "read" => Part::Read,
+        "write" => Part::Write,
+        "fetch" => Part::Fetch,
+        "report" => Part::Report,
+        _ => bail!("no sort: {word}"),
+    })
+}
+
+fn add_line(trace: &mut Vec<u8>, line: &str) -> Result<(), AllocError> {
+    trace.extend_from_slice(line.as_bytes())?;
+    trace.push(b'\n')?;
+    Ok(())
 }
 
 /// The words of a line, with one blank between two.

@@ -57,8 +57,27 @@ impl Ended {
     }
 }
 
+/// The lines of a text that are of a level.
+pub fn lines_of(alloc: Global, text: &[u8], level: &str) -> Result<Vec<u8>, AllocError> {
+    let mut lines = Vec::new(alloc);
+    for line in text.split_inclusive(|byte| *byte == b'\n') {
+        if is_of(line, level) {
+            lines.extend_from_slice(line)?;
+        }
+    }
+    Ok(lines)
+}
+
+/// Whether a line begins with the name of a level and a blank.
+fn is_of(line: &[u8], level: &str) -> bool {
+    match line.strip_prefix(level.as_bytes()) {
+        Some(rest) => rest.starts_with(b" "),
+        None => false,
+    }
+}
+
 /// How many newlines there are.
-fn count_lines(text: &[u8]) -> usize {
+pub fn count_lines(text: &[u8]) -> usize {
     text.iter().filter(|byte| **byte == b'\n').count()
 }
 
@@ -114,15 +133,16 @@ fn obey<C: Ledger, L: Ledger>(
     run(alloc, words, shelf, port, err, &mut copied, &mut made)
 }
 
-/// How the case ends over a port.
-pub fn end(alloc: Global, case: &Case, port: &mut MemPort) -> Result<Ended, AllocError> {
+/// How the case ends over a trace.
+pub fn end(alloc: Global, case: &Case, trace: &[u8]) -> Result<Ended, AllocError> {
     let mut shelf = case.shelf(alloc)?;
-    let mut err = MemSink::new(alloc, Vec::new(alloc));
+    let mut port = case.port(alloc, trace)?;
+    let mut err = case.sink(alloc)?;
     let status = obey::<Brand, Brand>(
         alloc,
         case.words.as_slice(),
         &mut shelf,
-        port,
+        &mut port,
         &mut err,
         Blank::new(1),
         Blank::new(1),

@@ -1,26 +1,13 @@
-//! A case as it stands, and the same case over an outside that fails, or a trace that is cut, at each
-//! place in turn.
-use crate::case::Case;
-use crate::ended::{Ended, end};
+//! A case as it stands, without its attack, over an outside each of whose calls fails in turn, and
+//! over a trace that is cut at each place.
+use crate::case::{Case, Part};
+use crate::ended::{Ended, count_lines, end, lines_of};
 use anyhow::Result;
 use std::alloc::{AllocError, Global};
 
-/// Which calls of the outside fail.
-#[derive(Clone, Copy)]
-pub enum Part {
-    Read,
-    Write,
-}
-
 /// How the case ends over its whole trace.
 fn ended(alloc: Global, case: &Case) -> Result<Ended, AllocError> {
-    over(alloc, case, case.trace.as_slice())
-}
-
-/// How the case ends over another trace.
-fn over(alloc: Global, case: &Case, trace: &[u8]) -> Result<Ended, AllocError> {
-    let mut port = case.port(alloc, trace, None, None)?;
-    end(alloc, case, &mut port)
+    end(alloc, case, case.trace.as_slice())
 }
 
 /// Prints how the case ends.
@@ -44,59 +31,110 @@ pub fn show_twice(rt: &HostRuntime, case: &Case) -> Result<()> {
     Ok(())
 }
 
-/// How the case ends where one call fails.
-fn failing(alloc: Global, case: &Case, part: Part, number: u64) -> Result<Ended, AllocError> {
-    let (bad_read, bad_write) = match part {
-        Part::Read => (Some(number), None),
-        Part::Write => (None, Some(number)),
-    };
-    let mut port = case.port(alloc, case.trace.as_slice(), bad_read, bad_write)?;
-    end(alloc, case, &mut port)
+/// Prints how the case ends, with the last of its lines alone, and whether the lines of a level are
+/// the same without the attack.
+pub fn show_beside(rt: &HostRuntime, case: &Case, level: &str, most: usize) -> Result<()> {
+    let run = ended(rt.alloc(), case)?;
+    run.show_last(rt, case.words.as_slice(), most)?;
+    let calm = end(rt.alloc(), case, case.calm.as_slice())?;
+    let lines = lines_of(rt.alloc(), run.put.as_slice(), level)?;
+    let others = lines_of(rt.alloc(), calm.put.as_slice(), level)?;
+    show_lines_of(rt, level, lines.as_slice(), others.as_slice())
+}
+
+/// Prints how many lines a level has, and how many others without the attack.
+fn show_lines_of(rt: &HostRuntime, level: &str, lines: &[u8], others: &[u8]) -> Result<()> {
+    println!(rt;
+        "lines of {level}: {}, and {} without the attack; the same: {}",
+        count_lines(lines),
+        count_lines(others),
+        lines == others
+    )?;
+    Ok(())
+}
+
+/// How the case ends where one more call fails.
+fn failing(alloc: Global, case: &mut Case, part: Part, number: u64) -> Result<Ended, AllocError> {
+    case.fail(part, number)?;
+    let run = ended(alloc, case)?;
+    case.mend(part);
+    Ok(run)
 }
 
 /// The most calls of which each is made to fail.
 const MOST_CALLS: u64 = 4096;
 
-/// Prints for how many calls of a part the case ends with the fault of that part, and of how many of
-/// these the text put is a front of the whole text, and shorter where a write failed.
-pub fn show_each(rt: &HostRuntime, case: &Case, part: Part) -> Result<()> {
-    let whole = ended(rt.alloc(), case)?;
-    let (fault, what) = match part {
-        Part::Read => (5, "reads"),
-        Part::Write => (6, "writes"),
-    };
-    let mut faults = 0_u64;
-    let mut fronts = 0_u64;
-    for number in 1..MOST_CALLS {
-        let run = failing(rt.alloc(), case, part, number)?;
-        if run.number != fault {
-            show_counts(rt, what, faults, fronts, run.is(&whole))?;
-            return Ok(());
-        }
-        faults = faults.saturating_add(1);
-        if is_front(&run, &whole, part) {
-            fronts = fronts.saturating_add(1);
-        }
-    }
-    println!(rt; "too many {what}")?;
-    Ok(())
+/// How many calls of a part a case makes, and after how many of their faults it ends as it should.
+#[derive(Clone, Copy)]
+struct Sweep {
+    calls: u64,
+    right: u64,
 }
 
-/// Prints the counts, once a call was to fail that is never made.
-fn show_counts(rt: &HostRuntime, what: &str, faults: u64, fronts: u64, same: bool) -> Result<()> {
+/// Makes each call of a part fail in turn, until one that the case doesn't make.
+fn make_fail(alloc: Global, case: &mut Case, part: Part) -> Result<Sweep, AllocError> {
+    let whole = ended(alloc, case)?;
+    let mut sweep = Sweep { calls: 0, right: 0 };
+    for number in 1..MOST_CALLS {
+        let run = failing(alloc, case, part, number)?;
+        if run.is(&whole) {
+            return Ok(sweep);
+        }
+        sweep.calls = sweep.calls.saturating_add(1);
+        if is_right(&run, &whole, part) {
+            sweep.right = sweep.right.saturating_add(1);
+        }
+    }
+    Ok(sweep)
+}
+
+/// Whether a run in which a call of a part failed ended as it should, beside the whole run.
+fn is_right(run: &Ended, whole: &Ended, part: Part) -> bool {
+    let is_front = whole.put.starts_with(run.put.as_slice());
+    match part {
+        Part::Read => run.number == 5 && is_front,
+        Part::Write => run.number == 6 && is_front && run.put.len() < whole.put.len(),
+        Part::Fetch => run.number == 7 && run.got == 0 && run.put.is_empty(),
+        Part::Report => is_same_but_report(run, whole),
+    }
+}
+
+/// Whether a run ended as the whole one, but for a shorter front of its report.
+fn is_same_but_report(run: &Ended, whole: &Ended) -> bool {
+    run.number == whole.number
+        && run.got == whole.got
+        && run.put.as_slice() == whole.put.as_slice()
+        && whole.reported.starts_with(run.reported.as_slice())
+        && run.reported.len() < whole.reported.len()
+}
+
+/// Prints how many calls of a part the case makes, by the word for them, and after how many of their
+/// faults it ends as it should: with that fault, and with what is then to stand written.
+pub fn show_each(
+    rt: &HostRuntime,
+    case: &mut Case,
+    part: Part,
+    calls: &str,
+    written: &str,
+) -> Result<()> {
+    let sweep = make_fail(rt.alloc(), case, part)?;
     println!(rt;
-        "{faults} {what}, each failing in turn: {fronts} fronts of the text; with none failing the same end: {same}"
+        "{:?}: {} {calls}, each failing in turn: {} with {written}",
+        case.words, sweep.calls, sweep.right
     )?;
     Ok(())
 }
 
-/// Whether a text is a front of the whole one, and shorter where a write failed.
-fn is_front(run: &Ended, whole: &Ended, part: Part) -> bool {
-    let is_front = whole.put.starts_with(run.put.as_slice());
-    match part {
-        Part::Read => is_front,
-        Part::Write => is_front && run.put.len() < whole.put.len(),
-    }
+/// Prints whether the case ends in the same way, but for a shorter front of its report, where each
+/// write of the report fails in turn. There has to be one.
+pub fn show_each_report(rt: &HostRuntime, case: &mut Case) -> Result<()> {
+    let sweep = make_fail(rt.alloc(), case, Part::Report)?;
+    println!(rt;
+        "{:?}: each write of the report failing in turn: a shorter report, all else the same: {}",
+        case.words,
+        0 < sweep.calls && sweep.calls == sweep.right
+    )?;
+    Ok(())
 }
 
 /// How many cuts end done and with a bad line, and of how many the text is exactly the one owed.
@@ -130,7 +168,7 @@ fn cut(alloc: Global, case: &Case, length: usize, cuts: &mut Cuts) -> Result<(),
     let Some((front, _rest)) = case.trace.as_slice().split_at_checked(length) else {
         return Ok(());
     };
-    let run = over(alloc, case, front)?;
+    let run = end(alloc, case, front)?;
     let mut lines = Vec::from_slice(alloc, front)?;
     match run.number {
         0 => {
@@ -143,7 +181,7 @@ fn cut(alloc: Global, case: &Case, length: usize, cuts: &mut Cuts) -> Result<(),
         }
         _ => return Ok(()),
     }
-    let owed = over(alloc, case, lines.as_slice())?;
+    let owed = end(alloc, case, lines.as_slice())?;
     if owed.number == 0 && owed.put.as_slice() == run.put.as_slice() {
         cuts.owed = cuts.owed.saturating_add(1);
     }
