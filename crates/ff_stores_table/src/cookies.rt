@@ -1,13 +1,11 @@
 //! Cookies of domains.
 
-use crate::reading::{domain, parted, text, two};
+use crate::reading::{domain, parted, text};
 use crate::words::ended;
 use anyhow::{Result, bail};
 use ff_net::Jar;
-use ff_operators::Fail;
 use ff_printing::print_pairs;
 use ff_steps::Steps;
-use ff_value::Domain;
 use std::alloc::Global;
 use std::sync::ledger::Ledger;
 
@@ -24,7 +22,6 @@ pub fn take<C: Ledger>(
         "get" => get(alloc, jar, rest),
         "delete" => delete(alloc, jar, rest, copies),
         "all" => all(alloc, jar, rest),
-        "fill" => fill(alloc, jar, rest, copies),
         _ => bail!("no line of cookies: {word}"),
     }
 }
@@ -69,35 +66,4 @@ fn all(alloc: Global, jar: &Jar, rest: &str) -> Result<String> {
     let mut out = Vec::new(alloc);
     print_pairs(&jar.of(&of)?, &mut out)?;
     Ok(String::from_utf8(out)?)
-}
-
-fn fill<C: Ledger>(
-    alloc: Global,
-    jar: &mut Jar,
-    rest: &str,
-    copies: &mut Steps<C>,
-) -> Result<String> {
-    let (domains, each) = two(rest)?;
-    let mut last = Ok(());
-    for number in 0..domains {
-        let of = domain(alloc, format!(in alloc; "d{number}")?.as_str())?;
-        last = fill_one(alloc, jar, &of, each, copies)?;
-    }
-    Ok(ended(alloc, last)?)
-}
-
-/// Puts so many cookies of one domain, and gives the last answer.
-fn fill_one<C: Ledger>(
-    alloc: Global,
-    jar: &mut Jar,
-    of: &Domain,
-    each: u32,
-    copies: &mut Steps<C>,
-) -> Result<Result<(), Fail>> {
-    let mut last = Ok(());
-    for number in 0..each {
-        let key = text(alloc, format!(in alloc; "k{number}")?.as_str())?;
-        last = jar.put(of, &key, &key, copies);
-    }
-    Ok(last)
 }

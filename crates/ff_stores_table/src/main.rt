@@ -1,27 +1,32 @@
-//! Keeps cookies, pending requests, windows and variables as the lines of its input say, and prints
-//! each line and what it gives. A text `*N` is N times the letter `a`, and `*0` the empty one.
+//! Obeys the lines of its input, each of which is one call on the stores of its case, and prints each
+//! line and what the call answered. A text `*N` is N times the letter `a`, and `*0` the empty one.
 //!
-//! - `# ..` is a heading. `new` begins with empty stores. `fork` keeps a fork of them in place of the
-//!   one before, and `swap` goes on with the fork, and keeps the stores in its place.
-//! - `cookie put DOMAIN KEY VALUE`, `cookie get DOMAIN KEY`, `cookie delete DOMAIN KEY`; `cookie all
-//!   DOMAIN` prints those of a domain; `cookie fill DOMAINS EACH` puts so many of each of so many
-//!   domains, whose names are d0, d1 and so on, and gives the last answer.
-//! - `request room DOMAIN` says whether there is room, `request ask DOMAIN TEXT WINDOW` asks where
-//!   there is, `request answer DOMAIN PLACE` takes one out, `request count DOMAIN` counts, and
-//!   `request fill DOMAINS EACH` asks so many times of each of so many domains.
-//! - `window open NAME OPENER ADDRESS`, where `-` is no opener, opens a window with a page; the root
-//!   of a page has the page's number and 7. `window load WINDOW ADDRESS` shows another page, `window
-//!   close WINDOW` closes, `window fill COUNT` opens so many, `window pages COUNT` shows so many pages
-//!   in window 0, and both give the last answer. `window at PLACE` and `window room` ask, and
-//!   `windows` prints all that can be read.
-//! - `variable declare ACTIVATION LETTER NUMBER`, `variable assign ACTIVATION LETTER NUMBER`,
-//!   `variable call ACTIVATION LETTER NUMBER`, which calls a function of one parameter, and
-//!   `variable get ACTIVATION LETTER`. `variable letters ACTIVATION` declares each letter with its
-//!   code, and `variable all ACTIVATION` prints those that have one. `variable fill COUNT` makes so
-//!   many calls of x under activation 0, each with y and z, `variable calls COUNT` so many calls
-//!   without parameters, and both give the last answer. `variable count` counts activations.
-//!
-//! Then come queues of scripts, and copies of the machine's small records.
+//! | Line | What it does |
+//! |---|---|
+//! | `# TEXT` | begins a new case, with new stores |
+//! | `## TEXT` | a heading inside a case |
+//! | `each R S LINE` | that line for each pair of a number of the range R and one of S, with these for `%` and `&` in it; the last answer is printed. A range is `FIRST..LAST`, or one number |
+//! | `fork`, `swap` | keeps a fork of the stores in place of the one before; goes on with the fork, and keeps the stores in its place |
+//! | `cookie put DOMAIN KEY VALUE`, `cookie get DOMAIN KEY`, `cookie delete DOMAIN KEY` | sets a cookie, gives its value, takes it out |
+//! | `cookie all DOMAIN` | the cookies of a domain |
+//! | `request room DOMAIN`, `request count DOMAIN` | whether there is room for one request more, and how many are pending |
+//! | `request ask DOMAIN TEXT FOR` | asks, where there is room. FOR is `window W`, `slot PAGE S` or `call PAGE ACTIVATION BODY`, a function without parameters |
+//! | `request answer DOMAIN PLACE` | takes a request out |
+//! | `request copy TEXT FOR` | a copy of such a request |
+//! | `window open NAME OPENER ADDRESS` | opens a window with a page; `-` is no opener. The root of a page has the page's number and 7 |
+//! | `window load WINDOW ADDRESS`, `window close WINDOW` | shows another page in a window; closes it |
+//! | `window next` | the numbers that come next, and whether there is room for a page and for a window |
+//! | `window room` | whether there is room for a window |
+//! | `window at PLACE`, `window named NAME` | the open window at a place, and the first one of a name |
+//! | `window is WINDOW`, `window page PAGE` | all that can be read off a window, and off a page |
+//! | `variable declare ACTIVATION LETTER NUMBER`, `variable assign ACTIVATION LETTER NUMBER` | gives a variable a number |
+//! | `variable call ACTIVATION LETTER NUMBER`, `variable enter ACTIVATION` | calls a function of one parameter, and one without parameters |
+//! | `variable get ACTIVATION LETTER`, `variable all ACTIVATION` | the number of a variable, and all letters that have one |
+//! | `variable count` | how many activations there are |
+//! | `queue open` | opens a window, in other windows that only the lines of queues see |
+//! | `queue wait PAGE`, `queue push PAGE BODY`, `queue fill PAGE SLOT BODY`, `queue pop PAGE` | puts a slot at the end of a queue, or a script; fills a slot; takes out the first script |
+//! | `queue ready`, `queue close WINDOW`, `queue fork`, `queue swap` | the page whose script may run; the others as above |
+//! | `copy shape KIND ..`, `copy entry ready BODY`, `copy entry wait SLOT` | a copy of a node's shape, and of an entry of a queue |
 #![tactic(auto)]
 
 ghost use Rattle.std.specs.Prelude.{◌≡◌, ◌<◌};
@@ -32,28 +37,16 @@ mod reading;
 mod records;
 mod requests;
 mod shown;
+mod stores;
 mod table;
 mod variables;
 mod windows;
 mod words;
 
 use anyhow::Result;
-use ff_steps::Steps;
 use std::marker::Brand;
-use std::sync::ledger::{Blank, Ledger};
+use std::sync::ledger::Blank;
 
 fn main(rt: HostRuntime) -> Result<()> {
-    show::<Brand>(&rt, Blank::new(1))
-}
-
-/// Prints what the lines give, and then the rows, with a counter of copies.
-fn show<C: Ledger>(rt: &HostRuntime, copies: Blank) -> Result<()>
-    requires name { copies.name ≡ C.name }
-    requires parts { copies.parts ≡ C.parts }
-    requires some { 0 < copies.parts }
-{
-    let mut copies = Steps::<C>::new(copies);
-    table::run(rt, rt.alloc(), &mut copies)?;
-    queues::show(rt, rt.alloc(), &mut copies)?;
-    records::show(rt, rt.alloc())
+    table::run::<Brand>(&rt, Blank::new(1))
 }

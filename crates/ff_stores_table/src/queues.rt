@@ -1,195 +1,233 @@
-//! Queues of scripts.
-ghost use Rattle.std.specs.Prelude.{◌≡◌, ◌+◌, ◌<◌, OnOk, IfOk};
+//! Queues of scripts, in windows of their own, of which it is counted how many entries they may have.
+ghost use Rattle.std.specs.Prelude.{◌≡◌, ◌+◌, ◌<◌, ◌≤◌, length, OnOk};
 ghost use Rattle.ff_tree.specs.Spelled.{IsWellSpelledExpr};
 ghost use Rattle.ff_windows.specs.Queues.{count_entries};
+ghost use Rattle.ff_stores_table.specs.Counted.{AreCounted};
 
+use crate::reading::{number, page, parted, text};
+use crate::windows::open;
 use crate::words::{spelled, yes_or_no};
-use anyhow::Result;
-use ff_machine::MOST_SLOTS;
-use ff_name::Url;
-use ff_operators::Fail;
+use anyhow::{Result, bail};
+use ff_machine::{MOST_ENTRIES, MOST_SLOTS};
 use ff_script::read_body;
 use ff_steps::Steps;
-use ff_value::{Body, NoMemory, NodeId, PageId, Text, WinId};
+use ff_value::{Url, WinId};
 use ff_windows::Windows;
-use std::alloc::{AllocError, Global};
+use std::alloc::Global;
+use std::mem;
 use std::sync::ledger::Ledger;
 
-/// Prints the rows.
-pub fn show<R: Print, C: Ledger>(rt: &R, alloc: Global, copies: &mut Steps<C>) -> Result<()> {
-    show_filled(rt, alloc, copies)?;
-    show_held_back(rt, alloc, copies)
+/// Windows, the fork of them that is kept, and a number of entries that neither has more of.
+pub struct Queues {
+    windows: Windows,
+    kept: Windows,
+    most: u32,
 }
 
-/// Two slots and a script behind them: the slots are filled out of order.
-fn show_filled<R: Print, C: Ledger>(rt: &R, alloc: Global, copies: &mut Steps<C>) -> Result<()> {
-    println!(rt; "# Two slots and a script behind them, filled out of order")?;
-    let mut windows = one_window(alloc, copies)?;
-    let page = PageId(0);
-    let last = read_body(alloc, "(do 3)")?;
-    show_ready(rt, &windows)?;
-    let first = wait(&mut windows, page, copies)?;
-    let second = wait(&mut windows, page, copies)?;
-    push(&mut windows, page, &last, copies)?;
-    println!(rt; "  slots {first} and {second}")?;
-    show_ready(rt, &windows)?;
-    show_pop(rt, alloc, &mut windows, page, copies)?;
-    show_fill(rt, alloc, &mut windows, second, "(do 2)", copies)?;
-    show_ready(rt, &windows)?;
-    show_pop(rt, alloc, &mut windows, page, copies)?;
-    show_fill(rt, alloc, &mut windows, first, "(do 1)", copies)?;
-    show_ready(rt, &windows)?;
-    show_fill(rt, alloc, &mut windows, first, "(do 9)", copies)?;
-    show_fill(rt, alloc, &mut windows, 7, "(do 9)", copies)?;
-    let mut fork = windows.fork(copies)?;
-    for _script in 0..4 {
-        show_pop(rt, alloc, &mut windows, page, copies)?;
-    }
-    show_ready(rt, &windows)?;
-    println!(rt; "# A fork that was made before scripts were taken out")?;
-    show_ready(rt, &fork)?;
-    show_pop(rt, alloc, &mut fork, page, copies)
-}
-
-/// Two windows: a slot waits at the first, and a script at the second.
-fn show_held_back<R: Print, C: Ledger>(rt: &R, alloc: Global, copies: &mut Steps<C>) -> Result<()> {
-    println!(rt; "# A slot that waits at the first window holds back no script of the second")?;
-    let mut windows = one_window(alloc, copies)?;
-    open(&mut windows, alloc, copies)?;
-    let body = read_body(alloc, "(do 4)")?;
-    wait(&mut windows, PageId(0), copies)?;
-    push(&mut windows, PageId(0), &body, copies)?;
-    push(&mut windows, PageId(1), &body, copies)?;
-    show_ready(rt, &windows)?;
-    println!(rt; "# Both may run, and then the first window is closed")?;
-    show_fill(rt, alloc, &mut windows, 0, "(do 5)", copies)?;
-    show_ready(rt, &windows)?;
-    windows.close(WinId(0), copies)?;
-    show_ready(rt, &windows)?;
-    println!(rt; "# The second is closed too")?;
-    windows.close(WinId(1), copies)?;
-    show_ready(rt, &windows)?;
-    show_pop(rt, alloc, &mut windows, PageId(1), copies)
-}
-
-/// One window with a page of its own.
-fn one_window<C: Ledger>(alloc: Global, copies: &mut Steps<C>) -> Result<Windows, NoMemory>
-    ensures { IfOk result (λ windows. count_entries windows ≡ 0) }
-{
-    let mut windows = Windows::new(alloc);
-    open(&mut windows, alloc, copies)?;
-    Ok(windows)
-}
-
-/// Makes a page of a window, at the blank address.
-#[tactic(auto, using(crate::proofs::Counted::page_counted))]
-fn add<C: Ledger>(
-    windows: &mut Windows,
-    win: WinId,
-    copies: &mut Steps<C>,
-) -> Result<PageId, NoMemory>
-    ensures { OnOk result (count_entries windows.new ≡ count_entries windows.old) }
-{
-    if win.0 > windows.next_win().0 {
-        return Err(AllocError);
-    }
-    match windows.add_page(&Url::Blank, win, NodeId(7), copies) {
-        Ok(page) => Ok(page),
-        Err(_) => Err(AllocError),
+// Written out, so that the proof of a caller sees one call.
+impl Drop for Queues {
+    fn drop(self) {
+        let Queues {
+            windows: _windows,
+            kept: _kept,
+            most: _,
+        } = self;
     }
 }
 
-/// Opens a window with a page of its own.
-fn open<C: Ledger>(
-    windows: &mut Windows,
+impl Queues {
+    /// No windows.
+    pub fn new(alloc: Global) -> Queues
+        ensures { AreCounted result }
+    {
+        Queues {
+            windows: Windows::new(alloc),
+            kept: Windows::new(alloc),
+            most: 0,
+        }
+    }
+}
+
+/// What a line gives.
+pub fn take<C: Ledger>(
     alloc: Global,
+    queues: &mut Queues,
+    line: &str,
     copies: &mut Steps<C>,
-) -> Result<(), NoMemory>
-    ensures { OnOk result (count_entries windows.new ≡ count_entries windows.old) }
+) -> Result<String>
+    requires { AreCounted queues.old }
+    ensures { OnOk result (AreCounted queues.new) }
 {
-    let name = Text::of_str(alloc, "w")?;
-    let win = windows.next_win();
-    let page = add(windows, win, copies)?;
-    if page.0 >= windows.next_page().0 || windows.win_of(page) != windows.next_win() {
-        return Err(AllocError);
-    }
-    match windows.add_window(Some(&name), None, page, copies) {
-        Ok(_) => Ok(()),
-        Err(Fail::Fault(_)) => Ok(()),
-        Err(Fail::NoMemory) => Err(AllocError),
+    let (word, rest) = parted(line);
+    match word {
+        "fork" => keep(alloc, queues, copies),
+        "swap" => swap(alloc, queues),
+        _ => count(alloc, queues, word, rest, copies),
     }
 }
 
-#[tactic(auto, using(crate::proofs::Counted::entry_counted))]
-fn push<C: Ledger>(
-    windows: &mut Windows,
-    page: PageId,
-    body: &Body,
-    copies: &mut Steps<C>,
-) -> Result<(), NoMemory>
-    requires room { count_entries windows.old < 100 }
-    requires spelled { IsWellSpelledExpr body.now }
-    ensures { OnOk result (count_entries windows.new ≡ count_entries windows.old + 1) }
+/// Keeps a fork of the windows.
+fn keep<C: Ledger>(alloc: Global, queues: &mut Queues, copies: &mut Steps<C>) -> Result<String>
+    requires { AreCounted queues.old }
+    ensures { OnOk result (AreCounted queues.new) }
 {
-    if page.0 >= windows.next_page().0 {
-        return Err(AllocError);
+    queues.kept = queues.windows.fork(copies)?;
+    Ok(format!(in alloc; "done")?)
+}
+
+/// Goes on with the fork, and keeps the windows.
+fn swap(alloc: Global, queues: &mut Queues) -> Result<String>
+    requires { AreCounted queues.old }
+    ensures { OnOk result (AreCounted queues.new) }
+{
+    mem::swap(&mut queues.windows, &mut queues.kept);
+    Ok(format!(in alloc; "done")?)
+}
+
+/// Makes a change, and counts an entry for it.
+fn count<C: Ledger>(
+    alloc: Global,
+    queues: &mut Queues,
+    word: &str,
+    rest: &str,
+    copies: &mut Steps<C>,
+) -> Result<String>
+    requires { AreCounted queues.old }
+    ensures { OnOk result (AreCounted queues.new) }
+{
+    if queues.most >= MOST_ENTRIES {
+        bail!("too many lines of queues");
     }
-    windows.push_ready(page, body, copies)
+    let answer = change(alloc, &mut queues.windows, word, rest, copies)?;
+    queues.most += 1;
+    Ok(answer)
+}
+
+/// What a change of the windows gives.
+fn change<C: Ledger>(
+    alloc: Global,
+    windows: &mut Windows,
+    word: &str,
+    rest: &str,
+    copies: &mut Steps<C>,
+) -> Result<String>
+    requires { count_entries windows.old < MOST_ENTRIES }
+    ensures { OnOk result (count_entries windows.new ≤ count_entries windows.old + 1) }
+{
+    match word {
+        "open" => open_one(alloc, windows, rest, copies),
+        "close" => close(alloc, windows, rest, copies),
+        "wait" => wait(alloc, windows, rest, copies),
+        "push" => push(alloc, windows, rest, copies),
+        "fill" => fill(alloc, windows, rest, copies),
+        "pop" => pop(alloc, windows, rest, copies),
+        _ => ready(alloc, windows, word),
+    }
+}
+
+fn open_one<C: Ledger>(
+    alloc: Global,
+    windows: &mut Windows,
+    name: &str,
+    copies: &mut Steps<C>,
+) -> Result<String>
+    ensures { OnOk result (count_entries windows.new ≡ count_entries windows.old) }
+{
+    let name = text(alloc, name)?;
+    match open(windows, &name, None, &Url::Blank, copies) {
+        Ok(n) => Ok(format!(in alloc; "window {}", n.0)?),
+        Err(_) => bail!("no room for a window"),
+    }
+}
+
+fn close<C: Ledger>(
+    alloc: Global,
+    windows: &mut Windows,
+    rest: &str,
+    copies: &mut Steps<C>,
+) -> Result<String>
+    ensures { OnOk result (count_entries windows.new ≡ count_entries windows.old) }
+{
+    let was = windows.close(WinId(number(rest)?), copies)?;
+    Ok(format!(in alloc; "{}", yes_or_no(was))?)
 }
 
 #[tactic(auto, using(crate::proofs::Counted::slot_counted))]
 fn wait<C: Ledger>(
+    alloc: Global,
     windows: &mut Windows,
-    page: PageId,
+    rest: &str,
     copies: &mut Steps<C>,
-) -> Result<u32, NoMemory>
-    requires { count_entries windows.old < 100 }
+) -> Result<String>
+    requires { count_entries windows.old < MOST_ENTRIES }
     ensures { OnOk result (count_entries windows.new ≡ count_entries windows.old + 1) }
 {
-    if page.0 >= windows.next_page().0 || windows.next_slot(page) >= MOST_SLOTS {
-        return Err(AllocError);
+    let page = page(windows, rest)?;
+    if windows.next_slot(page) >= MOST_SLOTS {
+        bail!("no slot");
     }
-    windows.push_wait(page, copies)
+    let slot = windows.push_wait(page, copies)?;
+    Ok(format!(in alloc; "slot {slot}")?)
 }
 
-/// Fills a slot of the first page.
-fn show_fill<R: Print, C: Ledger>(
-    rt: &R,
+#[tactic(auto, using(crate::proofs::Counted::entry_counted))]
+fn push<C: Ledger>(
     alloc: Global,
     windows: &mut Windows,
-    slot: u32,
-    body: &str,
+    rest: &str,
     copies: &mut Steps<C>,
-) -> Result<()> {
-    let script = read_body(alloc, body)?;
-    if windows.next_page().0 > 0 {
-        let waited = windows.fill(PageId(0), slot, &script, copies)?;
-        println!(rt; "  fill {slot} with {body}: {}", yes_or_no(waited))?;
-    }
-    Ok(())
+) -> Result<String>
+    requires { count_entries windows.old < MOST_ENTRIES }
+    ensures { OnOk result (count_entries windows.new ≡ count_entries windows.old + 1) }
+{
+    let (at, body) = parted(rest);
+    let page = page(windows, at)?;
+    let body = read_body(alloc, body)?;
+    windows.push_ready(page, &body, copies)?;
+    Ok(format!(in alloc; "done")?)
 }
 
-fn show_pop<R: Print, C: Ledger>(
-    rt: &R,
+#[tactic(auto, using(crate::proofs::Counted::filled_counted))]
+fn fill<C: Ledger>(
     alloc: Global,
     windows: &mut Windows,
-    page: PageId,
+    rest: &str,
     copies: &mut Steps<C>,
-) -> Result<()> {
-    if page.0 >= windows.next_page().0 {
-        return Ok(());
-    }
+) -> Result<String>
+    ensures { OnOk result (count_entries windows.new ≤ count_entries windows.old) }
+{
+    let (at, rest) = parted(rest);
+    let (slot, body) = parted(rest);
+    let page = page(windows, at)?;
+    let slot = number(slot)?;
+    let body = read_body(alloc, body)?;
+    let waited = windows.fill(page, slot, &body, copies)?;
+    Ok(format!(in alloc; "{}", yes_or_no(waited))?)
+}
+
+#[tactic(auto, using(crate::proofs::Counted::popped_counted))]
+fn pop<C: Ledger>(
+    alloc: Global,
+    windows: &mut Windows,
+    rest: &str,
+    copies: &mut Steps<C>,
+) -> Result<String>
+    ensures { OnOk result (count_entries windows.new ≤ count_entries windows.old) }
+{
+    let page = page(windows, rest)?;
     match windows.pop_ready(page, copies)? {
-        Some(body) => println!(rt; "  pop of {}: {}", page.0, spelled(alloc, body.get())?)?,
-        None => println!(rt; "  pop of {}: none", page.0)?,
+        Some(body) => spelled(alloc, body.get()),
+        None => Ok(format!(in alloc; "none")?),
     }
-    Ok(())
 }
 
-fn show_ready<R: Print>(rt: &R, windows: &Windows) -> Result<()> {
-    match windows.ready() {
-        Some(page) => println!(rt; "  ready: page {}", page.0)?,
-        None => println!(rt; "  ready: none")?,
+/// The page whose script may run.
+fn ready(alloc: Global, windows: &Windows, word: &str) -> Result<String> {
+    if word != "ready" {
+        bail!("no line of queues: {word}");
     }
-    Ok(())
+    match windows.ready() {
+        Some(page) => Ok(format!(in alloc; "page {}", page.0)?),
+        None => Ok(format!(in alloc; "none")?),
+    }
 }

@@ -4,7 +4,7 @@ ghost use Rattle.ff_name.specs.Address.{IsWellSpelled};
 ghost use Rattle.ff_tree.specs.Spelled.{IsVar};
 
 use anyhow::{Context, Result, bail};
-use ff_value::{ActId, Domain, Name, Text, Url, WinId};
+use ff_value::{ActId, Domain, Name, PageId, Text, Url, WinId};
 use ff_windows::Windows;
 use std::alloc::Global;
 
@@ -15,24 +15,18 @@ pub fn parted(line: &str) -> (&str, &str) {
 
 /// The number of 32 bits that a word spells.
 pub fn number(word: &str) -> Result<u32> {
-    match word.parse::<u32>() {
-        Ok(n) => Ok(n),
-        Err(_) => bail!("no number: {word}"),
-    }
+    Ok(word.parse::<u32>()?)
 }
 
 /// The number of 64 bits that a word spells.
 pub fn whole(word: &str) -> Result<i64> {
-    match word.parse::<i64>() {
-        Ok(n) => Ok(n),
-        Err(_) => bail!("no whole number: {word}"),
-    }
+    Ok(word.parse::<i64>()?)
 }
 
-/// Two numbers, one after another.
-pub fn two(words: &str) -> Result<(u32, u32)> {
-    let (first, second) = parted(words);
-    Ok((number(first)?, number(second)?))
+/// The first and the last number of a range, which may be one number.
+pub fn range(word: &str) -> Result<(u32, u32)> {
+    let (first, last) = word.split_once("..").unwrap_or((word, word));
+    Ok((number(first)?, number(last)?))
 }
 
 /// The text that a word spells: `*N` is N times the letter a.
@@ -65,16 +59,18 @@ pub fn address(alloc: Global, word: &str) -> Result<Url>
     Ok(Url::read(alloc, word.as_bytes())?)
 }
 
-/// The first letter of a word.
-pub fn letter(word: &str) -> Result<u8> {
+/// The variable whose one letter a word begins with.
+pub fn variable(alloc: Global, word: &str) -> Result<Name>
+    ensures { IfOk result (λ name. IsVar name) }
+{
     match word.as_bytes() {
-        [letter, ..] => Ok(*letter),
+        [letter, ..] => of_letter(alloc, *letter),
         [] => bail!("no letter"),
     }
 }
 
 /// The variable of one letter.
-pub fn variable(alloc: Global, letter: u8) -> Result<Name>
+pub fn of_letter(alloc: Global, letter: u8) -> Result<Name>
     ensures { IfOk result (λ name. IsVar name) }
 {
     let bytes = [letter];
@@ -93,6 +89,17 @@ pub fn window(windows: &Windows, word: &str) -> Result<WinId>
         bail!("no window: {word}");
     }
     Ok(WinId(n))
+}
+
+/// The page whose number a word spells.
+pub fn page(windows: &Windows, word: &str) -> Result<PageId>
+    ensures { IfOk result (λ page. page.0 < length windows.now.pages) }
+{
+    let n = number(word)?;
+    if n >= windows.next_page().0 {
+        bail!("no page: {word}");
+    }
+    Ok(PageId(n))
 }
 
 /// The activation whose number a word spells.

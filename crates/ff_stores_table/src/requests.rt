@@ -1,12 +1,13 @@
 //! Pending requests.
 
-use crate::reading::{domain, number, parted, text, two};
-use crate::words::truth;
+use crate::reading::{domain, number, parted, text};
+use crate::words::{spelled, yes_or_no};
 use anyhow::{Result, bail};
 use ff_machine::{Dst, Pending};
 use ff_net::Requests;
+use ff_script::read_body;
 use ff_steps::Steps;
-use ff_value::{Domain, NoMemory, Text, WinId};
+use ff_value::{ActId, Code, Names, PageId, WinId};
 use std::alloc::Global;
 use std::sync::ledger::Ledger;
 
@@ -19,23 +20,21 @@ pub fn take<C: Ledger>(
 ) -> Result<String> {
     let (word, rest) = parted(line);
     match word {
-        "room" => room(alloc, requests, rest),
-        "count" => count(alloc, requests, rest),
         "ask" => ask(alloc, requests, rest, copies),
         "answer" => answer(alloc, requests, rest, copies),
-        "fill" => fill(alloc, requests, rest, copies),
-        _ => bail!("no line of requests: {word}"),
+        "copy" => copy(alloc, rest),
+        _ => counted(alloc, requests, word, rest),
     }
 }
 
-fn room(alloc: Global, requests: &Requests, rest: &str) -> Result<String> {
+/// How many requests of a domain are pending, or whether there is room for one more.
+fn counted(alloc: Global, requests: &Requests, word: &str, rest: &str) -> Result<String> {
     let to = domain(alloc, rest)?;
-    Ok(truth(alloc, requests.room(&to))?)
-}
-
-fn count(alloc: Global, requests: &Requests, rest: &str) -> Result<String> {
-    let to = domain(alloc, rest)?;
-    Ok(format!(in alloc; "{}", requests.len(&to))?)
+    match word {
+        "count" => Ok(format!(in alloc; "{}", requests.len(&to))?),
+        "room" => Ok(format!(in alloc; "{}", yes_or_no(requests.room(&to)))?),
+        _ => bail!("no line of requests: {word}"),
+    }
 }
 
 fn ask<C: Ledger>(
@@ -45,26 +44,37 @@ fn ask<C: Ledger>(
     copies: &mut Steps<C>,
 ) -> Result<String> {
     let (to, rest) = parted(rest);
-    let (uri, window) = parted(rest);
+    let (uri, dst) = parted(rest);
     let to = domain(alloc, to)?;
+    if !requests.room(&to) {
+        return Ok(format!(in alloc; "no room")?);
+    }
     let uri = text(alloc, uri)?;
-    let asked = ask_one(requests, &to, &uri, number(window)?, copies)?;
-    Ok(format!(in alloc; "{}", if asked { "done" } else { "no room" })?)
+    let dst = destination(alloc, dst)?;
+    requests.ask(&to, &uri, dst, copies)?;
+    Ok(format!(in alloc; "done")?)
 }
 
-/// Asks for a window, where there is room, and says whether there was.
-fn ask_one<C: Ledger>(
-    requests: &mut Requests,
-    to: &Domain,
-    uri: &Text,
-    window: u32,
-    copies: &mut Steps<C>,
-) -> Result<bool, NoMemory> {
-    if !requests.room(to) {
-        return Ok(false);
+/// What a reply is for.
+fn destination(alloc: Global, words: &str) -> Result<Dst> {
+    let (word, rest) = parted(words);
+    let (first, rest) = parted(rest);
+    let first = number(first)?;
+    match word {
+        "window" => Ok(Dst::Window(WinId(first))),
+        "slot" => Ok(Dst::Slot(PageId(first), number(rest)?)),
+        "call" => Ok(Dst::Call(PageId(first), callback(alloc, rest)?)),
+        _ => bail!("nothing that a reply is for: {word}"),
     }
-    requests.ask(to, uri, Dst::Window(WinId(window)), copies)?;
-    Ok(true)
+}
+
+/// A function without parameters.
+fn callback(alloc: Global, words: &str) -> Result<Code> {
+    let (env, body) = parted(words);
+    let env = ActId(number(env)?);
+    let body = read_body(alloc, body)?;
+    let params = Names::from_vec(alloc, Vec::new(alloc))?;
+    Ok(Code { params, body, env })
 }
 
 fn answer<C: Ledger>(
@@ -76,33 +86,36 @@ fn answer<C: Ledger>(
     let (to, place) = parted(rest);
     let to = domain(alloc, to)?;
     match requests.answer(&to, number(place)?, copies)? {
-        Some(pending) => Ok(pending_words(alloc, &pending)?),
+        Some(pending) => pending_words(alloc, &pending),
         None => Ok(format!(in alloc; "none")?),
     }
 }
 
-fn pending_words(alloc: Global, pending: &Pending) -> Result<String, NoMemory> {
+fn pending_words(alloc: Global, pending: &Pending) -> Result<String> {
     let uri = pending.uri.as_str();
     match &pending.dst {
-        Dst::Window(window) => format!(in alloc; "{uri} for window {}", window.0),
-        _ => format!(in alloc; "{uri} for no window"),
+        Dst::Window(window) => Ok(format!(in alloc; "{uri} for window {}", window.0)?),
+        Dst::Slot(page, slot) => Ok(format!(in alloc; "{uri} for slot {slot} of page {}", page.0)?),
+        Dst::Call(page, code) => {
+            let code = code_words(alloc, code)?;
+            Ok(format!(in alloc; "{uri} for a function of page {} and {code}", page.0)?)
+        }
     }
 }
 
-fn fill<C: Ledger>(
-    alloc: Global,
-    requests: &mut Requests,
-    rest: &str,
-    copies: &mut Steps<C>,
-) -> Result<String> {
-    let (domains, each) = two(rest)?;
-    let uri = text(alloc, "/")?;
-    let mut asked = true;
-    for number in 0..domains {
-        let to = domain(alloc, format!(in alloc; "d{number}")?.as_str())?;
-        for _time in 0..each {
-            asked = ask_one(requests, &to, &uri, 0, copies)?;
-        }
-    }
-    Ok(format!(in alloc; "{}", if asked { "done" } else { "no room" })?)
+fn code_words(alloc: Global, code: &Code) -> Result<String> {
+    let body = spelled(alloc, code.body.get())?;
+    let many = code.params.len();
+    Ok(format!(in alloc; "activation {}, {many} parameters, {body}", code.env.0)?)
+}
+
+fn copy(alloc: Global, rest: &str) -> Result<String> {
+    let (uri, dst) = parted(rest);
+    let uri = text(alloc, uri)?;
+    let dst = destination(alloc, dst)?;
+    pending_words(alloc, &copied(Pending { uri, dst })?)
+}
+
+fn copied(pending: Pending) -> Result<Pending> {
+    Ok(pending.copy()?)
 }

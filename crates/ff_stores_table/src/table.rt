@@ -1,111 +1,103 @@
 //! The lines, one after another.
+ghost use Rattle.std.specs.Prelude.{◌≡◌, ◌<◌};
 
-use crate::reading::parted;
-use crate::{cookies, requests, shown, variables, windows};
+use crate::queues::Queues;
+use crate::reading::{parted, range};
+use crate::stores::{Case, Stores};
+use crate::{cookies, queues, records, requests, variables, windows};
 use anyhow::{Result, bail};
-use ff_net::{Jar, Requests};
 use ff_steps::Steps;
-use ff_windows::Windows;
 use std::alloc::Global;
-use std::mem;
-use std::sync::ledger::Ledger;
+use std::sync::ledger::{Blank, Ledger};
 
-/// The stores that the lines change.
-#[derive(Drop)]
-struct Stores {
-    jar: Jar,
-    requests: Requests,
-    windows: Windows,
-}
-
-/// The stores, and the fork of them that is kept.
-#[derive(Drop)]
-struct Table {
-    stores: Stores,
-    kept: Stores,
-}
-
-/// Prints each line and what it gives.
-pub fn run<C: Ledger>(rt: &HostRuntime, alloc: Global, copies: &mut Steps<C>) -> Result<()> {
-    let mut table = Table {
-        stores: empty(alloc),
-        kept: empty(alloc),
-    };
-    for line in rt.lines(alloc) {
+/// Prints each line, and what its call answered.
+pub fn run<C: Ledger>(rt: &HostRuntime, blank: Blank) -> Result<()>
+    requires name { blank.name ≡ C.name }
+    requires parts { blank.parts ≡ C.parts }
+    requires some { 0 < blank.parts }
+{
+    let mut copies = Steps::<C>::new(blank);
+    let mut case = Case::new(rt.alloc());
+    let mut queues = Queues::new(rt.alloc());
+    for line in rt.lines(rt.alloc()) {
         let line = line?;
         println!(rt; "{line}")?;
-        follow(rt, alloc, &mut table, line.as_str(), copies)?;
+        let (word, rest) = parted(line.as_str());
+        let answer = match word {
+            "##" => continue,
+            "#" => {
+                case = Case::new(rt.alloc());
+                queues = Queues::new(rt.alloc());
+                continue;
+            }
+            "queue" => queues::take(rt.alloc(), &mut queues, rest, &mut copies)?,
+            _ => follow(rt.alloc(), &mut case, line.as_str(), &mut copies)?,
+        };
+        println!(rt; "  {answer}")?;
     }
     Ok(())
 }
 
-fn empty(alloc: Global) -> Stores {
-    Stores {
-        jar: Jar::new(alloc),
-        requests: Requests::new(alloc),
-        windows: Windows::new(alloc),
-    }
-}
-
-fn fork<C: Ledger>(stores: &Stores, copies: &mut Steps<C>) -> Result<Stores> {
-    Ok(Stores {
-        jar: stores.jar.fork(copies)?,
-        requests: stores.requests.fork(copies)?,
-        windows: stores.windows.fork(copies)?,
-    })
-}
-
-/// Does what a line says.
+/// What a line gives that may be about both the stores and their fork.
 fn follow<C: Ledger>(
-    rt: &HostRuntime,
     alloc: Global,
-    table: &mut Table,
+    case: &mut Case,
     line: &str,
     copies: &mut Steps<C>,
-) -> Result<()> {
+) -> Result<String> {
     let (word, rest) = parted(line);
     match word {
-        "#" => Ok(()),
-        "new" => begin(alloc, table),
-        "fork" => keep(table, copies),
-        "swap" => swap(table),
-        "windows" => shown::all(rt, alloc, &table.stores.windows),
-        _ => {
-            let answer = take(alloc, &mut table.stores, word, rest, copies)?;
-            println!(rt; "  {answer}")?;
-            Ok(())
+        "fork" => case.keep(copies)?,
+        "swap" => case.swap(),
+        "each" => return each(alloc, &mut case.stores, rest, copies),
+        _ => return take(alloc, &mut case.stores, line, copies),
+    }
+    Ok(format!(in alloc; "done")?)
+}
+
+/// What the last of the lines gives that a line stands for.
+fn each<C: Ledger>(
+    alloc: Global,
+    stores: &mut Stores,
+    rest: &str,
+    copies: &mut Steps<C>,
+) -> Result<String> {
+    let (outer, rest) = parted(rest);
+    let (inner, line) = parted(rest);
+    let (first, last) = range(outer)?;
+    let (from, to) = range(inner)?;
+    let mut answer = String::new(alloc);
+    for n in first..=last {
+        for k in from..=to {
+            let line = numbered(alloc, line, n, k)?;
+            answer = take(alloc, stores, line.as_str(), copies)?;
         }
     }
+    Ok(answer)
 }
 
-fn begin(alloc: Global, table: &mut Table) -> Result<()> {
-    table.stores = empty(alloc);
-    Ok(())
-}
-
-fn keep<C: Ledger>(table: &mut Table, copies: &mut Steps<C>) -> Result<()> {
-    table.kept = fork(&table.stores, copies)?;
-    Ok(())
-}
-
-fn swap(table: &mut Table) -> Result<()> {
-    mem::swap(&mut table.stores, &mut table.kept);
-    Ok(())
+/// A line with numbers in the places of its marks.
+fn numbered(alloc: Global, line: &str, n: u32, k: u32) -> Result<String> {
+    let n = format!(in alloc; "{n}")?;
+    let k = format!(in alloc; "{k}")?;
+    let line = line.replace(alloc, '%', n.as_str())?;
+    Ok(line.as_str().replace(alloc, '&', k.as_str())?)
 }
 
 /// What a line gives that is about one of the stores.
 fn take<C: Ledger>(
     alloc: Global,
     stores: &mut Stores,
-    word: &str,
-    rest: &str,
+    line: &str,
     copies: &mut Steps<C>,
 ) -> Result<String> {
+    let (word, rest) = parted(line);
     match word {
         "cookie" => cookies::take(alloc, &mut stores.jar, rest, copies),
         "request" => requests::take(alloc, &mut stores.requests, rest, copies),
         "window" => windows::take(alloc, &mut stores.windows, rest, copies),
         "variable" => variables::take(alloc, &mut stores.windows, rest, copies),
+        "copy" => records::take(alloc, rest),
         _ => bail!("no line of the table: {word}"),
     }
 }

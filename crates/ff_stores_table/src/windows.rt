@@ -1,13 +1,16 @@
 //! Windows and their pages.
-ghost use Rattle.std.specs.Prelude.{◌<◌, length};
+ghost use Rattle.std.specs.Prelude.{◌≡◌, ◌<◌, length, OnOk};
+ghost use Rattle.std.specs.Option.{ForSome};
 ghost use Rattle.ff_name.specs.Address.{IsWellSpelled};
+ghost use Rattle.ff_windows.specs.Queues.{count_entries};
 
 use crate::reading::{address, number, parted, text, window};
-use crate::words::{refused, truth};
-use anyhow::{Result, bail};
+use crate::shown;
+use crate::words::{refused, yes_or_no};
+use anyhow::Result;
 use ff_operators::Fail;
 use ff_steps::Steps;
-use ff_value::{NoMemory, NodeId, PageId, Text, Url, WinId};
+use ff_value::{Fault, NodeId, PageId, Text, Url, WinId};
 use ff_windows::Windows;
 use std::alloc::Global;
 use std::sync::ledger::Ledger;
@@ -24,11 +27,7 @@ pub fn take<C: Ledger>(
         "open" => open_line(alloc, windows, rest, copies),
         "load" => load_line(alloc, windows, rest, copies),
         "close" => close(alloc, windows, rest, copies),
-        "fill" => fill(alloc, windows, rest, copies),
-        "pages" => pages(alloc, windows, rest, copies),
-        "at" => at(alloc, windows, rest),
-        "room" => Ok(truth(alloc, windows.can_add())?),
-        _ => bail!("no line of windows: {word}"),
+        _ => shown::ask(alloc, windows, word, rest),
     }
 }
 
@@ -40,49 +39,55 @@ fn open_line<C: Ledger>(
 ) -> Result<String> {
     let (name, rest) = parted(rest);
     let (opener, url) = parted(rest);
+    let opener = opener_of(windows, opener)?;
     let name = text(alloc, name)?;
     let url = address(alloc, url)?;
-    let answer = match opener {
-        "-" => open(windows, &name, None, &url, copies)?,
-        _ => {
-            let opener = window(windows, opener)?;
-            open(windows, &name, Some(opener), &url, copies)?
-        }
-    };
-    Ok(opened(alloc, answer)?)
+    match open(windows, &name, opener, &url, copies) {
+        Ok(n) => Ok(format!(in alloc; "window {}", n.0)?),
+        Err(fail) => Ok(refused(alloc, fail)?),
+    }
+}
+
+/// The opener that a word names; `-` is none.
+fn opener_of(windows: &Windows, word: &str) -> Result<Option<WinId>> {
+    match word {
+        "-" => Ok(None),
+        _ => Ok(Some(window(windows, word)?)),
+    }
 }
 
 /// Makes a page of a window that there is or of the next one. Its root has its own number and 7.
+#[tactic(auto, using(crate::proofs::Counted::page_counted))]
 fn add<C: Ledger>(
     windows: &mut Windows,
     url: &Url,
     win: WinId,
     copies: &mut Steps<C>,
-) -> Result<Result<PageId, Fail>>
+) -> Result<PageId, Fail>
     requires { IsWellSpelled url.now }
+    ensures { OnOk result (count_entries windows.new ≡ count_entries windows.old) }
 {
     if win.0 > windows.next_win().0 {
-        bail!("no window");
+        return Err(Fail::Fault(Fault::Dead));
     }
     let root = NodeId(windows.next_page().0.saturating_add(7));
-    Ok(windows.add_page(url, win, root, copies))
+    windows.add_page(url, win, root, copies)
 }
 
 /// Opens a window by an opener or none, with a page of its own at an address.
-fn open<C: Ledger>(
+pub fn open<C: Ledger>(
     windows: &mut Windows,
     name: &Text,
     opener: Option<WinId>,
     url: &Url,
     copies: &mut Steps<C>,
-) -> Result<Result<WinId, Fail>>
+) -> Result<WinId, Fail>
     requires { IsWellSpelled url.now }
+    ensures { OnOk result (count_entries windows.new ≡ count_entries windows.old) }
 {
     let win = windows.next_win();
-    match add(windows, url, win, copies)? {
-        Ok(page) => show(windows, name, opener, page, copies),
-        Err(fail) => Ok(Err(fail)),
-    }
+    let page = add(windows, url, win, copies)?;
+    show(windows, name, opener, page, copies)
 }
 
 /// Opens a window with the page that was made for it.
@@ -92,21 +97,16 @@ fn show<C: Ledger>(
     opener: Option<WinId>,
     page: PageId,
     copies: &mut Steps<C>,
-) -> Result<Result<WinId, Fail>> {
+) -> Result<WinId, Fail>
+    ensures { OnOk result (count_entries windows.new ≡ count_entries windows.old) }
+{
     if page.0 >= windows.next_page().0 || windows.win_of(page) != windows.next_win() {
-        bail!("no page of the window");
+        return Err(Fail::Fault(Fault::Dead));
     }
     match opener {
-        Some(o) if o.0 >= windows.next_win().0 => bail!("no opener"),
-        Some(o) => Ok(windows.add_window(Some(name), Some(o), page, copies)),
-        None => Ok(windows.add_window(Some(name), None, page, copies)),
-    }
-}
-
-fn opened(alloc: Global, answer: Result<WinId, Fail>) -> Result<String, NoMemory> {
-    match answer {
-        Ok(n) => format!(in alloc; "window {}", n.0),
-        Err(fail) => refused(alloc, &fail),
+        Some(o) if o.0 >= windows.next_win().0 => Err(Fail::Fault(Fault::Dead)),
+        Some(o) => windows.add_window(Some(name), Some(o), page, copies),
+        None => windows.add_window(Some(name), None, page, copies),
     }
 }
 
@@ -119,13 +119,9 @@ fn load_line<C: Ledger>(
     let (n, url) = parted(rest);
     let n = window(windows, n)?;
     let url = address(alloc, url)?;
-    Ok(loaded(alloc, load(windows, &url, n, copies)?)?)
-}
-
-fn loaded(alloc: Global, answer: Result<PageId, Fail>) -> Result<String, NoMemory> {
-    match answer {
-        Ok(page) => format!(in alloc; "page {}", page.0),
-        Err(fail) => refused(alloc, &fail),
+    match load(windows, &url, n, copies) {
+        Ok(page) => Ok(format!(in alloc; "page {}", page.0)?),
+        Err(fail) => Ok(refused(alloc, fail)?),
     }
 }
 
@@ -135,30 +131,15 @@ fn load<C: Ledger>(
     url: &Url,
     n: WinId,
     copies: &mut Steps<C>,
-) -> Result<Result<PageId, Fail>>
+) -> Result<PageId, Fail>
     requires { IsWellSpelled url.now }
 {
-    match add(windows, url, n, copies)? {
-        Ok(page) => {
-            show_other(windows, n, page, copies)?;
-            Ok(Ok(page))
-        }
-        Err(fail) => Ok(Err(fail)),
-    }
-}
-
-/// Shows the page that was made for an open window.
-fn show_other<C: Ledger>(
-    windows: &mut Windows,
-    n: WinId,
-    page: PageId,
-    copies: &mut Steps<C>,
-) -> Result<()> {
+    let page = add(windows, url, n, copies)?;
     if page.0 >= windows.next_page().0 || windows.win_of(page) != n || !windows.is_open(n) {
-        bail!("no page of an open window");
+        return Err(Fail::Fault(Fault::Dead));
     }
     windows.show_page(n, page, copies)?;
-    Ok(())
+    Ok(page)
 }
 
 fn close<C: Ledger>(
@@ -168,41 +149,5 @@ fn close<C: Ledger>(
     copies: &mut Steps<C>,
 ) -> Result<String> {
     let was = windows.close(WinId(number(rest)?), copies)?;
-    Ok(truth(alloc, was)?)
-}
-
-fn fill<C: Ledger>(
-    alloc: Global,
-    windows: &mut Windows,
-    rest: &str,
-    copies: &mut Steps<C>,
-) -> Result<String> {
-    let many = number(rest)?;
-    let name = text(alloc, "w")?;
-    let mut last = Ok(WinId(0));
-    for _window in 0..many {
-        last = open(windows, &name, None, &Url::Blank, copies)?;
-    }
-    Ok(opened(alloc, last)?)
-}
-
-fn pages<C: Ledger>(
-    alloc: Global,
-    windows: &mut Windows,
-    rest: &str,
-    copies: &mut Steps<C>,
-) -> Result<String> {
-    let many = number(rest)?;
-    let mut last = Ok(PageId(0));
-    for _page in 0..many {
-        last = load(windows, &Url::Blank, WinId(0), copies)?;
-    }
-    Ok(loaded(alloc, last)?)
-}
-
-fn at(alloc: Global, windows: &Windows, rest: &str) -> Result<String> {
-    match windows.at(number(rest)?) {
-        Some(n) => Ok(format!(in alloc; "window {}", n.0)?),
-        None => Ok(format!(in alloc; "none")?),
-    }
+    Ok(format!(in alloc; "{}", yes_or_no(was))?)
 }

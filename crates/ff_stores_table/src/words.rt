@@ -3,7 +3,7 @@
 use anyhow::Result;
 use ff_operators::Fail;
 use ff_printing::print_expr;
-use ff_value::{Expr, NoMemory, Url, Val};
+use ff_value::{Expr, NoMemory, Url};
 use std::alloc::Global;
 
 /// A script.
@@ -20,37 +20,36 @@ pub fn address(alloc: Global, url: &Url) -> Result<String> {
     Ok(String::from_utf8(out)?)
 }
 
-/// A number, or that there is none.
-pub fn found(alloc: Global, value: Option<&Val>) -> Result<String, NoMemory> {
-    match value {
-        Some(Val::Num(n)) => format!(in alloc; "{n}"),
-        Some(_) => format!(in alloc; "another"),
-        None => format!(in alloc; "none"),
-    }
-}
-
 /// How a call ended.
 pub fn ended(alloc: Global, answer: Result<(), Fail>) -> Result<String, NoMemory> {
     match answer {
         Ok(()) => format!(in alloc; "done"),
-        Err(fail) => refused(alloc, &fail),
+        Err(fail) => refused(alloc, fail),
     }
 }
 
 /// Why a call was refused.
-pub fn refused(alloc: Global, fail: &Fail) -> Result<String, NoMemory> {
+pub fn refused(alloc: Global, fail: Fail) -> Result<String, NoMemory> {
     match fail {
         Fail::Fault(fault) => format!(in alloc; "fault {}", fault.word()),
         Fail::NoMemory => format!(in alloc; "no memory"),
     }
 }
 
+/// A number of what it counts, or the word where there is none.
+pub fn or_else(
+    alloc: Global,
+    what: &str,
+    number: Option<u32>,
+    none: &str,
+) -> Result<String, NoMemory> {
+    match number {
+        Some(number) => format!(in alloc; "{what} {number}"),
+        None => format!(in alloc; "{none}"),
+    }
+}
+
 /// A truth value.
 pub fn yes_or_no(yes: bool) -> &'static str {
     if yes { "yes" } else { "no" }
-}
-
-/// A truth value, as an answer.
-pub fn truth(alloc: Global, yes: bool) -> Result<String, NoMemory> {
-    format!(in alloc; "{}", yes_or_no(yes))
 }

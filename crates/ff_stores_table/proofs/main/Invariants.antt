@@ -1,4 +1,4 @@
 use Rattle.ff_stores_table.proofs.main.Given as goal
 
-abbrev pub ghosts-show : goal.ghosts-show
-ghosts-show a = record { name = a.copies.name; parts = a.copies.parts }
+abbrev pub ghosts-run : goal.ghosts-run
+ghosts-run a = record { name = a.blank.name; parts = a.blank.parts }
