@@ -1,6 +1,6 @@
-//! Queues of scripts, in windows of their own, of which it is counted how many entries they may have.
-ghost use Rattle.std.specs.Prelude.{◌≡◌, ◌+◌, ◌<◌, ◌≤◌, length, OnOk};
-ghost use Rattle.ff_tree.specs.Spelled.{IsWellSpelledExpr};
+//! Queues of scripts, in windows of their own. How many entries these may have is counted, so that
+//! there is room for one more.
+ghost use Rattle.std.specs.Prelude.{◌≡◌, ◌+◌, ◌<◌, ◌≤◌, OnOk};
 ghost use Rattle.ff_windows.specs.Queues.{count_entries};
 ghost use Rattle.ff_stores_table.specs.Counted.{AreCounted};
 

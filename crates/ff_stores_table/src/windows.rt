@@ -1,6 +1,5 @@
 //! Windows and their pages.
-ghost use Rattle.std.specs.Prelude.{◌≡◌, ◌<◌, length, OnOk};
-ghost use Rattle.std.specs.Option.{ForSome};
+ghost use Rattle.std.specs.Prelude.{◌≡◌, OnOk};
 ghost use Rattle.ff_name.specs.Address.{IsWellSpelled};
 ghost use Rattle.ff_windows.specs.Queues.{count_entries};
 
