@@ -1,5 +1,6 @@
 pub mod Plugs
 pub mod Steps
+pub mod Ends
 pub mod Walk
 pub mod Reading
 pub mod Taking

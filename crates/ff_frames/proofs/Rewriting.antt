@@ -1,5 +1,5 @@
 -- A stack with its redex rewritten.
-use Rattle.std.proofs.Common.{◌≡◌, ◌≤◌, ◌<◌, ◌+◌, ◌-◌, ◌++◌, ◌∷◌, List, [], false, refl, sym, ap, ◌∙◌, arith}
+use Rattle.std.proofs.Common.{◌≡◌, ◌≤◌, ◌<◌, ◌+◌, ◌++◌, ◌∷◌, List, [], Result, Ok, Err, OnOk, false, refl, sym, ap, ◌∙◌, arith}
 use Rattle.ff_tree.specs.declared.tree.Expr.{Expr, out-Expr}
 use Rattle.ff_tree.specs.declared.tree.Doc.{Doc}
 use Rattle.ff_tree.specs.declared.tree.Handler.{Handler}
@@ -201,3 +201,10 @@ by-redex g e = both _ _ _ _ refl (sym (rewritten-redex g e.expr))
 -- the same of an equal evaluation
 pub put-by : (g : Running → Running) (t : Evaluation) (e f : Evaluation) → t ≡ rewritten_in (λ _. g (redex e.expr)) e → e ≡ f → t ≡ rewritten_in g f
 put-by g t e f p q = p ∙ by-redex g e ∙ ap (rewritten_in g) q
+
+-- the same of a stack that is kept where its change was made
+pub kept-by : {T E : Type 0} (g : Running → Running) (done : Result T E) (result : Result T E) (s t u : Stack) (e : Evaluation)
+    → result ≡ done → OnOk done (u ≡ t) → OnOk done (evaluation t ≡ rewritten_in (λ _. g (redex (evaluation s).expr)) (evaluation s)) → evaluation s ≡ e
+    → OnOk result (evaluation u ≡ rewritten_in g e)
+kept-by g (Ok x) result s t u e is kept by same = rw is (ap evaluation kept ∙ put-by g (evaluation t) (evaluation s) e by same)
+kept-by g (Err x) result s t u e is kept by same = rw is tt

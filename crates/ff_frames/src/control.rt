@@ -5,6 +5,7 @@ ghost use Rattle.ff_term.specs.Rows.{IsLocal, IsTest, branch, local_row};
 ghost use Rattle.ff_term.specs.Whole.{whole};
 ghost use Rattle.ff_term.specs.Redexes.{IsRedexOf};
 ghost use Rattle.ff_term.specs.Calls.{calls_around};
+ghost use Rattle.ff_frames.specs.Stacks.{IsValid};
 
 use crate::stack::Stack;
 use ff_term::{MOST_CALLS, Redex};
@@ -12,7 +13,6 @@ use ff_tree::Body;
 use ff_value::{ActId, Code, NoMemory, Val};
 use std::alloc::Global;
 use std::marker::Model;
-use std::mem;
 
 /// A script's control: contracts see a runtime expression, and the activation in which it runs
 /// where no call stands around.
@@ -35,6 +35,19 @@ impl Model for Control {
     ghost view = { λ c. evaluation c.stack };
 
     ghost invariant = { λ c. IsValid c.stack };
+}
+
+/// Keeps a stack whose change was made, and empties one whose change was refused.
+fn kept(alloc: Global, stack: &mut Stack, done: Result<(), NoMemory>) -> Result<(), NoMemory>
+    requires { OnOk done (IsValid stack.old) }
+    ensures answer { result ≡ done }
+    ensures valid { IsValid stack.new }
+    ensures kept { OnOk done (stack.new ≡ stack.old) }
+{
+    if done.is_err() {
+        *stack = Stack::empty(alloc);
+    }
+    done
 }
 
 impl Control {
@@ -118,9 +131,8 @@ impl Control {
         requires local { IsLocal (redex self.old.expr) }
         ensures { OnOk result (self.new ≡ rewritten_in local_row self.old) }
     {
-        let stack = mem::replace(&mut self.stack, Stack::empty(alloc));
-        self.stack = stack.reduced(alloc)?;
-        Ok(())
+        let done = self.stack.reduce(alloc);
+        kept(alloc, &mut self.stack, done)
     }
 
     /// Takes a branch of an `if` whose test is evaluated.
@@ -129,9 +141,8 @@ impl Control {
         requires test { IsTest (redex self.old.expr) }
         ensures { OnOk result (self.new ≡ rewritten_in (branch yes) self.old) }
     {
-        let stack = mem::replace(&mut self.stack, Stack::empty(alloc));
-        self.stack = stack.chosen(alloc, yes)?;
-        Ok(())
+        let done = self.stack.choose(alloc, yes);
+        kept(alloc, &mut self.stack, done)
     }
 
     /// Puts a value for the redex.
@@ -139,9 +150,8 @@ impl Control {
         requires { is_value self.old.expr ≡ false }
         ensures { OnOk result (self.new ≡ rewritten_in (λ _. Done value) self.old) }
     {
-        let stack = mem::replace(&mut self.stack, Stack::empty(alloc));
-        self.stack = stack.given(alloc, value)?;
-        Ok(())
+        let done = self.stack.give(alloc, value);
+        kept(alloc, &mut self.stack, done)
     }
 
     /// Puts a call for the redex, which runs in an activation of its own.
@@ -150,8 +160,7 @@ impl Control {
         requires shallow { insides self.old.expr < MOST_CALLS }
         ensures { OnOk result (self.new ≡ rewritten_in (λ _. Inside act (whole body.now)) self.old) }
     {
-        let stack = mem::replace(&mut self.stack, Stack::empty(alloc));
-        self.stack = stack.entered(alloc, act, body)?;
-        Ok(())
+        let done = self.stack.enter(alloc, act, body);
+        kept(alloc, &mut self.stack, done)
     }
 }

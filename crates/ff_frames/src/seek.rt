@@ -57,19 +57,19 @@ fn opened_do(parts: &Exprs) -> Result<Option<(Frame, Focus)>, NoMemory>
 
 /// Puts a value into the innermost frame, and gives the operand that is next, or `None` and the
 /// frame as it was where the value was that of the last.
-pub fn fed(frame: Frame, value: &Val) -> Result<(Frame, Option<Focus>), NoMemory>
-    ensures { IfOk result (λ p. IsFeeding frame value.now p.0 p.1) }
+pub fn fed(frame: &mut Frame, value: &Val) -> Result<Option<Focus>, NoMemory>
+    ensures { IfOk result (IsFeeding frame.old value.now frame.new) }
 {
     match frame {
-        Frame::Part(form, mut values) => match operand(form.get(), values.as_slice().len() + 1)? {
-            None => Ok((Frame::Part(form, values), None)),
+        Frame::Part(form, values) => match operand(form.get(), values.as_slice().len() + 1)? {
+            None => Ok(None),
             Some(part) => {
                 let next = focus_on(part)?;
                 values.push(value.copy()?)?;
-                Ok((Frame::Part(form, values), Some(next)))
+                Ok(Some(next))
             }
         },
-        other => Ok((other, None)),
+        _ => Ok(None),
     }
 }
 
@@ -90,19 +90,15 @@ pub fn step(alloc: Global, frames: &mut Vec<Frame>, focus: &mut Focus) -> Result
                 Ok(true)
             }
         },
-        Focus::Value(value) => match frames.pop() {
+        Focus::Value(value) => match frames.last_mut() {
             None => Ok(false),
-            Some(frame) => {
-                let (frame, next) = fed(frame, value)?;
-                frames.push(frame)?;
-                match next {
-                    None => Ok(false),
-                    Some(next) => {
-                        put(focus, next);
-                        Ok(true)
-                    }
+            Some(frame) => match fed(frame, value)? {
+                None => Ok(false),
+                Some(next) => {
+                    put(focus, next);
+                    Ok(true)
                 }
-            }
+            },
         },
     }
 }

@@ -1,4 +1,4 @@
-ghost use Rattle.std.specs.Prelude.{◌≡◌, ◌≤◌, ◌<◌, ◌++◌, ◌∷◌, [], List, MatchOption, false, IfOk};
+ghost use Rattle.std.specs.Prelude.{◌≡◌, ◌≤◌, ◌<◌, ◌++◌, ◌∷◌, [], List, MatchOption, false, IfOk, OnOk};
 ghost use Rattle.ff_term.specs.Rows.{IsLocal, IsTest, branch, local_row};
 ghost use Rattle.ff_frames.specs.declared.frame.Frame.{Frame};
 ghost use Rattle.ff_term.specs.Redexes.{IsRedexOf};
@@ -65,13 +65,14 @@ impl Stack {
         ensures valid { IfOk result IsValid }
     {
         let focus = focus_on(Source::of(body)?)?;
-        let stack = Stack {
+        let mut stack = Stack {
             frames: Vec::new(alloc),
             focus,
             act,
             depth: 0,
         };
-        stack.sought(alloc)
+        stack.seek(alloc)?;
+        Ok(stack)
     }
 
     /// The stack of a call of a function with one argument.
@@ -82,13 +83,14 @@ impl Stack {
         let frame = call_frame(alloc, code)?;
         let mut frames = Vec::new(alloc);
         frames.push(frame)?;
-        let stack = Stack {
+        let mut stack = Stack {
             frames,
             focus: Focus::Value(arg.copy()?),
             act,
             depth: 0,
         };
-        stack.sought(alloc)
+        stack.seek(alloc)?;
+        Ok(stack)
     }
 
     /// An equal stack.
@@ -110,95 +112,93 @@ impl Stack {
     }
 
     /// Walks to the redex.
-    pub fn sought(mut self, alloc: Global) -> Result<Stack, NoMemory>
-        requires { IsReady self }
-        ensures same { IfOk result (λ s. evaluation s ≡ evaluation self) }
-        ensures valid { IfOk result IsValid }
+    fn seek(&mut self, alloc: Global) -> Result<(), NoMemory>
+        requires { IsReady self.old }
+        ensures same { OnOk result (evaluation self.new ≡ evaluation self.old) }
+        ensures valid { OnOk result (IsValid self.new) }
     {
-        seek(alloc, &mut self.frames, &mut self.focus)?;
-        Ok(self)
+        seek(alloc, &mut self.frames, &mut self.focus)
     }
 
     /// Goes out of a frame that is taken off.
-    fn out_of(mut self, frame: Frame) -> Stack
-        requires { is_call frame ≤ self.depth }
-        ensures { result ≡ out_of frame self }
+    fn go_out_of(&mut self, frame: Frame)
+        requires { is_call frame ≤ self.old.depth }
+        ensures { self.new ≡ out_of frame self.old }
     {
         if let Frame::Inside(outer) = frame {
             self.act = outer;
             self.depth -= 1;
         }
-        self
     }
 
     /// Takes the redex out.
-    fn without_redex(mut self) -> Stack
-        requires valid { IsValid self }
-        requires open { is_value (evaluation self).expr ≡ false }
-        ensures { IsWithoutRedex self result }
+    fn take_redex(&mut self)
+        requires valid { IsValid self.old }
+        requires open { is_value (evaluation self.old).expr ≡ false }
+        ensures { IsWithoutRedex self.old self.new }
     {
         match &self.focus {
-            Focus::Part(_) => self,
+            Focus::Part(_) => (),
             Focus::Value(_) => match self.frames.pop() {
-                None => self,
-                Some(frame) => self.out_of(frame),
+                None => (),
+                Some(frame) => self.go_out_of(frame),
             },
         }
     }
 
     /// Puts another part for the redex.
-    fn replaced(self, alloc: Global, part: Focus) -> Result<Stack, NoMemory>
-        requires valid { IsValid self }
-        requires open { is_value (evaluation self).expr ≡ false }
+    fn replace(&mut self, alloc: Global, part: Focus) -> Result<(), NoMemory>
+        requires valid { IsValid self.old }
+        requires open { is_value (evaluation self.old).expr ≡ false }
         requires settled { IsSettled part }
-        ensures rewrites { IfOk result (λ s. evaluation s ≡ rewritten_in (λ _. shown part) (evaluation self)) }
-        ensures valid { IfOk result IsValid }
+        ensures rewrites { OnOk result (evaluation self.new ≡ rewritten_in (λ _. shown part) (evaluation self.old)) }
+        ensures valid { OnOk result (IsValid self.new) }
     {
-        let mut stack = self.without_redex();
-        put(&mut stack.focus, part);
-        stack.sought(alloc)
+        self.take_redex();
+        put(&mut self.focus, part);
+        self.seek(alloc)
     }
 
     /// Puts another part for the redex, with a frame around it that is no call.
-    fn replaced_in(self, alloc: Global, frame: Frame, part: Focus) -> Result<Stack, NoMemory>
-        requires valid { IsValid self }
-        requires open { is_value (evaluation self).expr ≡ false }
+    fn replace_in(&mut self, alloc: Global, frame: Frame, part: Focus) -> Result<(), NoMemory>
+        requires valid { IsValid self.old }
+        requires open { is_value (evaluation self.old).expr ≡ false }
         requires settled { IsSettled part }
         requires no_call { is_call frame ≡ 0 }
-        ensures rewrites { IfOk result (λ s. (a : ActId) → evaluation s ≡ rewritten_in (λ _. wrap frame a (shown part)) (evaluation self)) }
-        ensures valid { IfOk result IsValid }
+        ensures rewrites { OnOk result ((a : ActId) → evaluation self.new ≡ rewritten_in (λ _. wrap frame a (shown part)) (evaluation self.old)) }
+        ensures valid { OnOk result (IsValid self.new) }
     {
-        let mut stack = self.without_redex();
-        stack.frames.push(frame)?;
-        put(&mut stack.focus, part);
-        stack.sought(alloc)
+        self.take_redex();
+        self.frames.push(frame)?;
+        put(&mut self.focus, part);
+        self.seek(alloc)
     }
 
     /// Puts a call that runs in an activation of its own for the redex.
-    pub fn entered(self, alloc: Global, act: ActId, body: &Body) -> Result<Stack, NoMemory>
-        requires valid { IsValid self }
-        requires open { is_value (evaluation self).expr ≡ false }
-        requires shallow { insides (evaluation self).expr < MOST_CALLS }
-        ensures rewrites { IfOk result (λ s. evaluation s ≡ rewritten_in (λ _. Inside act (whole body.now)) (evaluation self)) }
-        ensures valid { IfOk result IsValid }
+    pub fn enter(&mut self, alloc: Global, act: ActId, body: &Body) -> Result<(), NoMemory>
+        requires valid { IsValid self.old }
+        requires open { is_value (evaluation self.old).expr ≡ false }
+        requires shallow { insides (evaluation self.old).expr < MOST_CALLS }
+        ensures rewrites { OnOk result (evaluation self.new ≡ rewritten_in (λ _. Inside act (whole body.now)) (evaluation self.old)) }
+        ensures valid { OnOk result (IsValid self.new) }
     {
         let part = focus_on(Source::of(body)?)?;
-        let mut stack = self.without_redex();
-        stack.frames.push(Frame::Inside(stack.act))?;
-        stack.act = act;
-        stack.depth += 1;
-        put(&mut stack.focus, part);
-        stack.sought(alloc)
+        self.take_redex();
+        self.frames.push(Frame::Inside(self.act))?;
+        self.act = act;
+        self.depth += 1;
+        put(&mut self.focus, part);
+        self.seek(alloc)
     }
 
     /// Puts a value for the redex.
-    pub fn given(self, alloc: Global, value: Val) -> Result<Stack, NoMemory>
-        requires valid { IsValid self }
-        requires open { is_value (evaluation self).expr ≡ false }
-        ensures rewrites { IfOk result (λ s. evaluation s ≡ rewritten_in (λ _. Done value) (evaluation self)) }
-        ensures valid { IfOk result IsValid }
+    pub fn give(&mut self, alloc: Global, value: Val) -> Result<(), NoMemory>
+        requires valid { IsValid self.old }
+        requires open { is_value (evaluation self.old).expr ≡ false }
+        ensures rewrites { OnOk result (evaluation self.new ≡ rewritten_in (λ _. Done value) (evaluation self.old)) }
+        ensures valid { OnOk result (IsValid self.new) }
     {
-        self.replaced(alloc, Focus::Value(value))
+        self.replace(alloc, Focus::Value(value))
     }
 
     /// The innermost frame, or `None` where nothing stands around the part at hand.
@@ -238,17 +238,17 @@ impl Stack {
     }
 
     /// Reduces a redex that no store decides.
-    pub fn reduced(self, alloc: Global) -> Result<Stack, NoMemory>
-        requires valid { IsValid self }
-        requires open { is_value (evaluation self).expr ≡ false }
-        requires local { IsLocal (redex (evaluation self).expr) }
-        ensures rewrites { IfOk result (λ s. evaluation s ≡ rewritten_in (λ _. local_row (redex (evaluation self).expr)) (evaluation self)) }
-        ensures valid { IfOk result IsValid }
+    pub fn reduce(&mut self, alloc: Global) -> Result<(), NoMemory>
+        requires valid { IsValid self.old }
+        requires open { is_value (evaluation self.old).expr ≡ false }
+        requires local { IsLocal (redex (evaluation self.old).expr) }
+        ensures rewrites { OnOk result (evaluation self.new ≡ rewritten_in (λ _. local_row (redex (evaluation self.old).expr)) (evaluation self.old)) }
+        ensures valid { OnOk result (IsValid self.new) }
     {
         let (rest, part) = self.local_part(alloc)?;
         match rest {
-            None => self.replaced(alloc, part),
-            Some((parts, at)) => self.replaced_in(alloc, Frame::Do(parts, at), part),
+            None => self.replace(alloc, part),
+            Some((parts, at)) => self.replace_in(alloc, Frame::Do(parts, at), part),
         }
     }
 
@@ -274,15 +274,15 @@ impl Stack {
     }
 
     /// Takes a branch of an `if` whose test is evaluated.
-    pub fn chosen(self, alloc: Global, yes: bool) -> Result<Stack, NoMemory>
-        requires valid { IsValid self }
-        requires open { is_value (evaluation self).expr ≡ false }
-        requires test { IsTest (redex (evaluation self).expr) }
-        ensures rewrites { IfOk result (λ s. evaluation s ≡ rewritten_in (λ _. branch yes (redex (evaluation self).expr)) (evaluation self)) }
-        ensures valid { IfOk result IsValid }
+    pub fn choose(&mut self, alloc: Global, yes: bool) -> Result<(), NoMemory>
+        requires valid { IsValid self.old }
+        requires open { is_value (evaluation self.old).expr ≡ false }
+        requires test { IsTest (redex (evaluation self.old).expr) }
+        ensures rewrites { OnOk result (evaluation self.new ≡ rewritten_in (λ _. branch yes (redex (evaluation self.old).expr)) (evaluation self.old)) }
+        ensures valid { OnOk result (IsValid self.new) }
     {
         let part = self.branch(yes)?;
-        self.replaced(alloc, part)
+        self.replace(alloc, part)
     }
 
     /// The branch.

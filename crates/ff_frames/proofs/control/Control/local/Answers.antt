@@ -1,10 +1,8 @@
-use Rattle.std.proofs.Common.{◌∙◌, ap}
 use Rattle.ff_term.specs.Rows.{local_row}
-use Rattle.ff_frames.specs.Stacks.{evaluation}
-use Rattle.ff_frames.proofs.Rewriting.{put-by}
+use Rattle.ff_frames.proofs.Rewriting.{kept-by}
 use Rattle.ff_frames.proofs.control.Control.local.Goals as goal
 
 pub returns : goal.returns
 returns c =
-    put-by local_row (evaluation c.in_ok-self-inside.field-0) (evaluation c.replace-stack.result) c.args.self.now
-    c.in_ok-self-inside.ensures.rewrites (ap evaluation c.replace-stack.ensures.value ∙ c.self.view_is)
+    kept-by local_row c.reduce-done.result c.kept.result c.self.inside.stack c.reduce-done.new.self c.kept.new.stack c.args.self.now
+    c.kept.ensures.answer c.kept.ensures.kept c.reduce-done.ensures.rewrites c.self.view_is
