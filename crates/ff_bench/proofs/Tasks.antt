@@ -1,5 +1,5 @@
 -- Tasks of a page that run by themselves.
-use Rattle.std.proofs.Common.{◌≡◌, ◌<◌, false, Option, Some, None, Result, Ok, Err, List, [], ◌∷◌, length, arith, refl, sym, subst}
+use Rattle.std.proofs.Common.{◌≡◌, ◌<◌, Bool, true, false, IsTrue, Option, Some, None, Result, Ok, Err, List, [], ◌∷◌, length, arith, refl, sym, subst}
 use Rattle.std.specs.Option.{ForSome}
 use Rattle.std.specs.Prelude.{All, IfOk}
 use Rattle.std.proofs.lemmas.List.Elements.{All-nil, All-cons, All-head}
@@ -18,6 +18,7 @@ use Rattle.ff_machine.specs.Turns.{work, with_left, turn}
 use Rattle.ff_machine.specs.Answers.{Works}
 use Rattle.ff_machine.specs.References.{made}
 use Rattle.ff_machine.specs.Valid.{IsStores, IsTask}
+use Rattle.ff_step.specs.Left.{left}
 use Rattle.ff_laws.proofs.Redexes.{source_valid}
 use Rattle.ff_laws.proofs.TasksWorking.{task_of, turn_tasks}
 
@@ -51,9 +52,16 @@ work_left s task valid is =
     left_valid (work s task).after (work s task).left (turn_tasks alone valid (All-cons (IsTask s) task [] is (All-nil (IsTask s))))
 
 -- and so is what a call leaves that works on one
-pub works_left : {E : Type 0} (s : Stores) (task : Task) (r : Result (Option Task) E) (t : Stores) (puts puts' : List Out) → IsStores s → IsTask s task → Works (work s task) r t puts puts'
+works_left : {E : Type 0} (s : Stores) (task : Task) (r : Result (Option Task) E) (t : Stores) (puts puts' : List Out) → IsStores s → IsTask s task → Works (work s task) r t puts puts'
     → IfOk r (λ left. ForSome left (IsTask t))
 works_left s task (Ok left) t puts puts' valid is w =
     subst (λ (o : Option Task). ForSome o (IsTask t)) (sym w.0)
     (subst (λ (x : Stores). ForSome (work s task).left (IsTask x)) (sym w.1) (work_left s task valid is))
 works_left s task (Err e) t puts puts' valid is w = tt
+
+-- a task that goes on
+pub works_on : {E : Type 0} (s : Stores) (task left_task : Task) (r : Result Bool E) (t : Stores) (puts puts' : List Out) → IsStores s → IsTask s task
+    → Works (work s task) (left left_task r) t puts puts' → IfOk r (λ going. IsTrue going → IsTask t left_task)
+works_on s task left_task (Ok true) t puts puts' valid is w = λ goes. works_left s task (Ok (Some left_task)) t puts puts' valid is w left_task refl
+works_on s task left_task (Ok false) t puts puts' valid is w = λ goes. cc
+works_on s task left_task (Err e) t puts puts' valid is w = tt

@@ -1,7 +1,6 @@
 //! Reductions of scripts that don't end, in the page of a new window: of arithmetic, of variables, of
 //! the text of a node that the page shows, and of a test of such a text; and forks of full stores.
-ghost use Rattle.std.specs.Prelude.{IfOk};
-ghost use Rattle.std.specs.Option.{ForSome};
+ghost use Rattle.std.specs.Prelude.{IfOk, IsTrue};
 ghost use Rattle.ff_machine.specs.Valid.{IsTask};
 ghost use Rattle.ff_tree.specs.Spelled.{IsWellSpelledExpr};
 
@@ -118,19 +117,17 @@ fn script(alloc: Global, stores: &Stores, window: WinId, body: &Body) -> Result<
 fn run<C: Ledger>(
     alloc: Global,
     stores: &mut Stores,
-    task: Task,
+    mut task: Task,
     most: u32,
     copies: &mut Steps<C>,
 ) -> Result<u32, NoMemory>
     requires { IsTask stores.old task }
 {
     let mut outs = Vec::new(alloc);
-    let mut left = Some(task);
     for made in 0..most {
-        let Some(task) = left else {
+        if !work(alloc, stores, &mut task, &mut outs, copies)? {
             return Ok(made);
-        };
-        left = work(alloc, stores, task, &mut outs, copies)?;
+        }
     }
     Ok(most)
 }
@@ -138,12 +135,12 @@ fn run<C: Ledger>(
 fn work<C: Ledger>(
     alloc: Global,
     stores: &mut Stores,
-    task: Task,
+    task: &mut Task,
     outs: &mut Vec<Out>,
     copies: &mut Steps<C>,
-) -> Result<Option<Task>, NoMemory>
-    requires { IsTask stores.old task }
-    ensures { IfOk result (λ left. ForSome left (IsTask stores.new)) }
+) -> Result<bool, NoMemory>
+    requires { IsTask stores.old task.old }
+    ensures { IfOk result (λ going. IsTrue going → IsTask stores.new task.new) }
 {
     // Stores are valid whenever they are asked.
     let _mass = stores.mass();

@@ -84,12 +84,16 @@ turn_begins s n none some e =
     let to_do = ap (λ (tasks : List Task). work_of tasks (take_ready s.stores)) none in
     ap (turn_of s) to_do ∙ begun s n (take_ready s.stores) (λ no_script. some (to_do ∙ ap script_work no_script)) e
 
--- the same of a state whose fuel was spent
-pub spent_works : (s u : State) (task : Task) (rest : List Task) → u ≡ record s { fuel = s.fuel - 1 } → u.tasks ≡ task ∷ rest → 0 < s.fuel
-    → turn s ≡ with_worked (record u { tasks = rest }) rest (work u.stores task)
-spent_works s u task rest spent has some =
+-- some tasks
+worked_spent : (s u : State) (tasks : List Task) → u ≡ record s { fuel = s.fuel - 1 } → u.tasks ≡ tasks → 0 < length tasks → 0 < s.fuel → turn s ≡ first_work u tasks
+worked_spent s u [] spent has are some = absurd (omega (arith, are))
+worked_spent s u (task ∷ rest) spent has are some =
     turn_works s task rest (s.fuel - 1) (ap (λ (v : State). v.tasks) (sym spent) ∙ has) (omega (arith, some))
     ∙ ap (λ (v : State). with_worked (record v { tasks = rest }) rest (work v.stores task)) (sym spent)
+
+-- the same of a state whose fuel was spent
+pub spent_works : (s u : State) → u ≡ record s { fuel = s.fuel - 1 } → 0 < length u.tasks → 0 < s.fuel → turn s ≡ first_work u u.tasks
+spent_works s u spent are some = worked_spent s u u.tasks spent refl are some
 
 pub spent_begins : (s u : State) (rest : List Task) → u ≡ record s { fuel = s.fuel - 1 } → u.tasks ≡ [] → rest ≡ [] → (next_work s ≡ None → ⊥) → 0 < s.fuel
     → turn s ≡ given (record u { tasks = rest }) (take_ready u.stores) (begin_script (record u { tasks = rest }))

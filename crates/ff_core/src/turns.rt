@@ -36,9 +36,10 @@ impl Parts {
             return self.stop(outs);
         }
         self.spend();
-        match self.tasks.pop_front() {
-            Some(task) => self.work(task, outs, copies),
-            None => self.begin_script(copies),
+        if self.tasks.is_empty() {
+            self.begin_script(copies)
+        } else {
+            self.work(outs, copies)
         }
     }
 
@@ -83,21 +84,22 @@ impl Parts {
         self.settle(outs)
     }
 
-    /// One reduction of a task that stood before the others.
+    /// One reduction of the first task, which is dropped where it is gone then.
     fn work<C: Ledger>(
         &mut self,
-        task: Task,
         outs: &mut Vec<Out>,
         copies: &mut Steps<C>,
     ) -> Result<(), NoMemory>
-        requires { IsTask self.old.stores task }
-        ensures step { Makes self.old self.new outs.old.items outs.new.items (turns.with_worked self.old self.old.tasks (turns.work self.old.stores task)) result }
+        requires { All (IsTask self.old.stores) self.old.tasks }
+        ensures step { Makes self.old self.new outs.old.items outs.new.items (turns.first_work self.old self.old.tasks) result }
         ensures later { copies.old ≤ copies.new }
-        ensures copies { copies.new ≤ copies.old + working self.old.stores task.running }
+        ensures copies { copies.new ≤ copies.old + turning self.old }
     {
-        match task.work(self.alloc, &mut self.stores, outs, copies)? {
-            Some(left) => {
-                self.tasks.push_front(left)?;
+        match self.tasks.front_mut() {
+            Some(task) => {
+                if !task.work(self.alloc, &mut self.stores, outs, copies)? {
+                    self.tasks.pop_front();
+                }
                 Ok(())
             }
             None => Ok(()),

@@ -5,6 +5,7 @@ ghost use Rattle.ff_machine.specs.Turns as turns;
 ghost use Rattle.ff_machine.specs.Valid.{IsStores, IsTask};
 ghost use Rattle.ff_machine.specs.Windows.{is_live};
 ghost use Rattle.ff_step.specs.Copies.{working};
+ghost use Rattle.ff_step.specs.Left.{left};
 
 use crate::reducing::reduce;
 use crate::task::Task;
@@ -17,31 +18,31 @@ use std::alloc::Global;
 use std::sync::ledger::Ledger;
 
 impl Task {
-    /// What one fuel makes of the task: one reduction, where its page is live; answers the task where
-    /// it goes on. It is gone where its page isn't live, where it is a value, and where it failed:
-    /// then its error is put, at the place of the page's window.
+    /// What one fuel makes of the task: one reduction, where its page is live; answers whether it goes
+    /// on. It is gone where its page isn't live, where it is a value, and where it failed: then its
+    /// error is put, at the place of the page's window.
     pub fn work<C: Ledger>(
-        self,
+        &mut self,
         alloc: Global,
         stores: &mut Stores,
         outs: &mut Vec<Out>,
         copies: &mut Steps<C>,
-    ) -> Result<Option<Task>, NoMemory>
-        requires { IsTask stores.old self }
-        ensures works { Works (turns.work stores.old self) result stores.new outs.old.items outs.new.items }
+    ) -> Result<bool, NoMemory>
+        requires { IsTask stores.old self.old }
+        ensures works { Works (turns.work stores.old self.old) (left self.new result) stores.new outs.old.items outs.new.items }
         ensures later { copies.old ≤ copies.new }
-        ensures copies { copies.new ≤ copies.old + working stores.old self.running }
+        ensures copies { copies.new ≤ copies.old + working stores.old self.old.running }
     {
-        let Task { page, mut control } = self;
+        let page = self.page;
         if !lives(stores, page) {
-            return Ok(None);
+            return Ok(false);
         }
-        match reduce(alloc, &mut control, stores, page, outs, copies)? {
-            Reduced::Moved => Ok(Some(Task { page, control })),
-            Reduced::Done(_v) => Ok(None),
+        match reduce(alloc, &mut self.control, stores, page, outs, copies)? {
+            Reduced::Moved => Ok(true),
+            Reduced::Done(_v) => Ok(false),
             Reduced::Failed(fault) => {
                 put_error(stores, page, fault, outs)?;
-                Ok(None)
+                Ok(false)
             }
         }
     }

@@ -1,7 +1,6 @@
-use Rattle.std.specs.Option.{ForSome}
 use Rattle.ff_machine.specs.Valid.{IsTask}
 use Rattle.ff_bench.proofs.steps.run.Given as goal
 
--- the task that is left is valid
+-- the task is valid
 abbrev pub invariant-loop-made : goal.invariant-loop-made
-invariant-loop-made g l = ForSome l.left (IsTask l.stores)
+invariant-loop-made g l = IsTask l.stores l.task
