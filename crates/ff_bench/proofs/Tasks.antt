@@ -62,6 +62,6 @@ works_left s task (Err e) t puts puts' valid is w = tt
 -- a task that goes on
 pub works_on : {E : Type 0} (s : Stores) (task left_task : Task) (r : Result Bool E) (t : Stores) (puts puts' : List Out) → IsStores s → IsTask s task
     → Works (work s task) (left left_task r) t puts puts' → IfOk r (λ going. IsTrue going → IsTask t left_task)
-works_on s task left_task (Ok true) t puts puts' valid is w = λ goes. works_left s task (Ok (Some left_task)) t puts puts' valid is w left_task refl
+works_on {E} s task left_task (Ok true) t puts puts' valid is w = λ goes. works_left {E = E} s task (Ok (Some left_task)) t puts puts' valid is w left_task refl
 works_on s task left_task (Ok false) t puts puts' valid is w = λ goes. cc
 works_on s task left_task (Err e) t puts puts' valid is w = tt
