@@ -5,7 +5,6 @@ ghost use Rattle.ff_machine.specs.State as state;
 ghost use Rattle.ff_machine.specs.Stores as stores;
 ghost use Rattle.ff_machine.specs.Turns as turns;
 ghost use Rattle.ff_machine.specs.Valid.{IsTask};
-ghost use Rattle.ff_step.specs.Copies.{working};
 ghost use Rattle.ff_core.specs.Copies.{turning};
 
 use crate::parts::Parts;
