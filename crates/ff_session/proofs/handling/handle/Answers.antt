@@ -1,9 +1,9 @@
-use Rattle.std.proofs.Common.{◌≡◌, false, ◌++◌, ap, ◌∙◌, subst, sym, arith, ◌<◌}
+use Rattle.std.proofs.Common.{◌≡◌, false, true, ◌++◌, ap, ◌∙◌, subst, sym, arith, ◌<◌}
 use Rattle.ff_reactive.specs.Turns.{turns_left}
 use Rattle.ff_machine.specs.Valid.{IsState}
 use Rattle.ff_machine.specs.Machine.{reactor}
 use Rattle.ff_machine.specs.Inputs.{begin}
-use Rattle.ff_session.proofs.Turning.{handling_start, handling_turn, handling_within, handling_falls}
+use Rattle.ff_session.proofs.Turning.{handling_start, handling_turn, handling_within, handling_falls, outputs_done}
 use Rattle.ff_session.proofs.handling.handle.Goals as goal
 
 pub turning-init : goal.turning-init
@@ -30,3 +30,8 @@ pub returns-in_err-turn-clause-most : goal.returns-in_err-turn-clause-most
 returns-in_err-turn-clause-most g c =
     let busy : c.turning.browser.quiet ≡ false = cc in
     handling_within c.args.browser.now c.args.input.now c.args.turns.now c.turning.browser c.turning.outs.items c.turning.turns c.turning.invariant.0 c.turn.new.turns busy c.in_err-turn.ensures.counted
+
+pub returns-clause-outputs : goal.returns-clause-outputs
+returns-clause-outputs g c =
+    let quiet : c.turning.browser.quiet ≡ true = cc in
+    outputs_done c.args.browser.now c.args.input.now c.args.turns.now c.turning.browser c.turning.outs.items c.turning.turns c.turning.invariant.0 quiet
