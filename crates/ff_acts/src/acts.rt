@@ -16,7 +16,7 @@ use ff_name::{Name, NoMemory};
 use ff_operators::Fail;
 use ff_steps::Steps;
 use ff_tree::Names;
-use ff_value::{ActId, Fault, Val, Vals};
+use ff_value::{ActId, Fault, Val};
 use std::alloc::{AllocError, Global};
 use std::marker::Model;
 use std::sync::ledger::Ledger;
@@ -102,7 +102,7 @@ impl Acts {
         &mut self,
         parent: ActId,
         params: &Names,
-        args: &Vals,
+        args: &[Val],
         copies: &mut Steps<C>,
     ) -> Result<ActId, Fail>
         requires lives { parent.0 < length self.old }
@@ -118,14 +118,13 @@ impl Acts {
         let number = self.acts.len();
         let room = (MOST_VARS - self.vars.len()) as usize;
         let names = params.as_slice();
-        let values = args.as_slice();
         if number >= MOST_ACTS || names.len() > room {
             return Err(Fail::Fault(Fault::Limit));
         }
         self.push_act(Some(parent), copies)?;
         for i in 0..names.len() {
             // There is room for it, so that it is refused only for want of memory.
-            let Ok(()) = self.declare(ActId(number), &names[i], &values[i], copies) else {
+            let Ok(()) = self.declare(ActId(number), &names[i], &args[i], copies) else {
                 return Err(Fail::NoMemory);
             };
         }

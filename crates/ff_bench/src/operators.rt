@@ -3,7 +3,7 @@ use crate::spent::print_since;
 use anyhow::{Result, bail};
 use ff_name::{NoMemory, Text, Worded};
 use ff_operators::{Fail, apply};
-use ff_value::{Op, SharedList, Val, Vals};
+use ff_value::{Op, Val};
 use std::alloc::{AllocError, Global};
 use std::time::{Clock, Instant};
 
@@ -26,7 +26,7 @@ fn apply_to_numbers<R: Clock + Print>(rt: &R, alloc: Global, op: Op, right: i64)
     let mut lists = Vec::new(alloc);
     for left in 0..LISTS {
         let operands = vec![in alloc; Val::Num(i64::from(left)), Val::Num(right)]?;
-        lists.push(SharedList::from_vec(alloc, operands)?)?;
+        lists.push(operands)?;
     }
     repeat(rt, alloc, op, &lists)
 }
@@ -41,7 +41,7 @@ fn apply_to_texts<R: Clock + Print>(
     let mut lists = Vec::new(alloc);
     for _list in 0..LISTS {
         let operands = vec![in alloc; string(alloc, left)?, string(alloc, right)?]?;
-        lists.push(SharedList::from_vec(alloc, operands)?)?;
+        lists.push(operands)?;
     }
     repeat(rt, alloc, op, &lists)
 }
@@ -50,7 +50,7 @@ fn string(alloc: Global, text: &str) -> std::result::Result<Val, NoMemory> {
     Ok(Val::Str(Text::of_str(alloc, text)?))
 }
 
-fn repeat<R: Clock + Print>(rt: &R, alloc: Global, op: Op, lists: &[Vals]) -> Result<()> {
+fn repeat<R: Clock + Print>(rt: &R, alloc: Global, op: Op, lists: &[Vec<Val>]) -> Result<()> {
     let start = Instant::now(rt)?;
     let mut sum: i64 = 0;
     for _round in 0..ROUNDS {
@@ -67,7 +67,7 @@ fn repeat<R: Clock + Print>(rt: &R, alloc: Global, op: Op, lists: &[Vals]) -> Re
 }
 
 /// What the operator gives, as a number.
-fn given(alloc: Global, op: Op, operands: &Vals) -> std::result::Result<i64, NoMemory> {
+fn given(alloc: Global, op: Op, operands: &[Val]) -> std::result::Result<i64, NoMemory> {
     match apply(alloc, op, operands, 0) {
         Ok(applied) => Ok(number(&applied.value)),
         Err(Fail::Fault(_)) => Ok(0),

@@ -5,7 +5,7 @@ ghost use Rattle.ff_frames.specs.Frames.{operands, shown};
 ghost use Rattle.ff_frames.specs.Seeking.{IsSettled};
 
 use crate::source::Source;
-use crate::values::Values;
+use ff_term::Operands;
 use ff_tree::{Body, Expr, Exprs, Lit};
 use ff_value::{ActId, NoMemory, Val};
 
@@ -13,7 +13,7 @@ use ff_value::{ActId, NoMemory, Val};
 #[derive(Drop)]
 pub enum Frame {
     /// A form with the values of its first operands.
-    Part(Source, Values),
+    Part(Source, Operands),
     /// A `do`: its parts, and the place of the next.
     Do(Exprs, usize),
     /// A call, and the activation outside of it.

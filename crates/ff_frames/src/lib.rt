@@ -5,13 +5,13 @@
 //! redex with the innermost frame. So one reduction looks at that part and that frame, and costs a
 //! bounded number of steps, whatever stands around them:
 //!
-//! - `next` copies what the redex holds, each value by a counted reference at most. A call or an
-//!   operator takes two allocations for the list of its operands.
+//! - `next` copies what the redex holds, each value by a counted reference at most. Up to two
+//!   operands or arguments take no memory, and three and more one allocation.
 //! - `give`, `choose`, `local` and `enter` take off one frame at most, put one part, and walk to
 //!   the next redex. The walk goes from an operand to the one after it and down the leftmost parts
 //!   of what was put, at most as deep as a body nests. An operand is entered by a copy of a counted
-//!   reference. A frame keeps the value of one operand in itself, and takes one allocation for two
-//!   and more.
+//!   reference. A frame keeps the values of up to two operands in itself, and takes one allocation for
+//!   three and more.
 //! - A `while` makes the `if` of its turn, in five allocations, and an `and` or `or` its `if`, in
 //!   two. As the reduction says, a turn of a `while` leaves a `do` around the next: one frame, and
 //!   the list of the turn's two parts, until the loop ends.
@@ -26,6 +26,5 @@ mod row;
 mod seek;
 mod source;
 mod stack;
-mod values;
 
 pub use control::Control;

@@ -1,4 +1,4 @@
-ghost use Rattle.std.specs.Prelude.{◌≡◌, IfOk, None, length, slice_get};
+ghost use Rattle.std.specs.Prelude.{◌≡◌, ◌++◌, ◌∷◌, [], IfOk, None, length, slice_get};
 ghost use Rattle.std.proofs.Common.{suc};
 ghost use Rattle.ff_tree.specs.declared.tree.Expr.{out-Expr};
 ghost use Rattle.ff_value.specs.declared.ids.ActId.{ActId};
@@ -9,9 +9,7 @@ ghost use Rattle.ff_frames.specs.Seeking.{IsFull, IsRow};
 ghost use Rattle.ff_term.specs.Redexes.{IsRedexOf};
 
 use crate::frame::Frame;
-use crate::values::Values;
-use ff_shared::SharedList;
-use ff_term::Redex;
+use ff_term::{Operands, Redex};
 use ff_tree::Expr;
 use ff_value::{NoMemory, Val};
 use std::alloc::Global;
@@ -25,7 +23,7 @@ pub fn read_form(alloc: Global, form: &Expr) -> Result<Redex, NoMemory>
         Expr::Var(name) => Ok(Redex::Var(name.copy()?)),
         Expr::Make(params, body) => Ok(Redex::Make(params.copy()?, body.copy()?)),
         Expr::Tree(doc) => Ok(Redex::Tree(doc.copy()?)),
-        Expr::Prim(op, _) => Ok(Redex::Prim(*op, SharedList::from_vec(alloc, Vec::new(alloc))?)),
+        Expr::Prim(op, _) => Ok(Redex::Prim(*op, Operands::new(alloc))),
         _ => Ok(Redex::Local),
     }
 }
@@ -52,11 +50,20 @@ fn read_part(alloc: Global, form: &Expr, values: &[Val], value: &Val) -> Result<
         Expr::If(_, _, _) => Ok(Redex::Test(value.copy()?)),
         Expr::Apply(_, _) => read_call(alloc, values, value),
         Expr::Prim(op, _) => {
-            let all = Values::and(alloc, values, value)?;
-            Ok(Redex::Prim(*op, SharedList::from_vec(alloc, all)?))
+            let all = with_last(alloc, values, value)?;
+            Ok(Redex::Prim(*op, all))
         }
         _ => Ok(Redex::Local),
     }
+}
+
+/// Copies of some values, and of one more after them.
+fn with_last(alloc: Global, values: &[Val], last: &Val) -> Result<Operands, NoMemory>
+    ensures { IfOk result (λ all. all ≡ values.now ++ last.now ∷ []) }
+{
+    let mut all = Operands::of(alloc, values)?;
+    all.push(last.copy()?)?;
+    Ok(all)
 }
 
 /// The function and its arguments.
@@ -64,10 +71,10 @@ fn read_call(alloc: Global, values: &[Val], value: &Val) -> Result<Redex, NoMemo
     ensures { IfOk result (λ r. IsRedexOf r (applied (after values.now (Done value.now) none))) }
 {
     match values.split_first() {
-        None => Ok(Redex::Apply(value.copy()?, SharedList::from_vec(alloc, Vec::new(alloc))?)),
+        None => Ok(Redex::Apply(value.copy()?, Operands::new(alloc))),
         Some((function, args)) => {
-            let all = Values::and(alloc, args, value)?;
-            Ok(Redex::Apply(function.copy()?, SharedList::from_vec(alloc, all)?))
+            let all = with_last(alloc, args, value)?;
+            Ok(Redex::Apply(function.copy()?, all))
         }
     }
 }

@@ -7,7 +7,7 @@ ghost use Rattle.ff_frames.specs.Seeking.{Alike, IsAtRedex, IsFeeding, IsOpening
 
 use crate::frame::{Focus, Frame, literal, operand, put};
 use crate::source::Source;
-use crate::values::Values;
+use ff_term::Operands;
 use ff_tree::{Expr, Exprs};
 use ff_value::{NoMemory, Val};
 use std::alloc::Global;
@@ -36,7 +36,7 @@ pub fn opened(alloc: Global, form: &Source) -> Result<Option<(Frame, Focus)>, No
             None => Ok(None),
             Some(part) => {
                 let next = focus_on(part)?;
-                Ok(Some((Frame::Part(form.copy()?, Values::new(alloc)), next)))
+                Ok(Some((Frame::Part(form.copy()?, Operands::new(alloc)), next)))
             }
         },
     }

@@ -16,9 +16,8 @@ use crate::redex::{read_form, read_frame};
 use crate::row::{branch_of, local_form, local_frame};
 use crate::seek::{focus_on, seek};
 use crate::source::Source;
-use crate::values::Values;
 use ff_shared::SharedList;
-use ff_term::{MOST_CALLS, Redex};
+use ff_term::{MOST_CALLS, Operands, Redex};
 use ff_tree::{Body, Expr, Exprs};
 use ff_value::{ActId, Code, NoMemory, Val};
 use std::alloc::Global;
@@ -40,7 +39,7 @@ fn call_frame(alloc: Global, code: &Code) -> Result<Frame, NoMemory>
 {
     let no_args = SharedList::from_vec(alloc, Vec::new(alloc))?;
     let form = Source::made(alloc, Expr::Apply(code.body.copy()?, no_args))?;
-    let mut values = Values::new(alloc);
+    let mut values = Operands::new(alloc);
     values.push(Val::Code(code.copy()?))?;
     Ok(Frame::Part(form, values))
 }

@@ -7,10 +7,10 @@ ghost use Rattle.ff_tree.specs.declared.op.Op.TheVariants as op;
 
 use crate::answer::{Applied, Fail};
 use crate::operands::two_nums;
-use ff_value::{Fault, Val, Vals};
+use ff_value::{Fault, Val};
 
 /// The sum.
-pub(crate) fn add(args: &Vals, mass: u64) -> Result<Applied, Fail>
+pub(crate) fn add(args: &[Val], mass: u64) -> Result<Applied, Fail>
     ensures { Gives (pure.apply op.Add args.now mass) result }
 {
     match two_nums(args) {
@@ -20,7 +20,7 @@ pub(crate) fn add(args: &Vals, mass: u64) -> Result<Applied, Fail>
 }
 
 /// The difference.
-pub(crate) fn sub(args: &Vals, mass: u64) -> Result<Applied, Fail>
+pub(crate) fn sub(args: &[Val], mass: u64) -> Result<Applied, Fail>
     ensures { Gives (pure.apply op.Sub args.now mass) result }
 {
     match two_nums(args) {
@@ -30,7 +30,7 @@ pub(crate) fn sub(args: &Vals, mass: u64) -> Result<Applied, Fail>
 }
 
 /// The product.
-pub(crate) fn mul(args: &Vals, mass: u64) -> Result<Applied, Fail>
+pub(crate) fn mul(args: &[Val], mass: u64) -> Result<Applied, Fail>
     ensures { Gives (pure.apply op.Mul args.now mass) result }
 {
     match two_nums(args) {
@@ -40,7 +40,7 @@ pub(crate) fn mul(args: &Vals, mass: u64) -> Result<Applied, Fail>
 }
 
 /// The quotient, rounded toward zero.
-pub(crate) fn div(args: &Vals, mass: u64) -> Result<Applied, Fail>
+pub(crate) fn div(args: &[Val], mass: u64) -> Result<Applied, Fail>
     ensures { Gives (pure.apply op.Div args.now mass) result }
 {
     match two_nums(args) {
@@ -51,7 +51,7 @@ pub(crate) fn div(args: &Vals, mass: u64) -> Result<Applied, Fail>
 }
 
 /// The remainder of the division.
-pub(crate) fn rem(args: &Vals, mass: u64) -> Result<Applied, Fail>
+pub(crate) fn rem(args: &[Val], mass: u64) -> Result<Applied, Fail>
     ensures { Gives (pure.apply op.Rem args.now mass) result }
 {
     match two_nums(args) {

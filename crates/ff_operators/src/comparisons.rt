@@ -5,13 +5,13 @@ ghost use Rattle.ff_tree.specs.declared.op.Op.TheVariants as op;
 
 use crate::answer::{Applied, Fail};
 use crate::operands::one_bool;
-use ff_value::{Fault, Val, Vals};
+use ff_value::{Fault, Val};
 
 /// Whether the first number or text is before the second; texts are in the order of their bytes.
-pub(crate) fn less(args: &Vals, mass: u64) -> Result<Applied, Fail>
+pub(crate) fn less(args: &[Val], mass: u64) -> Result<Applied, Fail>
     ensures { Gives (pure.apply op.Less args.now mass) result }
 {
-    match args.as_slice() {
+    match args {
         [Val::Num(a), Val::Num(b)] => Ok(Applied::free(Val::Bool(*a < *b), mass)),
         [Val::Str(a), Val::Str(b)] => Ok(Applied::free(Val::Bool(*a < *b), mass)),
         _ => Err(Fail::Fault(Fault::Kind)),
@@ -19,10 +19,10 @@ pub(crate) fn less(args: &Vals, mass: u64) -> Result<Applied, Fail>
 }
 
 /// Whether the second number or text isn't before the first.
-pub(crate) fn at_most(args: &Vals, mass: u64) -> Result<Applied, Fail>
+pub(crate) fn at_most(args: &[Val], mass: u64) -> Result<Applied, Fail>
     ensures { Gives (pure.apply op.AtMost args.now mass) result }
 {
-    match args.as_slice() {
+    match args {
         [Val::Num(a), Val::Num(b)] => Ok(Applied::free(Val::Bool(*a <= *b), mass)),
         [Val::Str(a), Val::Str(b)] => Ok(Applied::free(Val::Bool(*a <= *b), mass)),
         _ => Err(Fail::Fault(Fault::Kind)),
@@ -30,10 +30,10 @@ pub(crate) fn at_most(args: &Vals, mass: u64) -> Result<Applied, Fail>
 }
 
 /// Whether two values that are no functions are equal.
-pub(crate) fn equal(args: &Vals, mass: u64) -> Result<Applied, Fail>
+pub(crate) fn equal(args: &[Val], mass: u64) -> Result<Applied, Fail>
     ensures { Gives (pure.apply op.Equal args.now mass) result }
 {
-    match args.as_slice() {
+    match args {
         [Val::Code(..), _] | [_, Val::Code(..)] => Err(Fail::Fault(Fault::Kind)),
         [a, b] => Ok(Applied::free(Val::Bool(*a == *b), mass)),
         _ => Err(Fail::Fault(Fault::Kind)),
@@ -41,7 +41,7 @@ pub(crate) fn equal(args: &Vals, mass: u64) -> Result<Applied, Fail>
 }
 
 /// The other truth value.
-pub(crate) fn not(args: &Vals, mass: u64) -> Result<Applied, Fail>
+pub(crate) fn not(args: &[Val], mass: u64) -> Result<Applied, Fail>
     ensures { Gives (pure.apply op.Not args.now mass) result }
 {
     match one_bool(args) {

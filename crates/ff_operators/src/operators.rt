@@ -3,13 +3,13 @@ ghost use Rattle.ff_operators.specs.Pure as pure;
 
 use crate::answer::{Applied, Fail};
 use crate::{arithmetic, comparisons, texts};
-use ff_value::{Fault, Op, Vals};
+use ff_value::{Fault, Op, Val};
 use std::alloc::Global;
 
 /// What a pure operator gives for its operands and the mass, or its fault. Operands of other kinds
 /// or in another number are a kind fault, and so are all operands of an operator that isn't pure.
 /// Memory is taken for a made text alone.
-pub fn apply(alloc: Global, op: Op, args: &Vals, mass: u64) -> Result<Applied, Fail>
+pub fn apply(alloc: Global, op: Op, args: &[Val], mass: u64) -> Result<Applied, Fail>
     ensures { Gives (pure.apply op args.now mass) result }
 {
     match op {

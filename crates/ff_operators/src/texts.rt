@@ -10,11 +10,11 @@ use crate::arithmetic::number;
 use crate::limits::{MOST_MADE_BYTES, MOST_MASS};
 use crate::operands::{one_num, one_str, str_num, str_nums, two_strs};
 use ff_number::{Digits, read_num};
-use ff_value::{Fault, Text, Val, Vals};
+use ff_value::{Fault, Text, Val};
 use std::alloc::Global;
 
 /// The two texts joined.
-pub(crate) fn cat(alloc: Global, args: &Vals, mass: u64) -> Result<Applied, Fail>
+pub(crate) fn cat(alloc: Global, args: &[Val], mass: u64) -> Result<Applied, Fail>
     ensures { Gives (pure.apply op.Cat args.now mass) result }
 {
     match two_strs(args) {
@@ -38,7 +38,7 @@ fn joined(alloc: Global, a: &Text, b: &Text, mass: u64) -> Result<Applied, Fail>
 }
 
 /// How many bytes the text has.
-pub(crate) fn len(args: &Vals, mass: u64) -> Result<Applied, Fail>
+pub(crate) fn len(args: &[Val], mass: u64) -> Result<Applied, Fail>
     ensures { Gives (pure.apply op.Len args.now mass) result }
 {
     match one_str(args) {
@@ -48,7 +48,7 @@ pub(crate) fn len(args: &Vals, mass: u64) -> Result<Applied, Fail>
 }
 
 /// The byte at a place.
-pub(crate) fn byte(args: &Vals, mass: u64) -> Result<Applied, Fail>
+pub(crate) fn byte(args: &[Val], mass: u64) -> Result<Applied, Fail>
     ensures { Gives (pure.apply op.Byte args.now mass) result }
 {
     match str_num(args) {
@@ -68,7 +68,7 @@ fn byte_at(text: &[u8], at: i64) -> Option<u8>
 }
 
 /// The bytes from the first place to before the second.
-pub(crate) fn cut(alloc: Global, args: &Vals, mass: u64) -> Result<Applied, Fail>
+pub(crate) fn cut(alloc: Global, args: &[Val], mass: u64) -> Result<Applied, Fail>
     ensures { Gives (pure.apply op.Cut args.now mass) result }
 {
     match str_nums(args) {
@@ -111,7 +111,7 @@ fn place_of(text: &[u8], at: i64) -> Option<usize>
 }
 
 /// The number as it is spelled.
-pub(crate) fn str(alloc: Global, args: &Vals, mass: u64) -> Result<Applied, Fail>
+pub(crate) fn str(alloc: Global, args: &[Val], mass: u64) -> Result<Applied, Fail>
     ensures { Gives (pure.apply op.Str args.now mass) result }
 {
     match one_num(args) {
@@ -121,7 +121,7 @@ pub(crate) fn str(alloc: Global, args: &Vals, mass: u64) -> Result<Applied, Fail
 }
 
 /// The number that the text spells, or `null`.
-pub(crate) fn num(args: &Vals, mass: u64) -> Result<Applied, Fail>
+pub(crate) fn num(args: &[Val], mass: u64) -> Result<Applied, Fail>
     ensures { Gives (pure.apply op.Num args.now mass) result }
 {
     match one_str(args) {

@@ -1,6 +1,6 @@
 use ff_name::by_word;
 use ff_value::{
-    ActId, Code, Expr, Lit, NoMemory, NodeId, Op, Shared, SharedList, Text, Val, Vals, WinId,
+    ActId, Code, Expr, Lit, NoMemory, NodeId, Op, Shared, SharedList, Text, Val, WinId,
 };
 use std::alloc::Global;
 
@@ -9,7 +9,7 @@ use std::alloc::Global;
 pub struct Call {
     pub mass: u64,
     pub op: Op,
-    pub args: Vals,
+    pub args: Vec<Val>,
 }
 
 /// The call of a line, or `None` where it is none.
@@ -28,11 +28,7 @@ pub fn read(alloc: Global, line: &str) -> Result<Option<Call>, NoMemory> {
             None => return Ok(None),
         }
     }
-    Ok(Some(Call {
-        mass,
-        op,
-        args: SharedList::from_vec(alloc, args)?,
-    }))
+    Ok(Some(Call { mass, op, args }))
 }
 
 fn operand(alloc: Global, word: &str) -> Result<Option<Val>, NoMemory> {

@@ -16,7 +16,7 @@ use ff_name::{Domain, Text, Url};
 use ff_operators::Fail;
 use ff_steps::Steps;
 use ff_stores::Stores;
-use ff_value::{Code, Fault, Out, PageId, Val, Vals};
+use ff_value::{Code, Fault, Out, PageId, Val};
 use std::alloc::Global;
 use std::sync::ledger::Ledger;
 
@@ -25,7 +25,7 @@ pub(crate) fn ask<C: Ledger>(
     alloc: Global,
     stores: &mut Stores,
     page: PageId,
-    args: &Vals,
+    args: &[Val],
     outs: &mut Vec<Out>,
     copies: &mut Steps<C>,
 ) -> Result<Val, Fail>

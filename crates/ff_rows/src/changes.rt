@@ -13,14 +13,14 @@ use ff_name::Text;
 use ff_operators::Fail;
 use ff_steps::Steps;
 use ff_stores::Stores;
-use ff_value::{Code, Fault, NodeId, Out, PageId, Val, Vals};
+use ff_value::{Code, Fault, NodeId, Out, PageId, Val};
 use std::sync::ledger::Ledger;
 
 /// `set-text`: a node whose kind has a text gets another.
 pub(crate) fn set_text<C: Ledger>(
     stores: &mut Stores,
     page: PageId,
-    args: &Vals,
+    args: &[Val],
     copies: &mut Steps<C>,
 ) -> Result<Val, Fail>
     requires { All (IsVal (made stores.old)) args.now }
@@ -53,7 +53,7 @@ fn set_text_of<C: Ledger>(
 pub(crate) fn listen<C: Ledger>(
     stores: &mut Stores,
     page: PageId,
-    args: &Vals,
+    args: &[Val],
     copies: &mut Steps<C>,
 ) -> Result<Val, Fail>
     requires { All (IsVal (made stores.old)) args.now }
@@ -87,7 +87,7 @@ fn listen_at<C: Ledger>(
 pub(crate) fn insert<C: Ledger>(
     stores: &mut Stores,
     page: PageId,
-    args: &Vals,
+    args: &[Val],
     outs: &mut Vec<Out>,
     copies: &mut Steps<C>,
 ) -> Result<Val, Fail>

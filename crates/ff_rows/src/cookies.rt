@@ -12,11 +12,11 @@ use ff_operators::Fail;
 use ff_operators::operands::{one_str, two_strs};
 use ff_steps::Steps;
 use ff_stores::Stores;
-use ff_value::{Fault, PageId, Val, Vals};
+use ff_value::{Fault, PageId, Val};
 use std::sync::ledger::Ledger;
 
 /// `cookie`: the value of a cookie, or `null`.
-pub(crate) fn cookie(stores: &Stores, page: PageId, args: &Vals) -> Result<Val, Fail>
+pub(crate) fn cookie(stores: &Stores, page: PageId, args: &[Val]) -> Result<Val, Fail>
     requires { page.0 < length stores.now.windows.pages }
     ensures { Reads (operators.operate stores.now page op.Cookie args.now) result }
 {
@@ -49,7 +49,7 @@ fn value_at(stores: &Stores, domain: &Domain, key: &Text) -> Result<Val, Fail>
 pub(crate) fn set_cookie<C: Ledger>(
     stores: &mut Stores,
     page: PageId,
-    args: &Vals,
+    args: &[Val],
     copies: &mut Steps<C>,
 ) -> Result<Val, Fail>
     requires { page.0 < length stores.old.windows.pages }
@@ -100,7 +100,7 @@ fn set_at<C: Ledger>(
 pub(crate) fn del_cookie<C: Ledger>(
     stores: &mut Stores,
     page: PageId,
-    args: &Vals,
+    args: &[Val],
     copies: &mut Steps<C>,
 ) -> Result<Val, Fail>
     requires { page.0 < length stores.old.windows.pages }

@@ -13,11 +13,11 @@ use crate::words::{kind_named, word_of};
 use ff_name::Text;
 use ff_operators::Fail;
 use ff_stores::Stores;
-use ff_value::{Fault, NodeId, PageId, Val, Vals};
+use ff_value::{Fault, NodeId, PageId, Val};
 use std::alloc::Global;
 
 /// `kind`: the word of a node's kind.
-pub(crate) fn kind(alloc: Global, stores: &Stores, page: PageId, args: &Vals) -> Result<Val, Fail>
+pub(crate) fn kind(alloc: Global, stores: &Stores, page: PageId, args: &[Val]) -> Result<Val, Fail>
     requires { All (IsVal (made stores.now)) args.now }
     ensures { Reads (operators.operate stores.now page op.Kind args.now) result }
 {
@@ -31,7 +31,7 @@ pub(crate) fn kind(alloc: Global, stores: &Stores, page: PageId, args: &Vals) ->
 }
 
 /// `text`: the text or label of a node whose kind has one.
-pub(crate) fn text(stores: &Stores, page: PageId, args: &Vals) -> Result<Val, Fail>
+pub(crate) fn text(stores: &Stores, page: PageId, args: &[Val]) -> Result<Val, Fail>
     requires { All (IsVal (made stores.now)) args.now }
     ensures { Reads (operators.operate stores.now page op.Text args.now) result }
 {
@@ -52,7 +52,7 @@ fn text_of(stores: &Stores, n: NodeId) -> Result<Val, Fail>
 }
 
 /// `count`: how many children a node has.
-pub(crate) fn count(stores: &Stores, page: PageId, args: &Vals) -> Result<Val, Fail>
+pub(crate) fn count(stores: &Stores, page: PageId, args: &[Val]) -> Result<Val, Fail>
     requires { All (IsVal (made stores.now)) args.now }
     ensures { Reads (operators.operate stores.now page op.Count args.now) result }
 {
@@ -63,7 +63,7 @@ pub(crate) fn count(stores: &Stores, page: PageId, args: &Vals) -> Result<Val, F
 }
 
 /// `child`: the child of a node at a place.
-pub(crate) fn child(stores: &Stores, page: PageId, args: &Vals) -> Result<Val, Fail>
+pub(crate) fn child(stores: &Stores, page: PageId, args: &[Val]) -> Result<Val, Fail>
     requires { All (IsVal (made stores.now)) args.now }
     ensures { Reads (operators.operate stores.now page op.Child args.now) result }
 {
@@ -77,7 +77,7 @@ pub(crate) fn child(stores: &Stores, page: PageId, args: &Vals) -> Result<Val, F
 }
 
 /// `find`: the first node of a name in the tree of a node, or `null`.
-pub(crate) fn find(stores: &Stores, page: PageId, args: &Vals) -> Result<Val, Fail>
+pub(crate) fn find(stores: &Stores, page: PageId, args: &[Val]) -> Result<Val, Fail>
     requires { All (IsVal (made stores.now)) args.now }
     ensures { Reads (operators.operate stores.now page op.Find args.now) result }
 {
@@ -91,7 +91,7 @@ pub(crate) fn find(stores: &Stores, page: PageId, args: &Vals) -> Result<Val, Fa
 }
 
 /// `nth`: the node of a kind and a number in the tree of a node, or `null`.
-pub(crate) fn nth(stores: &Stores, page: PageId, args: &Vals) -> Result<Val, Fail>
+pub(crate) fn nth(stores: &Stores, page: PageId, args: &[Val]) -> Result<Val, Fail>
     requires { All (IsVal (made stores.now)) args.now }
     ensures { Reads (operators.operate stores.now page op.Nth args.now) result }
 {

@@ -22,7 +22,7 @@ use ff_operators::Fail;
 use ff_operators::operands::{one_str, two_strs};
 use ff_steps::Steps;
 use ff_stores::Stores;
-use ff_value::{Fault, Out, PageId, Val, Vals, WinId};
+use ff_value::{Fault, Out, PageId, Val, WinId};
 use std::alloc::Global;
 use std::sync::ledger::Ledger;
 
@@ -31,7 +31,7 @@ pub(crate) fn open<C: Ledger>(
     alloc: Global,
     stores: &mut Stores,
     page: PageId,
-    args: &Vals,
+    args: &[Val],
     outs: &mut Vec<Out>,
     copies: &mut Steps<C>,
 ) -> Result<Val, Fail>
@@ -70,7 +70,7 @@ pub(crate) fn open_named<C: Ledger>(
     alloc: Global,
     stores: &mut Stores,
     page: PageId,
-    args: &Vals,
+    args: &[Val],
     outs: &mut Vec<Out>,
     copies: &mut Steps<C>,
 ) -> Result<Val, Fail>
@@ -206,7 +206,7 @@ pub(crate) fn go<C: Ledger>(
     alloc: Global,
     stores: &mut Stores,
     page: PageId,
-    args: &Vals,
+    args: &[Val],
     outs: &mut Vec<Out>,
     copies: &mut Steps<C>,
 ) -> Result<Val, Fail>
@@ -267,7 +267,7 @@ fn go_at<C: Ledger>(
 pub(crate) fn close<C: Ledger>(
     stores: &mut Stores,
     page: PageId,
-    args: &Vals,
+    args: &[Val],
     outs: &mut Vec<Out>,
     copies: &mut Steps<C>,
 ) -> Result<Val, Fail>

@@ -14,7 +14,7 @@ use crate::{asking, changes, cookies, nodes, opening, windows};
 use ff_operators::Fail;
 use ff_steps::Steps;
 use ff_stores::Stores;
-use ff_value::{Op, Out, PageId, Val, Vals};
+use ff_value::{Op, Out, PageId, Val};
 use std::alloc::Global;
 use std::sync::ledger::Ledger;
 
@@ -26,7 +26,7 @@ pub fn operate<C: Ledger>(
     stores: &mut Stores,
     page: PageId,
     op: Op,
-    args: &Vals,
+    args: &[Val],
     outs: &mut Vec<Out>,
     copies: &mut Steps<C>,
 ) -> Result<Val, Fail>

@@ -9,11 +9,11 @@ ghost use Rattle.ff_machine.specs.Operators as operators;
 use ff_name::Text;
 use ff_operators::{Fail, MOST_MADE_BYTES, apply};
 use ff_stores::Stores;
-use ff_value::{Fault, Op, Val, Vals};
+use ff_value::{Fault, Op, Val};
 use std::alloc::Global;
 
 /// A pure operator. All operands of an operator that isn't pure are a kind fault here.
-pub(crate) fn pure(alloc: Global, stores: &mut Stores, op: Op, args: &Vals) -> Result<Val, Fail>
+pub(crate) fn pure(alloc: Global, stores: &mut Stores, op: Op, args: &[Val]) -> Result<Val, Fail>
     ensures { (puts : List Out) → Does (operators.with_mass stores.old (pure.apply op args.now stores.old.mass)) result stores.old stores.new puts puts }
 {
     let applied = apply(alloc, op, args, stores.mass())?;

@@ -13,11 +13,11 @@ use crate::readers::{is_open, shown_address, shown_page};
 use ff_operators::Fail;
 use ff_operators::operands::one_str;
 use ff_stores::Stores;
-use ff_value::{Fault, PageId, Val, Vals, WinId};
+use ff_value::{Fault, PageId, Val, WinId};
 use std::alloc::Global;
 
 /// `self`: the window of the task's page.
-pub(crate) fn self_window(stores: &Stores, page: PageId, args: &Vals) -> Result<Val, Fail>
+pub(crate) fn self_window(stores: &Stores, page: PageId, args: &[Val]) -> Result<Val, Fail>
     requires { page.0 < length stores.now.windows.pages }
     ensures { Reads (operators.operate stores.now page op.SelfWindow args.now) result }
 {
@@ -28,7 +28,7 @@ pub(crate) fn self_window(stores: &Stores, page: PageId, args: &Vals) -> Result<
 }
 
 /// `opener`: the window whose script opened an open window, or `null`.
-pub(crate) fn opener(stores: &Stores, page: PageId, args: &Vals) -> Result<Val, Fail>
+pub(crate) fn opener(stores: &Stores, page: PageId, args: &[Val]) -> Result<Val, Fail>
     requires { All (IsVal (made stores.now)) args.now }
     ensures { Reads (operators.operate stores.now page op.Opener args.now) result }
 {
@@ -49,7 +49,7 @@ fn opener_of(stores: &Stores, opened: WinId) -> Result<Val, Fail>
 }
 
 /// `live`: whether a window is open.
-pub(crate) fn live(stores: &Stores, page: PageId, args: &Vals) -> Result<Val, Fail>
+pub(crate) fn live(stores: &Stores, page: PageId, args: &[Val]) -> Result<Val, Fail>
     ensures { Reads (operators.operate stores.now page op.Live args.now) result }
 {
     match one_win(args) {
@@ -63,7 +63,7 @@ pub(crate) fn url(
     alloc: Global,
     stores: &mut Stores,
     page: PageId,
-    args: &Vals,
+    args: &[Val],
 ) -> Result<Val, Fail>
     requires { All (IsVal (made stores.old)) args.now }
     ensures { (puts : List Out) → Does (operators.operate stores.old page op.Url args.now) result stores.old stores.new puts puts }
@@ -86,7 +86,7 @@ fn url_of(alloc: Global, stores: &mut Stores, window: WinId) -> Result<Val, Fail
 }
 
 /// `page`: the root of an open window's page.
-pub(crate) fn page(stores: &Stores, page: PageId, args: &Vals) -> Result<Val, Fail>
+pub(crate) fn page(stores: &Stores, page: PageId, args: &[Val]) -> Result<Val, Fail>
     requires { All (IsVal (made stores.now)) args.now }
     ensures { Reads (operators.operate stores.now page op.Page args.now) result }
 {
@@ -108,7 +108,7 @@ fn root_of(stores: &Stores, window: WinId) -> Result<Val, Fail>
 }
 
 /// `window`: the first open window of a name, or `null`.
-pub(crate) fn window(stores: &Stores, page: PageId, args: &Vals) -> Result<Val, Fail>
+pub(crate) fn window(stores: &Stores, page: PageId, args: &[Val]) -> Result<Val, Fail>
     ensures { Reads (operators.operate stores.now page op.Window args.now) result }
 {
     match one_str(args) {

@@ -7,7 +7,7 @@ use crate::store::Store;
 use ff_frames::Control;
 use ff_operators::{Applied, apply};
 use ff_term::{MOST_CALLS, Redex};
-use ff_value::{ActId, Body, Code, Name, Names, NoMemory, Op, Val, Vals};
+use ff_value::{ActId, Body, Code, Name, Names, NoMemory, Op, Val};
 use std::alloc::Global;
 
 /// A script that runs.
@@ -81,8 +81,8 @@ fn reduce(
             write(alloc, control, store, name, value)
         }
         Redex::Make(params, body) => make(alloc, control, params, body),
-        Redex::Apply(callee, args) => call(alloc, control, store, callee, args),
-        Redex::Prim(op, args) => operate(alloc, control, *op, args),
+        Redex::Apply(callee, args) => call(alloc, control, store, callee, args.as_slice()),
+        Redex::Prim(op, args) => operate(alloc, control, *op, args.as_slice()),
         Redex::Tree(_) => control.give(alloc, Val::Null),
     }
 }
@@ -133,14 +133,14 @@ fn call(
     control: &mut Control,
     store: &mut Store,
     callee: &Val,
-    args: &Vals,
+    args: &[Val],
 ) -> Result<(), NoMemory>
     requires { is_value control.old.expr ≡ false }
 {
     match callee {
         Val::Code(code) if control.depth() < MOST_CALLS => {
             let act = ActId(control.depth() + 1);
-            if let Some(arg) = args.get(0) {
+            if let Some(arg) = args.first() {
                 store.put(act, arg)?;
             }
             control.enter(alloc, act, &code.body)
@@ -149,7 +149,7 @@ fn call(
     }
 }
 
-fn operate(alloc: Global, control: &mut Control, op: Op, args: &Vals) -> Result<(), NoMemory>
+fn operate(alloc: Global, control: &mut Control, op: Op, args: &[Val]) -> Result<(), NoMemory>
     requires { is_value control.old.expr ≡ false }
 {
     match apply(alloc, op, args, 0) {

@@ -18,7 +18,7 @@ use ff_operators::Fail;
 use ff_steps::Steps;
 use ff_stores::Stores;
 use ff_term::MOST_CALLS;
-use ff_value::{ActId, Code, Fault, Val, Vals};
+use ff_value::{ActId, Code, Fault, Val};
 use std::alloc::{AllocError, Global};
 use std::sync::ledger::Ledger;
 
@@ -48,7 +48,7 @@ pub(crate) fn reduce_call<C: Ledger>(
     control: &mut Control,
     stores: &mut Stores,
     f: &Val,
-    args: &Vals,
+    args: &[Val],
     copies: &mut Steps<C>,
 ) -> Result<Reduced, NoMemory>
     requires unfinished { is_value control.old.expr ≡ false }
@@ -71,7 +71,7 @@ fn call_code<C: Ledger>(
     control: &mut Control,
     stores: &mut Stores,
     code: &Code,
-    args: &Vals,
+    args: &[Val],
     copies: &mut Steps<C>,
 ) -> Result<Reduced, NoMemory>
     requires unfinished { is_value control.old.expr ≡ false }
@@ -107,7 +107,7 @@ fn enter(alloc: Global, control: &mut Control, act: ActId, code: &Code) -> Resul
 }
 
 /// Whether the function has as many parameters as there are arguments.
-fn takes(code: &Code, args: &Vals) -> bool
+fn takes(code: &Code, args: &[Val]) -> bool
     ensures { IsTrue result ↔ (length code.now.params ≡ length args.now) }
 {
     code.params.len() == args.len()

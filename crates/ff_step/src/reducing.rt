@@ -96,7 +96,9 @@ fn rewrite<C: Ledger>(
             Ok(Reduced::Moved)
         }
         Redex::Test(v) => reduce_test(alloc, control, stores, &v),
-        Redex::Apply(f, args) => reduce_call(alloc, control, stores, &f, &args, copies),
+        Redex::Apply(f, args) => {
+            reduce_call(alloc, control, stores, &f, args.as_slice(), copies)
+        },
         Redex::Var(x) => {
             let got = variable(stores, a, &x);
             finish(alloc, control, got)
@@ -122,7 +124,7 @@ fn rewrite<C: Ledger>(
             finish(alloc, control, got)
         }
         Redex::Prim(op, args) => {
-            let got = operate(alloc, stores, page, op, &args, outs, copies);
+            let got = operate(alloc, stores, page, op, args.as_slice(), outs, copies);
             finish(alloc, control, got)
         }
     }

@@ -11,7 +11,7 @@ use crate::stores::Stores;
 use ff_name::Name;
 use ff_operators::Fail;
 use ff_steps::Steps;
-use ff_value::{ActId, Names, Val, Vals};
+use ff_value::{ActId, Names, Val};
 use std::sync::ledger::Ledger;
 
 impl Stores {
@@ -76,7 +76,7 @@ impl Stores {
         &mut self,
         parent: ActId,
         params: &Names,
-        args: &Vals,
+        args: &[Val],
         copies: &mut Steps<C>,
     ) -> Result<ActId, Fail>
         requires lives { parent.0 < length self.old.windows.acts }

@@ -5,7 +5,7 @@ use crate::words::{ended, refused};
 use anyhow::{Result, bail};
 use ff_operators::Fail;
 use ff_steps::Steps;
-use ff_value::{ActId, Name, Names, NoMemory, Val, Vals};
+use ff_value::{ActId, Name, Names, NoMemory, Val};
 use ff_windows::Windows;
 use std::alloc::Global;
 use std::sync::ledger::Ledger;
@@ -68,12 +68,10 @@ fn call<C: Ledger>(
     let (a, rest) = parted(rest);
     let (x, n) = parted(rest);
     let a = activation(windows, a)?;
-    let mut values = Vec::new(alloc);
-    values.push(Val::Num(whole(n)?))?;
+    let args = [Val::Num(whole(n)?)];
     let mut names = Vec::new(alloc);
     names.push(variable(alloc, x)?)?;
     let params = Names::from_vec(alloc, names)?;
-    let args = Vals::from_vec(alloc, values)?;
     Ok(called(alloc, windows.new_act(a, &params, &args, copies))?)
 }
 
@@ -86,8 +84,7 @@ fn enter<C: Ledger>(
 ) -> Result<String> {
     let a = activation(windows, rest)?;
     let params = Names::from_vec(alloc, Vec::new(alloc))?;
-    let args = Vals::from_vec(alloc, Vec::new(alloc))?;
-    Ok(called(alloc, windows.new_act(a, &params, &args, copies))?)
+    Ok(called(alloc, windows.new_act(a, &params, &[], copies))?)
 }
 
 fn called(alloc: Global, answer: Result<ActId, Fail>) -> Result<String, NoMemory> {

@@ -6,3 +6,4 @@ pub mod Rows
 pub mod Meets
 pub mod Sources
 pub mod Redexes
+pub mod Few

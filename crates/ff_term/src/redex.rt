@@ -1,4 +1,5 @@
-use ff_value::{Body, Doc, Name, Names, Op, Val, Vals};
+use crate::operands::Operands;
+use ff_value::{Body, Doc, Name, Names, Op, Val};
 
 /// The redex of a runtime expression, as far as the stores decide what it becomes.
 #[derive(Debug, Drop)]
@@ -16,9 +17,9 @@ pub enum Redex {
     /// A function to be made, of its parameters and its body.
     Make(Names, Body),
     /// A function and its arguments.
-    Apply(Val, Vals),
+    Apply(Val, Operands),
     /// A document to be made into nodes.
     Tree(Doc),
     /// An operator and its operands.
-    Prim(Op, Vals),
+    Prim(Op, Operands),
 }

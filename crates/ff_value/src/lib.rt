@@ -24,5 +24,5 @@ pub use input::{Act, Input, Offers};
 pub use kind::Kind;
 pub use output::{Out, Pair, Pairs, Seen, Shown};
 pub use reply::{CookieOp, Cookies, Resp};
-pub use value::{Code, Codes, Val, Vals};
+pub use value::{Code, Codes, Val};
 pub use weigh::weight_resp;

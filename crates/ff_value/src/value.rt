@@ -6,9 +6,6 @@ use ff_shared::SharedList;
 use ff_tree::{Body, Names, same_names};
 use std::cmp::{Eq, PartialEq};
 
-/// A list of values.
-pub type Vals = SharedList<Val>;
-
 /// A list of functions, as the handlers of a node.
 pub type Codes = SharedList<Code>;
 

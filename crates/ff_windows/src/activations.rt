@@ -10,7 +10,7 @@ use crate::windows::Windows;
 use ff_name::Name;
 use ff_operators::Fail;
 use ff_steps::Steps;
-use ff_value::{ActId, Names, Val, Vals};
+use ff_value::{ActId, Names, Val};
 use std::sync::ledger::Ledger;
 
 impl Windows {
@@ -86,7 +86,7 @@ impl Windows {
         &mut self,
         parent: ActId,
         params: &Names,
-        args: &Vals,
+        args: &[Val],
         copies: &mut Steps<C>,
     ) -> Result<ActId, Fail>
         requires lives { parent.0 < length self.old.acts }

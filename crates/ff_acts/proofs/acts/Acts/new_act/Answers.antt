@@ -29,22 +29,22 @@ push_act-requires-clause-room g c =
 pub declare-requires-clause-lives : goal.declare-requires-clause-lives
 declare-requires-clause-lives g c =
     let long : c.len-number.result ≡ length c.args.self.now = c.len-number.ensures.value ∙ sym (length_seen c.self.inside.acts c.self.inside.vars) ∙ ap length c.self.view_is in
-    omega (arith, long, ap length c.loop-i.invariant.called, length_push c.args.self.now (record { parent = Some c.args.parent; vars = finmap.from_entries (zip (take c.loop-i.i c.as_slice-names.result.now) (take c.loop-i.i c.as_slice-values.result.now)) }))
+    omega (arith, long, ap length c.loop-i.invariant.called, length_push c.args.self.now (record { parent = Some c.args.parent; vars = finmap.from_entries (zip (take c.loop-i.i c.as_slice-names.result.now) (take c.loop-i.i c.args.args.now)) }))
 
 pub loop-i-preserved : goal.loop-i-preserved
 loop-i-preserved g c =
     let long : c.len-number.result ≡ length c.args.self.now = c.len-number.ensures.value ∙ sym (length_seen c.self.inside.acts c.self.inside.vars) ∙ ap length c.self.view_is in
     let names = c.as_slice-names.result.now in
-    let values = c.as_slice-values.result.now in
-    let same : length names ≡ length values = ap length c.as_slice-names.ensures ∙ c.requires.lengths ∙ sym (ap length c.as_slice-values.ensures) in
+    let values = c.args.args.now in
+    let same : length names ≡ length values = ap length c.as_slice-names.ensures ∙ c.requires.lengths in
     let number : ActId = record { 0 = c.len-number.result } in
     let name_at = slice_get_read names (length names) c.loop-i.i c.index-names-i.result refl (omega arith) c.index-names-i.is in
-    let value_at = slice_get_read values (length values) c.loop-i.i c.index-values-i.result refl (omega arith) c.index-values-i.is in
+    let value_at = slice_get_read values (length values) c.loop-i.i c.index-args-i.result refl (omega arith) c.index-args-i.is in
     record {
       called =
           c.in-Ok.ensures.done
-          ∙ ap (λ acts. windows.set_var acts number c.index-names-i.result c.index-values-i.result) c.loop-i.invariant.called
-          ∙ called_more c.args.self.now c.args.parent number names values c.loop-i.i c.index-names-i.result c.index-values-i.result (subst AreParams (sym c.as_slice-names.ensures) c.requires.names) (sym long) name_at value_at;
+          ∙ ap (λ acts. windows.set_var acts number c.index-names-i.result c.index-args-i.result) c.loop-i.invariant.called
+          ∙ called_more c.args.self.now c.args.parent number names values c.loop-i.i c.index-names-i.result c.index-args-i.result (subst AreParams (sym c.as_slice-names.ensures) c.requires.names) (sym long) name_at value_at;
       later = omega (arith, c.loop-i.invariant.later, c.in-Ok.ensures.later);
       copies = omega (arith, c.loop-i.invariant.copies, c.in-Ok.ensures.copies);
     }

@@ -5,53 +5,67 @@ use std::alloc::Global;
 use std::marker::Model;
 use std::{mem, slice};
 
-/// As many values as there are; one takes no memory of its own.
-#[derive(Drop)]
+/// As many values as there are; up to two take no memory of their own.
+#[derive(Debug, Drop)]
 pub enum Few {
     None,
     One(Val),
+    Two([Val; 2]),
     Many(Vec<Val>),
 }
 
-/// The values of some operands, in their order.
-#[derive(Drop)]
-pub struct Values {
+/// The values of some operands, or of a call's arguments, in their order: contracts see the list.
+/// Up to two take no memory.
+#[derive(Debug, Drop)]
+pub struct Operands {
     alloc: Global,
-    items: Few,
+    values: Few,
 }
 
-impl Model for Values {
+impl Model for Operands {
     ghost use Rattle.std.specs.Prelude.{List};
     ghost use Rattle.ff_value.specs.declared.value.Val.{Val};
     ghost use Rattle.std.specs.Coded.{coded_list};
     ghost use Rattle.ff_value.specs.contracts.value.Val as val;
-    ghost use Rattle.ff_frames.specs.Places.{all_of};
+    ghost use Rattle.ff_term.specs.Few.{all_of};
 
     ghost Value = { List Val };
 
     ghost coded = { coded_list val.the_row.coded };
 
-    ghost view = { λ s. all_of s.items };
+    ghost view = { λ o. all_of o.values };
 }
 
-impl Values {
+impl Operands {
     /// No values.
-    pub fn new(alloc: Global) -> Values
+    pub fn new(alloc: Global) -> Operands
         ensures { result ≡ [] }
     {
-        Values {
+        Operands {
             alloc,
-            items: Few::None,
+            values: Few::None,
         }
+    }
+
+    /// Copies of some values.
+    pub fn of(alloc: Global, values: &[Val]) -> Result<Operands, NoMemory>
+        ensures { IfOk result (λ all. all ≡ values.now) }
+    {
+        let mut all = Operands::new(alloc);
+        for value in values {
+            all.push(value.copy()?)?;
+        }
+        Ok(all)
     }
 
     /// The values, lent in their order.
     pub fn as_slice(&self) -> &[Val]
         ensures { result.now ≡ self.now }
     {
-        match &self.items {
+        match &self.values {
             Few::None => &[],
             Few::One(value) => slice::from_ref(value),
+            Few::Two(values) => values.as_slice(),
             Few::Many(values) => values.as_slice(),
         }
     }
@@ -60,11 +74,13 @@ impl Values {
     pub fn push(&mut self, value: Val) -> Result<(), NoMemory>
         ensures { OnOk result (self.new ≡ self.old ++ value ∷ []) }
     {
-        self.items = match mem::replace(&mut self.items, Few::None) {
+        self.values = match mem::replace(&mut self.values, Few::None) {
             Few::None => Few::One(value),
-            Few::One(first) => {
-                let mut values = Vec::with_capacity(self.alloc, 2)?;
+            Few::One(first) => Few::Two([first, value]),
+            Few::Two([first, second]) => {
+                let mut values = Vec::with_capacity(self.alloc, 3)?;
                 values.push(first)?;
+                values.push(second)?;
                 values.push(value)?;
                 Few::Many(values)
             }
@@ -76,26 +92,10 @@ impl Values {
         Ok(())
     }
 
-    /// The values, and then one more.
-    pub fn and(alloc: Global, values: &[Val], last: &Val) -> Result<Vec<Val>, NoMemory>
-        ensures { IfOk result (λ all. all.items ≡ values.now ++ last.now ∷ []) }
-    {
-        let mut all = Vec::with_capacity(alloc, values.len() + 1)?;
-        for value in values {
-            all.push(value.copy()?)?;
-        }
-        all.push(last.copy()?)?;
-        Ok(all)
-    }
-
     /// Equal values.
-    pub fn copy(&self) -> Result<Values, NoMemory>
+    pub fn copy(&self) -> Result<Operands, NoMemory>
         ensures { IfOk result (λ all. all ≡ self.now) }
     {
-        let mut all = Values::new(self.alloc);
-        for value in self.as_slice() {
-            all.push(value.copy()?)?;
-        }
-        Ok(all)
+        Operands::of(self.alloc, self.as_slice())
     }
 }
