@@ -8,5 +8,5 @@ use Rattle.ff_term.specs.declared.operands.Few.TheVariants as few
 abbrev pub all_of : Few → List Val
 all_of few.None = []
 all_of (few.One v) = v ∷ []
-all_of (few.Two vs) = vs.items
+all_of (few.Two vs) = vs
 all_of (few.Many vs) = vs.items

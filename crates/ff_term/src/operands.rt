@@ -74,16 +74,11 @@ impl Operands {
     pub fn push(&mut self, value: Val) -> Result<(), NoMemory>
         ensures { OnOk result (self.new ≡ self.old ++ value ∷ []) }
     {
+        let alloc = self.alloc;
         self.values = match mem::replace(&mut self.values, Few::None) {
             Few::None => Few::One(value),
             Few::One(first) => Few::Two([first, value]),
-            Few::Two([first, second]) => {
-                let mut values = Vec::with_capacity(self.alloc, 3)?;
-                values.push(first)?;
-                values.push(second)?;
-                values.push(value)?;
-                Few::Many(values)
-            }
+            Few::Two(two) => Few::Many(three(alloc, two, value)?),
             Few::Many(mut values) => {
                 values.push(value)?;
                 Few::Many(values)
@@ -98,4 +93,16 @@ impl Operands {
     {
         Operands::of(self.alloc, self.as_slice())
     }
+}
+
+/// A vector of two values and a third.
+fn three(alloc: Global, two: [Val; 2], third: Val) -> Result<Vec<Val>, NoMemory>
+    ensures { IfOk result (λ all. all.items ≡ two ++ third ∷ []) }
+{
+    let [first, second] = two;
+    let mut values = Vec::with_capacity(alloc, 3)?;
+    values.push(first)?;
+    values.push(second)?;
+    values.push(third)?;
+    Ok(values)
 }
