@@ -14,7 +14,8 @@ use Rattle.ff_machine.specs.declared.kinds.Kind.{Kind}
 use Rattle.ff_machine.specs.declared.kinds.Kind.TheVariants as kind
 use Rattle.ff_machine.specs.declared.records.Shape.{Shape}
 use Rattle.ff_machine.specs.declared.records.Shape.TheVariants as shape
-use Rattle.ff_machine.specs.Shapes.{kind_of, kind_word, text_of, url_of}
+use Rattle.ff_machine.specs.Kinds.{kind_word}
+use Rattle.ff_machine.specs.Shapes.{kind_of, text_of, url_of}
 use Rattle.ff_machine.specs.Nodes.{Node, no_node, node_at, Walk, text_fault}
 use Rattle.ff_machine.specs.Windows.{is_win, is_open, page_at}
 use Rattle.ff_machine.specs.Alone.{IsNode}

@@ -15,9 +15,9 @@ use Rattle.ff_tree.specs.declared.tree.Handler.{Handler}
 use Rattle.ff_tree.specs.declared.tree.Doc.TheOpen.{Doc-F, Expr-F, Handler-F}
 use Rattle.ff_tree.specs.declared.tree.Doc.TheFolds.{fold-Doc, fold-Expr, fold-Handler}
 use Rattle.ff_value.specs.declared.output.Pair.{Pair}
-use Rattle.ff_value.specs.declared.output.Seen.{Seen}
-use Rattle.ff_value.specs.declared.output.Seen.TheOpen.{Seen-F}
-use Rattle.ff_value.specs.declared.output.Seen.TheFolds.{fold-Seen}
+use Rattle.ff_value.specs.declared.output.ShownPart.{ShownPart}
+use Rattle.ff_value.specs.declared.output.ShownPart.TheOpen.{ShownPart-F}
+use Rattle.ff_value.specs.declared.output.ShownPart.TheFolds.{fold-ShownPart}
 use Rattle.ff_value.specs.declared.reply.CookieOp.{CookieOp}
 use Rattle.ff_value.specs.declared.reply.CookieOp.TheVariants as cookie
 use Rattle.ff_value.specs.declared.reply.Resp.{Resp}
@@ -98,19 +98,19 @@ resp_item (resp.Script cookies e) = parens (word (resp_word resp_head.Script) �
 resp_item (resp.Data cookies text) = parens (word (resp_word resp_head.Data) ∷ cookies_item cookies ∷ string text ∷ [])
 
 -- one layer of what the user is shown, where the items of its parts stand in their places
-abbrev pub seen_form : Seen-F Sexp → Sexp
-seen_form (Seen-F.Text text) = parens (word (doc_word doc_head.Text) ∷ string text ∷ [])
-seen_form (Seen-F.Link url label) = parens (word (doc_word doc_head.Link) ∷ address url ∷ string label ∷ [])
-seen_form (Seen-F.TextBox text) = parens (word (doc_word doc_head.TextBox) ∷ string text ∷ [])
-seen_form (Seen-F.Button label) = parens (word (doc_word doc_head.Button) ∷ string label ∷ [])
-seen_form (Seen-F.Div parts) = parens (word (doc_word doc_head.Div) ∷ parts)
+abbrev pub shown_part_form : ShownPart-F Sexp → Sexp
+shown_part_form (ShownPart-F.Text text) = parens (word (doc_word doc_head.Text) ∷ string text ∷ [])
+shown_part_form (ShownPart-F.Link url label) = parens (word (doc_word doc_head.Link) ∷ address url ∷ string label ∷ [])
+shown_part_form (ShownPart-F.TextBox text) = parens (word (doc_word doc_head.TextBox) ∷ string text ∷ [])
+shown_part_form (ShownPart-F.Button label) = parens (word (doc_word doc_head.Button) ∷ string label ∷ [])
+shown_part_form (ShownPart-F.Div parts) = parens (word (doc_word doc_head.Div) ∷ parts)
 
-abbrev pub seen_item : Seen → Sexp
-seen_item = fold-Seen Sexp seen_form
+abbrev pub shown_part_item : ShownPart → Sexp
+shown_part_item = fold-ShownPart Sexp shown_part_form
 
 -- a page as the user is shown it
-abbrev pub shown_item : List Seen → Sexp
-shown_item shown = parens (word (codes "page") ∷ map seen_item shown)
+abbrev pub shown_item : List ShownPart → Sexp
+shown_item shown = parens (word (codes "page") ∷ map shown_part_item shown)
 
 abbrev pub pair_item : Pair → Sexp
 pair_item pair = parens (string pair.key ∷ string pair.value ∷ [])

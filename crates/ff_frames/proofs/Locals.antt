@@ -10,7 +10,7 @@ use Rattle.ff_value.specs.declared.ids.ActId.{ActId}
 use Rattle.ff_value.specs.declared.value.Val.{Val}
 use Rattle.ff_term.specs.Running.{Running, Done, Do, more}
 use Rattle.ff_term.specs.Rows.{IsLocal, local_row}
-use Rattle.ff_term.specs.Whole.{whole, wholes, level}
+use Rattle.ff_term.specs.Whole.{whole, wholes, layer}
 use Rattle.ff_term.proofs.Forms.{whole-Lit, whole-Do, whole-While}
 use Rattle.ff_frames.specs.declared.frame.Frame.TheVariants as frame
 use Rattle.ff_frames.specs.Frames.{around, wrap}
@@ -19,16 +19,16 @@ use Rattle.ff_frames.proofs.Reading.{drop-none}
 
 -- what is put for a `while`
 pub while-row : (form e f x : Expr) → form ≡ expr.While e f → x ≡ expr.If e (expr.Do (f ∷ form ∷ [])) (expr.Lit lit.Null)
-    → level (out-Expr x) ≡ local_row (level (out-Expr form))
+    → layer (out-Expr x) ≡ local_row (layer (out-Expr form))
 while-row form e f x h k =
     rw (k, h, expr.outs-If e (expr.Do (f ∷ expr.While e f ∷ [])) (expr.Lit lit.Null), expr.outs-While e f, whole-Do (f ∷ expr.While e f ∷ []), whole-Lit lit.Null, whole-While e f) refl
 
 -- for an `and`
-pub and-row : (form e f x : Expr) → form ≡ expr.And e f → x ≡ expr.If e f (expr.Lit (lit.Bool false)) → level (out-Expr x) ≡ local_row (level (out-Expr form))
+pub and-row : (form e f x : Expr) → form ≡ expr.And e f → x ≡ expr.If e f (expr.Lit (lit.Bool false)) → layer (out-Expr x) ≡ local_row (layer (out-Expr form))
 and-row form e f x h k = rw (k, h, expr.outs-If e f (expr.Lit (lit.Bool false)), expr.outs-And e f, whole-Lit (lit.Bool false)) refl
 
 -- for an `or`
-pub or-row : (form e f x : Expr) → form ≡ expr.Or e f → x ≡ expr.If e (expr.Lit (lit.Bool true)) f → level (out-Expr x) ≡ local_row (level (out-Expr form))
+pub or-row : (form e f x : Expr) → form ≡ expr.Or e f → x ≡ expr.If e (expr.Lit (lit.Bool true)) f → layer (out-Expr x) ≡ local_row (layer (out-Expr form))
 or-row form e f x h k = rw (k, h, expr.outs-If e (expr.Lit (lit.Bool true)) f, expr.outs-Or e f, whole-Lit (lit.Bool true)) refl
 
 -- for a `do` of a last value

@@ -9,9 +9,9 @@ use Rattle.ff_value.specs.declared.ids.ActId.{ActId}
 use Rattle.ff_value.specs.declared.value.Val.{Val}
 use Rattle.ff_term.specs.declared.TheConstants.{MOST_CALLS}
 use Rattle.ff_term.specs.Running.{Running, Done, Inside, Evaluation, insides, innermost, is_value, redex, rewritten_in}
-use Rattle.ff_term.specs.Whole.{whole, level}
+use Rattle.ff_term.specs.Whole.{whole, layer}
 use Rattle.ff_term.specs.Rows.{IsLocal, IsTest}
-use Rattle.ff_term.proofs.Forms.{whole-level}
+use Rattle.ff_term.proofs.Forms.{whole-layer}
 use Rattle.ff_frames.specs.declared.frame.Frame.{Frame}
 use Rattle.ff_frames.specs.declared.frame.Frame.TheVariants as frame
 use Rattle.ff_frames.specs.declared.frame.Focus.{Focus}
@@ -152,9 +152,9 @@ called s t u v x o is same e = e ∙ ap (with_part u) same ∙ pushed s t u (fra
 
 -- ---- the redex read off the stack
 
--- the redex by its level
-pub form-level : (s : Stack) (e f : Expr) → s.focus ≡ focus.Part e → f ≡ e → IsValid s → redex (evaluation s).expr ≡ level (out-Expr f)
-form-level s e f h same v = form-is s e h v ∙ whole-level e ∙ ap (λ x. level (out-Expr x)) (sym same)
+-- the redex by its layer
+pub form-layer : (s : Stack) (e f : Expr) → s.focus ≡ focus.Part e → f ≡ e → IsValid s → redex (evaluation s).expr ≡ layer (out-Expr f)
+form-layer s e f h same v = form-is s e h v ∙ whole-layer e ∙ ap (λ x. layer (out-Expr x)) (sym same)
 
 -- the innermost frame has all its operands
 pub full-frame : (s : Stack) (rest : List Frame) (f : Frame) (v : Val) → s.focus ≡ focus.Value v → s.frames.items ≡ rest ++ f ∷ [] → IsValid s → IsFull f
@@ -172,13 +172,13 @@ test-frame (frame.Part e vs) a v h = test-if (out-Expr e) vs v h
 test-frame (frame.Do es n) a v h = absurd h
 test-frame (frame.Inside b) a v h = absurd h
 
-row-test : (l : Expr-F Doc Expr Handler) → IsRow l → IsTest (level l) → ⊥
+row-test : (l : Expr-F Doc Expr Handler) → IsRow l → IsTest (layer l) → ⊥
 row-test (Expr-F.If e f g) r h = r
 row-test _ r h = h
 
 -- a form at hand is no test
 pub no-test : (s : Stack) (e : Expr) → s.focus ≡ focus.Part e → IsValid s → IsTest (redex (evaluation s).expr) → ⊥
-no-test s e h v t = row-test (out-Expr e) (row-of s e h v) (rw (form-level s e e h refl v) at t)
+no-test s e h v t = row-test (out-Expr e) (row-of s e h v) (rw (form-layer s e e h refl v) at t)
 
 local-any : (f : Frame) (a b : ActId) (x : Running) → IsLocal (wrap f a x) → IsLocal (wrap f b x)
 local-any (frame.Part e vs) a b x h = h

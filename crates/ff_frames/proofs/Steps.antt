@@ -9,8 +9,8 @@ use Rattle.ff_tree.specs.declared.tree.Doc.TheOpen.{Expr-F}
 use Rattle.ff_tree.specs.declared.tree.Doc.TheFolds.{fold_out-Expr}
 use Rattle.ff_value.specs.declared.value.Val.{Val}
 use Rattle.ff_term.specs.Running.{Running, Runnings, Done, Do, Prim, more}
-use Rattle.ff_term.specs.Whole.{whole, wholes, literal, level}
-use Rattle.ff_term.proofs.Forms.{whole-level, whole-Lit, whole-Do}
+use Rattle.ff_term.specs.Whole.{whole, wholes, literal, layer}
+use Rattle.ff_term.proofs.Forms.{whole-layer, whole-Lit, whole-Do}
 use Rattle.ff_frames.specs.declared.frame.Frame.TheVariants as frame
 use Rattle.ff_frames.specs.declared.frame.Focus.{Focus}
 use Rattle.ff_frames.specs.Frames.{operands, after, around, shown}
@@ -58,7 +58,7 @@ fed (Expr-F.Prim op es) vs v e h =
 fed _ vs v e h = cc
 
 -- the first operand at hand
-pub opened : (l : Expr-F Doc Expr Handler) (e : Expr) → slice_get (operands l) zero ≡ Some e → around l [] (whole e) ≡ level l
+pub opened : (l : Expr-F Doc Expr Handler) (e : Expr) → slice_get (operands l) zero ≡ Some e → around l [] (whole e) ≡ layer l
 opened (Expr-F.Let n f) e h = let p : f ≡ e = cc in rw p refl
 opened (Expr-F.Set n f) e h = let p : f ≡ e = cc in rw p refl
 opened (Expr-F.If f g g') e h = let p : f ≡ e = cc in rw p refl
@@ -87,7 +87,7 @@ pub opens : (e f : Expr) (l : Expr-F Doc Expr Handler) (vs : List Val) (part : E
     → out-Expr e ≡ l → f ≡ e → vs ≡ [] → slice_get (operands l) zero ≡ Some part
     → shown x ≡ whole part → load x ≡ inner (out-Expr part) → IsSettled x → Opens e (frame.Part f vs) x
 opens e f l vs part x le fe empty first same less settled = record {
-  expr = λ a. rw (fe, le, empty, same) (opened l part first ∙ sym (rw le at (whole-level e)));
+  expr = λ a. rw (fe, le, empty, same) (opened l part first ∙ sym (rw le at (whole-layer e)));
   outside = λ a. refl;
   call = refl;
   settled = settled;

@@ -7,8 +7,8 @@ use Rattle.ff_tree.specs.declared.tree.Doc.TheOpen.{Expr-F}
 use Rattle.ff_value.specs.declared.ids.ActId.{ActId}
 use Rattle.ff_value.specs.declared.value.Val.{Val}
 use Rattle.ff_term.specs.Running.{Running, Done, Prim, none, is_value, are_values, redex, rewritten}
-use Rattle.ff_term.specs.Whole.{whole, level}
-use Rattle.ff_term.proofs.Forms.{whole-level}
+use Rattle.ff_term.specs.Whole.{whole, layer}
+use Rattle.ff_term.proofs.Forms.{whole-layer}
 use Rattle.ff_frames.specs.declared.frame.Frame.{Frame}
 use Rattle.ff_frames.specs.declared.frame.Frame.TheVariants as frame
 use Rattle.ff_frames.specs.Frames.{operands, after, around, wrap, outside, base_of, plug, is_call, calls}
@@ -18,47 +18,47 @@ use Rattle.ff_frames.proofs.Reading.{drop-none}
 
 -- ---- a form that is a redex as it stands
 
-level-open : (l : Expr-F Doc Expr Handler) → IsRow l → is_value (level l) ≡ false
-level-open (Expr-F.Lit l) h = absurd h
-level-open _ h = refl
+layer-open : (l : Expr-F Doc Expr Handler) → IsRow l → is_value (layer l) ≡ false
+layer-open (Expr-F.Lit l) h = absurd h
+layer-open _ h = refl
 
-level-rewritten : (g : Running → Running) (l : Expr-F Doc Expr Handler) → IsRow l → rewritten g (level l) ≡ g (level l)
-level-rewritten g (Expr-F.Lit l) h = absurd h
-level-rewritten g (Expr-F.Let x e) h = absurd h
-level-rewritten g (Expr-F.Set x e) h = absurd h
-level-rewritten g (Expr-F.If e e' e'') h = absurd h
-level-rewritten g (Expr-F.Apply e es) h = absurd h
-level-rewritten g (Expr-F.Do []) h = refl
-level-rewritten g (Expr-F.Do (e ∷ es)) h = absurd h
-level-rewritten g (Expr-F.Prim op []) h = refl
-level-rewritten g (Expr-F.Prim op (e ∷ es)) h = absurd h
-level-rewritten g _ h = refl
+layer-rewritten : (g : Running → Running) (l : Expr-F Doc Expr Handler) → IsRow l → rewritten g (layer l) ≡ g (layer l)
+layer-rewritten g (Expr-F.Lit l) h = absurd h
+layer-rewritten g (Expr-F.Let x e) h = absurd h
+layer-rewritten g (Expr-F.Set x e) h = absurd h
+layer-rewritten g (Expr-F.If e e' e'') h = absurd h
+layer-rewritten g (Expr-F.Apply e es) h = absurd h
+layer-rewritten g (Expr-F.Do []) h = refl
+layer-rewritten g (Expr-F.Do (e ∷ es)) h = absurd h
+layer-rewritten g (Expr-F.Prim op []) h = refl
+layer-rewritten g (Expr-F.Prim op (e ∷ es)) h = absurd h
+layer-rewritten g _ h = refl
 
-level-redex : (l : Expr-F Doc Expr Handler) → IsRow l → redex (level l) ≡ level l
-level-redex (Expr-F.Lit l) h = absurd h
-level-redex (Expr-F.Let x e) h = absurd h
-level-redex (Expr-F.Set x e) h = absurd h
-level-redex (Expr-F.If e e' e'') h = absurd h
-level-redex (Expr-F.Apply e es) h = absurd h
-level-redex (Expr-F.Do []) h = refl
-level-redex (Expr-F.Do (e ∷ es)) h = absurd h
-level-redex (Expr-F.Prim op []) h = refl
-level-redex (Expr-F.Prim op (e ∷ es)) h = absurd h
-level-redex _ h = refl
+layer-redex : (l : Expr-F Doc Expr Handler) → IsRow l → redex (layer l) ≡ layer l
+layer-redex (Expr-F.Lit l) h = absurd h
+layer-redex (Expr-F.Let x e) h = absurd h
+layer-redex (Expr-F.Set x e) h = absurd h
+layer-redex (Expr-F.If e e' e'') h = absurd h
+layer-redex (Expr-F.Apply e es) h = absurd h
+layer-redex (Expr-F.Do []) h = refl
+layer-redex (Expr-F.Do (e ∷ es)) h = absurd h
+layer-redex (Expr-F.Prim op []) h = refl
+layer-redex (Expr-F.Prim op (e ∷ es)) h = absurd h
+layer-redex _ h = refl
 
 -- it is no value
 pub form-open : (e : Expr) → IsRow (out-Expr e) → is_value (whole e) ≡ false
-form-open e h = rw (whole-level e) (level-open (out-Expr e) h)
+form-open e h = rw (whole-layer e) (layer-open (out-Expr e) h)
 
 -- it is rewritten where it stands
 pub form-rewritten : (g : Running → Running) (fs : List Frame) (a : ActId) (e : Expr) → IsRow (out-Expr e)
     → rewritten g (plug fs a (whole e)) ≡ plug fs a (g (whole e))
 form-rewritten g fs a e h =
-    plug_rewritten g fs a (whole e) (form-open e h) ∙ ap (plug fs a) (let p = level-rewritten g (out-Expr e) h in rw (whole-level e) p)
+    plug_rewritten g fs a (whole e) (form-open e h) ∙ ap (plug fs a) (let p = layer-rewritten g (out-Expr e) h in rw (whole-layer e) p)
 
 -- it is the redex of the whole
 pub form-redex : (fs : List Frame) (a : ActId) (e : Expr) → IsRow (out-Expr e) → redex (plug fs a (whole e)) ≡ whole e
-form-redex fs a e h = plug_redex fs a (whole e) (form-open e h) ∙ (let p = level-redex (out-Expr e) h in rw (whole-level e) p)
+form-redex fs a e h = plug_redex fs a (whole e) (form-open e h) ∙ (let p = layer-redex (out-Expr e) h in rw (whole-layer e) p)
 
 -- ---- a value that completes the redex with the frame around it
 

@@ -3,7 +3,7 @@ ghost use Rattle.std.proofs.Common.{suc};
 ghost use Rattle.ff_tree.specs.declared.tree.Expr.{out-Expr};
 ghost use Rattle.ff_value.specs.declared.ids.ActId.{ActId};
 ghost use Rattle.ff_term.specs.Running.{Done, none};
-ghost use Rattle.ff_term.specs.Whole.{level};
+ghost use Rattle.ff_term.specs.Whole.{layer};
 ghost use Rattle.ff_frames.specs.Frames.{wrap, around, applied, after, operands};
 ghost use Rattle.ff_frames.specs.Seeking.{IsFull, IsRow};
 ghost use Rattle.ff_term.specs.Redexes.{IsRedexOf};
@@ -17,7 +17,7 @@ use std::alloc::Global;
 /// The redex that an expression is as it stands.
 pub fn read_form(alloc: Global, form: &Expr) -> Result<Redex, NoMemory>
     requires { IsRow (out-Expr form.now) }
-    ensures { IfOk result (λ r. IsRedexOf r (level (out-Expr form.now))) }
+    ensures { IfOk result (λ r. IsRedexOf r (layer (out-Expr form.now))) }
 {
     match form {
         Expr::Var(name) => Ok(Redex::Var(name.copy()?)),

@@ -6,7 +6,7 @@ ghost use Rattle.ff_value.specs.declared.ids.ActId.{ActId};
 ghost use Rattle.ff_value.specs.declared.value.Val.{Val};
 ghost use Rattle.ff_term.specs.Running.{Done};
 ghost use Rattle.ff_term.specs.Rows.{IsLocal, branch, local_row};
-ghost use Rattle.ff_term.specs.Whole.{level};
+ghost use Rattle.ff_term.specs.Whole.{layer};
 ghost use Rattle.ff_frames.specs.Frames.{around, shown, wrap};
 ghost use Rattle.ff_frames.specs.Seeking.{IsSettled, IsRow};
 ghost use Rattle.ff_frames.specs.Rewrites.{in_do, IsIf, IsIfFrame};
@@ -42,8 +42,8 @@ fn turn_of(alloc: Global, form: &Expr, test: &Body, body: &Body) -> Result<Expr,
 /// What a form becomes that no store decides.
 fn local_expr(alloc: Global, form: &Expr) -> Result<Expr, NoMemory>
     requires row { IsRow (out-Expr form.now) }
-    requires local { IsLocal (level (out-Expr form.now)) }
-    ensures { IfOk result (λ e. level (out-Expr e) ≡ local_row (level (out-Expr form.now))) }
+    requires local { IsLocal (layer (out-Expr form.now)) }
+    ensures { IfOk result (λ e. layer (out-Expr e) ≡ local_row (layer (out-Expr form.now))) }
 {
     match form {
         Expr::While(test, body) => turn_of(alloc, form, test, body),
@@ -66,8 +66,8 @@ fn local_expr(alloc: Global, form: &Expr) -> Result<Expr, NoMemory>
 /// What is put for a form that is a redex which no store decides.
 pub fn local_form(alloc: Global, form: &Expr) -> Result<Focus, NoMemory>
     requires row { IsRow (out-Expr form.now) }
-    requires local { IsLocal (level (out-Expr form.now)) }
-    ensures same { IfOk result (λ x. shown x ≡ local_row (level (out-Expr form.now))) }
+    requires local { IsLocal (layer (out-Expr form.now)) }
+    ensures same { IfOk result (λ x. shown x ≡ local_row (layer (out-Expr form.now))) }
     ensures settled { IfOk result IsSettled }
 {
     let next = local_expr(alloc, form)?;

@@ -31,7 +31,8 @@ use Rattle.ff_machine.specs.declared.records.Dst.TheVariants as dst
 use Rattle.ff_machine.specs.declared.records.Pending.{Pending}
 use Rattle.ff_machine.specs.declared.records.Shape.{Shape}
 use Rattle.ff_machine.specs.declared.records.Shape.TheVariants as shape
-use Rattle.ff_machine.specs.Shapes.{kind_word, url_of}
+use Rattle.ff_machine.specs.Kinds.{kind_word}
+use Rattle.ff_machine.specs.Shapes.{url_of}
 use Rattle.ff_machine.specs.Nodes as nodes
 use Rattle.ff_machine.specs.Nodes.{Node, no_node, node_at, Walk}
 use Rattle.ff_machine.specs.Windows.{no_page, no_window, page_at, window_at, is_open, is_live}

@@ -1,5 +1,5 @@
 -- What valid stores put into outputs is well spelled: cookies, which stand in order of their keys,
--- what is seen, and places of windows.
+-- what is shown, and places of windows.
 use Rattle.std.proofs.Common.{◌≡◌, ℕ, zero, suc, ◌<◌, ◌≤◌, Bool, true, false, cond, ◌&&◌, Option, Some, None, List, [], ◌∷◌, ◌++◌, map, flat_map, filter, length, All, unwrap_or, bytes_eq, refl, sym, ap, subst, ◌∙◌, arith}
 use Rattle.std.specs.Prelude.{T}
 use Rattle.std.specs.List.{AllByRecursion, position}
@@ -14,19 +14,19 @@ use Rattle.std.specs.FinMap.Entries.{below_all, is_sorted, is_sorted-where_key, 
 use Rattle.std.proofs.lemmas.List.Elements.{All-from_recursion, recursion_from_All, All-filter, All-map, All-weaker, filter_passes}
 use Rattle.std.proofs.lemmas.List.Quantifiers.{position-Some}
 use Rattle.std.proofs.lemmas.Map.Text.{is_eq-slice_cmp}
-use Rattle.ff_value.specs.Spelled.{IsNat, IsSpelledPair, IsSpelledSeen, seen_spelled}
+use Rattle.ff_value.specs.Spelled.{IsNat, IsSpelledPair, IsSpelledShownPart, shown_part_spelled}
 use Rattle.ff_value.specs.declared.ids.NodeId.{NodeId}
 use Rattle.ff_value.specs.declared.ids.WinId.{WinId}
 use Rattle.ff_value.specs.declared.output.Pair.{Pair}
-use Rattle.ff_value.specs.declared.output.Seen.{Seen}
-use Rattle.ff_value.specs.declared.output.Seen.TheVariants as seen
-use Rattle.ff_value.specs.declared.output.Seen.TheOpen.{Seen-F}
-use Rattle.ff_value.specs.declared.output.Seen.TheViews.{out-Seen, roll-out-Seen}
-use Rattle.ff_value.specs.declared.output.Seen.TheFolds.{map-Seen, rec-roll-Seen}
+use Rattle.ff_value.specs.declared.output.ShownPart.{ShownPart}
+use Rattle.ff_value.specs.declared.output.ShownPart.TheVariants as shown_part
+use Rattle.ff_value.specs.declared.output.ShownPart.TheOpen.{ShownPart-F}
+use Rattle.ff_value.specs.declared.output.ShownPart.TheViews.{out-ShownPart, roll-out-ShownPart}
+use Rattle.ff_value.specs.declared.output.ShownPart.TheFolds.{map-ShownPart, rec-roll-ShownPart}
 use Rattle.ff_machine.specs.declared.limits.TheConstants.{MOST_WINDOWS, MOST_TREE_DEPTH}
 use Rattle.ff_machine.specs.declared.records.Shape.{Shape}
 use Rattle.ff_machine.specs.declared.records.Shape.TheVariants as shape
-use Rattle.ff_machine.specs.Shapes.{seen_as}
+use Rattle.ff_machine.specs.Shapes.{shown_as}
 use Rattle.ff_machine.specs.Nodes.{Node, no_node, node_at, children, shown_within, shown}
 use Rattle.ff_machine.specs.Windows.{is_win}
 use Rattle.ff_machine.specs.Net.{Jar, cookie_cmp, pairs_of}
@@ -130,7 +130,7 @@ pairs_ordered jar domain =
     keys_rise domain own (recursion_from_All (IsOwn domain) own (filter_passes (λ (e : (List ℕ × List ℕ) × List ℕ). bytes_eq e.0.0 domain) es))
     (is_sorted-where_key cookie_cmp (λ (k : List ℕ × List ℕ). bytes_eq k.0 domain) es (finmap.entries_sorted jar))
 
--- What is seen.
+-- What is shown.
 
 -- what holds of mapped items holds of each through the map
 all_mapped : {A B : Type 0} (f : A → B) (P : B → Type 0) (xs : List A) → AllByRecursion (λ x. P (f x)) xs ≡ AllByRecursion P (map f xs)
@@ -138,56 +138,56 @@ all_mapped f P [] = refl
 all_mapped f P (x ∷ xs) = ap (λ (A : Type 0). P (f x) × A) (all_mapped f P xs)
 
 -- a layer is spelled where its mapped parts are
-seen_of_parts : (S : Type 0) (s : S → Seen) (claim : Seen → Type 0) (x : Seen-F S) → seen_spelled S (λ p. claim (s p)) x ≡ seen_spelled Seen claim (map-Seen S Seen s x)
-seen_of_parts S s claim (Seen-F.Text text) = refl
-seen_of_parts S s claim (Seen-F.Link url label) = refl
-seen_of_parts S s claim (Seen-F.TextBox text) = refl
-seen_of_parts S s claim (Seen-F.Button label) = refl
-seen_of_parts S s claim (Seen-F.Div parts) = all_mapped s claim parts
+shown_of_parts : (S : Type 0) (s : S → ShownPart) (claim : ShownPart → Type 0) (x : ShownPart-F S) → shown_part_spelled S (λ p. claim (s p)) x ≡ shown_part_spelled ShownPart claim (map-ShownPart S ShownPart s x)
+shown_of_parts S s claim (ShownPart-F.Text text) = refl
+shown_of_parts S s claim (ShownPart-F.Link url label) = refl
+shown_of_parts S s claim (ShownPart-F.TextBox text) = refl
+shown_of_parts S s claim (ShownPart-F.Button label) = refl
+shown_of_parts S s claim (ShownPart-F.Div parts) = all_mapped s claim parts
 
--- what is seen is spelled as its layer is
-seen_out : (x : Seen) → IsSpelledSeen x ≡ seen_spelled Seen IsSpelledSeen (out-Seen x)
-unfolding IsSpelledSeen
-seen_out x = ap IsSpelledSeen (sym (roll-out-Seen x)) ∙ rec-roll-Seen (Type 0) (λ S _. seen_spelled S) seen_of_parts (out-Seen x)
+-- what is shown is spelled as its layer is
+shown_part_out : (x : ShownPart) → IsSpelledShownPart x ≡ shown_part_spelled ShownPart IsSpelledShownPart (out-ShownPart x)
+unfolding IsSpelledShownPart
+shown_part_out x = ap IsSpelledShownPart (sym (roll-out-ShownPart x)) ∙ rec-roll-ShownPart (Type 0) (λ S _. shown_part_spelled S) shown_of_parts (out-ShownPart x)
 
--- what is seen is spelled where its layer is
-seen_is : (x : Seen) (layer : Seen-F Seen) → out-Seen x ≡ layer → seen_spelled Seen IsSpelledSeen layer → IsSpelledSeen x
-seen_is x layer e h = subst (λ (A : Type 0). A) (sym (seen_out x ∙ ap (seen_spelled Seen IsSpelledSeen) e)) h
+-- what is shown is spelled where its layer is
+shown_part_is : (x : ShownPart) (layer : ShownPart-F ShownPart) → out-ShownPart x ≡ layer → shown_part_spelled ShownPart IsSpelledShownPart layer → IsSpelledShownPart x
+shown_part_is x layer e h = subst (λ (A : Type 0). A) (sym (shown_part_out x ∙ ap (shown_part_spelled ShownPart IsSpelledShownPart) e)) h
 
--- a valid shape is seen as something spelled
-seen_as_spelled : (x : Shape) (parts : List Seen) → IsShape x → AllByRecursion IsSpelledSeen parts → AllByRecursion IsSpelledSeen (seen_as x parts)
-seen_as_spelled (shape.Page page) parts is h = tt
-seen_as_spelled (shape.Text x text) parts is h = (seen_is (seen.Text text) (Seen-F.Text text) (seen.outs-Text text) is.1, tt)
-seen_as_spelled (shape.Link x url text) parts is h = (seen_is (seen.Link url text) (Seen-F.Link url text) (seen.outs-Link url text) (is.1, is.2), tt)
-seen_as_spelled (shape.TextBox x text) parts is h = (seen_is (seen.TextBox text) (Seen-F.TextBox text) (seen.outs-TextBox text) is.1, tt)
-seen_as_spelled (shape.Button x text) parts is h = (seen_is (seen.Button text) (Seen-F.Button text) (seen.outs-Button text) is.1, tt)
-seen_as_spelled (shape.Script x started body) parts is h = tt
-seen_as_spelled (shape.Src x started url) parts is h = tt
-seen_as_spelled (shape.Div x) parts is h = (seen_is (seen.Div parts) (Seen-F.Div parts) (seen.outs-Div parts) h, tt)
+-- a valid shape is shown as something spelled
+shown_as_spelled : (x : Shape) (parts : List ShownPart) → IsShape x → AllByRecursion IsSpelledShownPart parts → AllByRecursion IsSpelledShownPart (shown_as x parts)
+shown_as_spelled (shape.Page page) parts is h = tt
+shown_as_spelled (shape.Text x text) parts is h = (shown_part_is (shown_part.Text text) (ShownPart-F.Text text) (shown_part.outs-Text text) is.1, tt)
+shown_as_spelled (shape.Link x url text) parts is h = (shown_part_is (shown_part.Link url text) (ShownPart-F.Link url text) (shown_part.outs-Link url text) (is.1, is.2), tt)
+shown_as_spelled (shape.TextBox x text) parts is h = (shown_part_is (shown_part.TextBox text) (ShownPart-F.TextBox text) (shown_part.outs-TextBox text) is.1, tt)
+shown_as_spelled (shape.Button x text) parts is h = (shown_part_is (shown_part.Button text) (ShownPart-F.Button text) (shown_part.outs-Button text) is.1, tt)
+shown_as_spelled (shape.Script x started body) parts is h = tt
+shown_as_spelled (shape.Src x started url) parts is h = tt
+shown_as_spelled (shape.Div x) parts is h = (shown_part_is (shown_part.Div parts) (ShownPart-F.Div parts) (shown_part.outs-Div parts) h, tt)
 
--- two lists of what is seen are spelled together
-joined_spelled : (xs ys : List Seen) → AllByRecursion IsSpelledSeen xs → AllByRecursion IsSpelledSeen ys → AllByRecursion IsSpelledSeen (xs ++ ys)
+-- two lists of what is shown are spelled together
+joined_spelled : (xs ys : List ShownPart) → AllByRecursion IsSpelledShownPart xs → AllByRecursion IsSpelledShownPart ys → AllByRecursion IsSpelledShownPart (xs ++ ys)
 joined_spelled [] ys g h = h
 joined_spelled (x ∷ xs) ys g h = (g.0, joined_spelled xs ys g.1 h)
 
--- what is seen of each of some nodes is spelled together
-each_spelled : (f : NodeId → List Seen) (ns : List NodeId) → ((n : NodeId) → AllByRecursion IsSpelledSeen (f n)) → AllByRecursion IsSpelledSeen (flat_map f ns)
+-- what is shown of each of some nodes is spelled together
+each_spelled : (f : NodeId → List ShownPart) (ns : List NodeId) → ((n : NodeId) → AllByRecursion IsSpelledShownPart (f n)) → AllByRecursion IsSpelledShownPart (flat_map f ns)
 each_spelled f [] h = tt
 each_spelled f (n ∷ ns) h = joined_spelled (f n) (flat_map f ns) (h n) (each_spelled f ns h)
 
--- what is seen of valid nodes through so many generations is spelled
-within_spelled : (more : ℕ) (all : List Node) (n : NodeId) → All IsNode all → AllByRecursion IsSpelledSeen (shown_within more all n)
+-- what is shown of valid nodes through so many generations is spelled
+within_spelled : (more : ℕ) (all : List Node) (n : NodeId) → All IsNode all → AllByRecursion IsSpelledShownPart (shown_within more all n)
 within_spelled zero all n are = tt
 within_spelled (suc more) all n are =
-    each_spelled (λ c. seen_as (node_at all c).shape (shown_within more all c)) (children all n) (λ c.
+    each_spelled (λ c. shown_as (node_at all c).shape (shown_within more all c)) (children all n) (λ c.
     let parts = shown_within more all c in
     let inner = within_spelled more all c are in
-    at_any (λ (node : Node). AllByRecursion IsSpelledSeen (seen_as node.shape parts)) all c.0 no_node
-    (All-weaker IsNode (λ (node : Node). AllByRecursion IsSpelledSeen (seen_as node.shape parts)) (λ node is. seen_as_spelled node.shape parts is.shape inner) all are)
-    (seen_is (seen.Div parts) (Seen-F.Div parts) (seen.outs-Div parts) inner, tt))
+    at_any (λ (node : Node). AllByRecursion IsSpelledShownPart (shown_as node.shape parts)) all c.0 no_node
+    (All-weaker IsNode (λ (node : Node). AllByRecursion IsSpelledShownPart (shown_as node.shape parts)) (λ node is. shown_as_spelled node.shape parts is.shape inner) all are)
+    (shown_part_is (shown_part.Div parts) (ShownPart-F.Div parts) (shown_part.outs-Div parts) inner, tt))
 
--- what the user sees of valid nodes is spelled
-pub shown_spelled : (all : List Node) (n : NodeId) → All IsNode all → AllByRecursion IsSpelledSeen (shown all n)
+-- what the user is shown of valid nodes is spelled
+pub shown_spelled : (all : List Node) (n : NodeId) → All IsNode all → AllByRecursion IsSpelledShownPart (shown all n)
 unfolding shown
 shown_spelled all n are = within_spelled (suc MOST_TREE_DEPTH) all n are
 

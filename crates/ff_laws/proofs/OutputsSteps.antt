@@ -223,7 +223,7 @@ one_or_none : (b : Bool) (o : Out) (rest : List Out) → IsOut o → AreOuts res
 one_or_none true o rest is h = first_spelled o rest is h
 one_or_none false o rest is h = h
 
--- what is seen of the windows that were changed
+-- what is shown of the windows that were changed
 updates_spelled : (s : Stores) (at : ℕ) (ws : List WinId) → All IsNode s.nodes → at + length ws ≤ MOST_WINDOWS → AreOuts (stores.updates_from s at ws)
 updates_spelled s at [] are few = none_spelled
 updates_spelled s at (w ∷ ws) are few =

@@ -16,7 +16,7 @@ use Rattle.ff_tree.specs.declared.tree.Doc.TheFolds.{map-Expr, fold_out-Expr}
 use Rattle.ff_tree.specs.declared.tree.Expr.{Expr}
 use Rattle.ff_tree.specs.declared.tree.Expr.TheVariants as expr
 use Rattle.ff_tree.specs.declared.tree.Lit.TheVariants as lit
-use Rattle.ff_tree.proofs.Levels.{IsSpelledExpr-Lit}
+use Rattle.ff_tree.proofs.Layers.{IsSpelledExpr-Lit}
 use Rattle.ff_value.specs.Spelled.{IsNat}
 use Rattle.ff_value.specs.declared.ids.NodeId.{NodeId}
 use Rattle.ff_value.specs.declared.ids.PageId.{PageId}

@@ -8,7 +8,7 @@ use denote.Hole.Holds.{Such}
 use Rattle.ff_name.specs.declared.limits.TheConstants.{MOST_DEPTH}
 use Rattle.ff_name.specs.declared.urls.Url.{Url}
 use Rattle.ff_tree.specs.Spelled.{IsSpelledDoc, IsSpelledHandler, doc_depth, expr_depth, handler_depth, doc_nesting, expr_nesting, handler_nesting, most}
-use Rattle.ff_tree.proofs.Levels.{IsSpelledHandler-out, IsSpelledDoc-Text, IsSpelledDoc-Link, IsSpelledDoc-TextBox, IsSpelledDoc-Button, IsSpelledDoc-Script, IsSpelledDoc-Src, IsSpelledDoc-Div}
+use Rattle.ff_tree.proofs.Layers.{IsSpelledHandler-out, IsSpelledDoc-Text, IsSpelledDoc-Link, IsSpelledDoc-TextBox, IsSpelledDoc-Button, IsSpelledDoc-Script, IsSpelledDoc-Src, IsSpelledDoc-Div}
 use Rattle.ff_tree.specs.declared.tree.Doc.{Doc}
 use Rattle.ff_tree.specs.declared.tree.Doc.TheVariants as doc
 use Rattle.ff_tree.specs.declared.tree.Doc.TheBlock.{the_family, member-Doc, member-Expr, member-Handler}

@@ -9,7 +9,7 @@ use Rattle.ff_reactive.specs.Turns.{Stepped}
 use Rattle.ff_tree.specs.declared.tree.Doc.{Doc}
 use Rattle.ff_value.specs.Weight.{resp_weight}
 use Rattle.ff_value.specs.declared.output.Out.{Out}
-use Rattle.ff_value.specs.declared.output.Seen.TheVariants as seen
+use Rattle.ff_value.specs.declared.output.ShownPart.TheVariants as shown_part
 use Rattle.ff_value.specs.declared.reply.Resp.TheVariants as resp
 use Rattle.ff_machine.specs.declared.records.Shape.TheVariants as shape
 use Rattle.ff_machine.specs.Nodes.{Walk, shown}
@@ -83,7 +83,7 @@ abbrev at_home : Stores
 at_home = with_home a_com (root_of (node 2 ∷ []) ∷ leaf (shape.Text (codes "t") (codes "hi")) ∷ []) 0 [] [] finmap.empty 114 finset.empty
 
 abbrev lines : List Out
-lines = loaded a_com (seen.Text (codes "hi") ∷ []) ∷ []
+lines = loaded a_com (shown_part.Text (codes "hi") ∷ []) ∷ []
 
 shows_tree : loaded_tree a_com 114 (under_root (lay_leaf (shape.Text (codes "t") (codes "hi")) [] ∷ [])) ≡ record { outputs = lines; after = at_home }
 unfolding Walk shown

@@ -13,7 +13,7 @@ use Rattle.ff_value.specs.Weight.{resp_weight}
 use Rattle.ff_value.specs.declared.fault.Fault.TheVariants as fault
 use Rattle.ff_value.specs.declared.output.Out.{Out}
 use Rattle.ff_value.specs.declared.output.Out.TheVariants as out
-use Rattle.ff_value.specs.declared.output.Seen.TheVariants as seen
+use Rattle.ff_value.specs.declared.output.ShownPart.TheVariants as shown_part
 use Rattle.ff_value.specs.declared.reply.Resp.TheVariants as resp
 use Rattle.ff_value.specs.declared.value.Val.TheVariants as val
 use Rattle.ff_term.specs.Running.{Running, Done, Prim, none, more}
@@ -85,7 +85,7 @@ abbrev both : List Entry
 both = Ready too_large ∷ Ready ok ∷ []
 
 abbrev no_lines : List Out
-no_lines = loaded a_com (seen.Text (codes "no") ∷ []) ∷ []
+no_lines = loaded a_com (shown_part.Text (codes "no") ∷ []) ∷ []
 
 shows_faulty_tree : loaded_tree a_com 437 faulty_tree ≡ record { outputs = no_lines; after = with_faulty (codes "no") both }
 unfolding Walk shown
@@ -104,7 +104,7 @@ unfolding turn Red reduction
 fails budget k = refl
 
 abbrev fault_lines : List Out
-fault_lines = loaded a_com (seen.Text (codes "no") ∷ []) ∷ out.Error 0 fault.Overflow ∷ updated (seen.Text (codes "ok") ∷ []) ∷ []
+fault_lines = loaded a_com (shown_part.Text (codes "no") ∷ []) ∷ out.Error 0 fault.Overflow ∷ updated (shown_part.Text (codes "ok") ∷ []) ∷ []
 
 -- the page with the text that the second script sets
 abbrev ok_page : Stores
@@ -118,7 +118,7 @@ module _ (n : ℕ) where
   handles_faulty =
       let r = reactor eight in
       let end = resting eight ok_page in
-      let os = updated (seen.Text (codes "ok") ∷ []) ∷ [] in
+      let os = updated (shown_part.Text (codes "ok") ∷ []) ∷ [] in
       handled r (suc eight) (resting eight (waiting a_com)) (busy eight (with_faulty (codes "no") both)) end (replying a_com faulty) no_lines (out.Error 0 fault.Overflow ∷ os) 9
       (loads_page a_com eight 437 faulty weight_faulty refl room_faulty ∙ ap (lifted (busy eight (answered a_com 437))) shows_faulty)
       (turned r eight _ _ end [] (out.Error 0 fault.Overflow ∷ os) 8 refl (begins_sum eight (amount.more 7 n))
@@ -178,10 +178,10 @@ abbrev slot_filled : List ℕ → List Entry → ℕ → Stores
 slot_filled text queue mass = with_home a_com (slotted_nodes text) 1 queue [] finmap.empty mass finset.empty
 
 abbrev zero_lines : List Out
-zero_lines = loaded a_com (seen.Text (codes "zero") ∷ []) ∷ send_to a_com (codes "/s") [] ∷ []
+zero_lines = loaded a_com (shown_part.Text (codes "zero") ∷ []) ∷ send_to a_com (codes "/s") [] ∷ []
 
 abbrev two_lines : List Out
-two_lines = updated (seen.Text (codes "two") ∷ []) ∷ []
+two_lines = updated (shown_part.Text (codes "two") ∷ []) ∷ []
 
 shows_slotted_tree : loaded_tree a_com 392 slotted_tree ≡ record { outputs = zero_lines; after = slot_waits }
 unfolding Walk shown

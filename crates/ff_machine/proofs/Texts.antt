@@ -10,7 +10,7 @@ use Rattle.ff_tree.specs.Weight.{string, expr_weight}
 use Rattle.ff_value.specs.declared.ids.NodeId.{NodeId}
 use Rattle.ff_value.specs.declared.ids.PageId.{PageId}
 use Rattle.ff_value.specs.declared.output.Out.{Out}
-use Rattle.ff_value.specs.declared.output.Seen.TheVariants as seen
+use Rattle.ff_value.specs.declared.output.ShownPart.TheVariants as shown_part
 use Rattle.ff_value.specs.declared.value.Val.TheVariants as val
 use Rattle.ff_term.specs.Running.{Running, Evaluation, Done, Prim, none, more}
 use Rattle.ff_term.specs.Whole.{whole}
@@ -59,7 +59,7 @@ pub record IsText (nodes : List ℕ → List Node) (n : NodeId) : Type 0 where
   pub may_be_set : (text : List ℕ) → text_fault (blank_root ∷ nodes text) n ≡ None
   pub set : (old text : List ℕ) → text_set (blank_root ∷ nodes old) n text ≡ blank_root ∷ nodes text
   pub page_is : (text : List ℕ) → page_root_of (blank_root ∷ nodes text) n ≡ Some (page 1)
-  pub shows : (text : List ℕ) → shown (blank_root ∷ nodes text) (node 1) ≡ seen.Text text ∷ []
+  pub shows : (text : List ℕ) → shown (blank_root ∷ nodes text) (node 1) ≡ shown_part.Text text ∷ []
 
 module _ (domain : List ℕ) (nodes : List ℕ → List Node) (n : NodeId) (is_text : IsText nodes n) (next budget : ℕ) where
   -- the page with a text, and its queue
@@ -131,6 +131,6 @@ module _ (domain : List ℕ) (nodes : List ℕ → List Node) (n : NodeId) (is_t
         (turned r most _ _ u [] others turns refl (ends k) later)))))
 
   -- with nothing else to do, the text is shown
-  pub shows_text : (text : List ℕ) (mass fuel : ℕ) (touched : Pages) → turn (between budget fuel (at text [] mass (finset.insert touched 1))) ≡ record { outputs = updated (seen.Text text ∷ []) ∷ []; after = resting budget (at text [] mass finset.empty) }
+  pub shows_text : (text : List ℕ) (mass fuel : ℕ) (touched : Pages) → turn (between budget fuel (at text [] mass (finset.insert touched 1))) ≡ record { outputs = updated (shown_part.Text text ∷ []) ∷ []; after = resting budget (at text [] mass finset.empty) }
   unfolding turn
   shows_text text mass fuel touched = rw (touched_last touched 1 refl, is_text.shows text) refl

@@ -20,7 +20,7 @@ use Rattle.ff_operators.specs.Pure.{part_of}
 use Rattle.ff_operators.proofs.Places.{boundary}
 use Rattle.ff_machine.specs.declared.kinds.Kind.{Kind}
 use Rattle.ff_machine.specs.declared.kinds.Kind.TheVariants as kind
-use Rattle.ff_machine.specs.Shapes.{kind_word}
+use Rattle.ff_machine.specs.Kinds.{kind_word}
 
 low : (b : ℕ) → nat_lt b 128 ≡ true → b < 128
 low b h = grind (arith, nat_tests)

@@ -1,4 +1,5 @@
 pub mod Faults
+pub mod Kinds
 pub mod Shapes
 pub mod Nodes
 pub mod Documents

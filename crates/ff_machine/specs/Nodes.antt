@@ -8,14 +8,15 @@ use Rattle.ff_value.specs.declared.fault.Fault.{Fault}
 use Rattle.ff_value.specs.declared.fault.Fault.TheVariants as fault
 use Rattle.ff_value.specs.declared.ids.NodeId.{NodeId}
 use Rattle.ff_value.specs.declared.ids.PageId.{PageId}
-use Rattle.ff_value.specs.declared.output.Seen.{Seen}
+use Rattle.ff_value.specs.declared.output.ShownPart.{ShownPart}
 use Rattle.ff_value.specs.declared.value.Code.{Code}
 use Rattle.ff_machine.specs.declared.kinds.Kind.{Kind}
 use Rattle.ff_machine.specs.declared.records.Shape.{Shape}
 use Rattle.ff_machine.specs.declared.records.Shape.TheVariants as shape
 use Rattle.ff_machine.specs.Faults.{limit_unless}
 use Rattle.ff_machine.specs.declared.limits.TheConstants.{MOST_NODES, MOST_TREE_DEPTH}
-use Rattle.ff_machine.specs.Shapes.{kind_of, kind_word, name_of, text_of, with_text, page_of, is_unstarted, as_started, may_have_children, may_have_handlers, seen_as}
+use Rattle.ff_machine.specs.Kinds.{kind_word}
+use Rattle.ff_machine.specs.Shapes.{kind_of, name_of, text_of, with_text, page_of, is_unstarted, as_started, may_have_children, may_have_handlers, shown_as}
 
 -- a node: what it is, its handlers in order, its children in order, and the node that it is a child
 -- of
@@ -112,13 +113,13 @@ by_name nodes n x = find (λ m. is_name x (name_of (node_at nodes m).shape)) (Wa
 abbrev pub scripts : List Node → NodeId → List NodeId
 scripts nodes n = filter (λ m. is_unstarted (node_at nodes m).shape) (Walk nodes n)
 
--- what the user sees of the children of n, through so many generations
-abbrev pub shown_within : ℕ → List Node → NodeId → List Seen
+-- what the user is shown of the children of n, through so many generations
+abbrev pub shown_within : ℕ → List Node → NodeId → List ShownPart
 shown_within zero nodes n = []
-shown_within (suc more) nodes n = flat_map (λ c. seen_as (node_at nodes c).shape (shown_within more nodes c)) (children nodes n)
+shown_within (suc more) nodes n = flat_map (λ c. shown_as (node_at nodes c).shape (shown_within more nodes c)) (children nodes n)
 
--- what the user sees of the children of n
-unfoldable pub shown : List Node → NodeId → List Seen
+-- what the user is shown of the children of n
+unfoldable pub shown : List Node → NodeId → List ShownPart
 shown nodes n = shown_within (suc MOST_TREE_DEPTH) nodes n
 
 -- Changes. Each is refused by the fault that stands above it.

@@ -21,7 +21,8 @@ use Rattle.ff_operators.specs.declared.answer.Applied.{Applied}
 use Rattle.ff_operators.specs.Pure.{apply, made}
 use Rattle.ff_operators.specs.Operands.{with_operands, no_operands, one_str, two_strs, one_win, win_str, one_node, node_str, node_num, node_str_num, nodes_num, node_code, strs_code}
 use Rattle.ff_name.specs.Reading.{read_url}
-use Rattle.ff_machine.specs.Shapes.{kind_of, kind_word, text_of}
+use Rattle.ff_machine.specs.Kinds.{kind_word}
+use Rattle.ff_machine.specs.Shapes.{kind_of, text_of}
 use Rattle.ff_machine.specs.Nodes as nodes
 use Rattle.ff_machine.specs.Nodes.{node_at, children}
 use Rattle.ff_machine.specs.Windows as windows

@@ -1,10 +1,10 @@
 -- What is read off the shape of a node.
-use Rattle.std.specs.Prelude.{ℕ, Bool, true, false, not, Option, Some, None, List, [], ◌∷◌, codes}
+use Rattle.std.specs.Prelude.{ℕ, Bool, true, false, not, Option, Some, None, List, [], ◌∷◌}
 use Rattle.ff_name.specs.declared.urls.Url.{Url}
 use Rattle.ff_tree.specs.declared.tree.Expr.{Expr}
 use Rattle.ff_value.specs.declared.ids.PageId.{PageId}
-use Rattle.ff_value.specs.declared.output.Seen.{Seen}
-use Rattle.ff_value.specs.declared.output.Seen.TheVariants as seen
+use Rattle.ff_value.specs.declared.output.ShownPart.{ShownPart}
+use Rattle.ff_value.specs.declared.output.ShownPart.TheVariants as shown_part
 use Rattle.ff_machine.specs.declared.kinds.Kind.{Kind}
 use Rattle.ff_machine.specs.declared.kinds.Kind.TheVariants as kind
 use Rattle.ff_machine.specs.declared.records.Shape.{Shape}
@@ -20,17 +20,6 @@ kind_of (shape.Button x text) = kind.Button
 kind_of (shape.Script x started body) = kind.Script
 kind_of (shape.Src x started url) = kind.Src
 kind_of (shape.Div x) = kind.Div
-
--- the word of a kind in scripts, in bytes of ASCII
-abbrev pub kind_word : Kind → List ℕ
-kind_word kind.Page = codes "page"
-kind_word kind.Text = codes "text"
-kind_word kind.Link = codes "link"
-kind_word kind.TextBox = codes "box"
-kind_word kind.Button = codes "button"
-kind_word kind.Script = codes "script"
-kind_word kind.Src = codes "src"
-kind_word kind.Div = codes "div"
 
 -- the name; the root of a page has none
 abbrev pub name_of : Shape → Option (List ℕ)
@@ -105,14 +94,14 @@ may_have_handlers (shape.TextBox x text) = true
 may_have_handlers (shape.Button x text) = true
 may_have_handlers other = false
 
--- what the user sees of it, where its children are seen as `parts`: nothing of a script, and no
+-- what the user is shown of it, where its children are shown as `parts`: nothing of a script, and no
 -- page inside a page
-abbrev pub seen_as : Shape → List Seen → List Seen
-seen_as (shape.Page page) parts = []
-seen_as (shape.Text x text) parts = seen.Text text ∷ []
-seen_as (shape.Link x url text) parts = seen.Link url text ∷ []
-seen_as (shape.TextBox x text) parts = seen.TextBox text ∷ []
-seen_as (shape.Button x text) parts = seen.Button text ∷ []
-seen_as (shape.Script x started body) parts = []
-seen_as (shape.Src x started url) parts = []
-seen_as (shape.Div x) parts = seen.Div parts ∷ []
+abbrev pub shown_as : Shape → List ShownPart → List ShownPart
+shown_as (shape.Page page) parts = []
+shown_as (shape.Text x text) parts = shown_part.Text text ∷ []
+shown_as (shape.Link x url text) parts = shown_part.Link url text ∷ []
+shown_as (shape.TextBox x text) parts = shown_part.TextBox text ∷ []
+shown_as (shape.Button x text) parts = shown_part.Button text ∷ []
+shown_as (shape.Script x started body) parts = []
+shown_as (shape.Src x started url) parts = []
+shown_as (shape.Div x) parts = shown_part.Div parts ∷ []

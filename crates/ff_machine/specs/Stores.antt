@@ -300,7 +300,7 @@ take_ready s = popped_of s (windows.ready s.windows)
 
 -- Settling.
 
--- what the user sees of the open windows from a place on whose pages were changed
+-- what the user is shown of the open windows from a place on whose pages were changed
 abbrev pub updates_from : Stores → ℕ → List WinId → List Out
 updates_from s at [] = []
 updates_from s at (w ∷ ws) =

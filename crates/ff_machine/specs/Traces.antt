@@ -16,8 +16,8 @@ use Rattle.ff_value.specs.declared.input.Act.TheVariants as act
 use Rattle.ff_value.specs.declared.input.Input.{Input}
 use Rattle.ff_value.specs.declared.output.Out.{Out}
 use Rattle.ff_value.specs.declared.output.Out.TheVariants as out
-use Rattle.ff_value.specs.declared.output.Seen.{Seen}
-use Rattle.ff_value.specs.declared.output.Seen.TheVariants as seen
+use Rattle.ff_value.specs.declared.output.ShownPart.{ShownPart}
+use Rattle.ff_value.specs.declared.output.ShownPart.TheVariants as shown_part
 use Rattle.ff_value.specs.declared.reply.Resp.TheVariants as resp
 
 -- inputs, and the outputs for each of them
@@ -57,11 +57,11 @@ module _ (domain : List ℕ) where
   opened = out.Opened ∷ send_to (codes "/") [] ∷ []
 
   -- `loaded 0 http://DOMAIN/ (page PART..)`
-  abbrev pub loaded : List Seen → Out
+  abbrev pub loaded : List ShownPart → Out
   loaded parts = out.Loaded 0 home parts
 
 -- `updated 0 (page PART..)`
-abbrev pub updated : List Seen → Out
+abbrev pub updated : List ShownPart → Out
 updated parts = out.Updated 0 parts
 
 -- Expressions.
@@ -100,7 +100,7 @@ greeting = doc.Text (codes "t") (codes "hi") ∷ []
 abbrev pub page_load : Trace
 page_load = record {
   inputs = opening a_com ∷ replying a_com greeting ∷ replying a_com greeting ∷ [];
-  outputs = opened a_com ∷ (loaded a_com (seen.Text (codes "hi") ∷ []) ∷ []) ∷ [] ∷ [];
+  outputs = opened a_com ∷ (loaded a_com (shown_part.Text (codes "hi") ∷ []) ∷ []) ∷ [] ∷ [];
 }
 
 -- The leak: a page whose button sends what the user typed into its box.
@@ -122,8 +122,8 @@ abbrev pub leaky : List Doc
 leaky = doc.TextBox (codes "b") [] [] ∷ doc.Button (codes "g") (codes "go") (sends_text ∷ []) ∷ []
 
 -- `(box TEXT) (button "go")`
-abbrev pub leaky_shown : List ℕ → List Seen
-leaky_shown text = seen.TextBox text ∷ seen.Button (codes "go") ∷ []
+abbrev pub leaky_shown : List ℕ → List ShownPart
+leaky_shown text = shown_part.TextBox text ∷ shown_part.Button (codes "go") ∷ []
 
 -- `type 0 0 "pin"`
 abbrev pub typing : Input
@@ -160,7 +160,7 @@ faulty = doc.Text (codes "x") (codes "no") ∷ doc.Script (codes "s") too_large 
 abbrev pub fault_in_script : Trace
 fault_in_script = record {
   inputs = opening a_com ∷ replying a_com faulty ∷ [];
-  outputs = opened a_com ∷ (loaded a_com (seen.Text (codes "no") ∷ []) ∷ out.Error 0 fault.Overflow ∷ updated (seen.Text (codes "ok") ∷ []) ∷ []) ∷ [];
+  outputs = opened a_com ∷ (loaded a_com (shown_part.Text (codes "no") ∷ []) ∷ out.Error 0 fault.Overflow ∷ updated (shown_part.Text (codes "ok") ∷ []) ∷ []) ∷ [];
 }
 
 -- A slot that waits: a script whose address was asked for holds back the next one until it comes.
@@ -176,7 +176,7 @@ slotted = doc.Src (codes "a") address ∷ doc.Script (codes "b") (set_x (codes "
 abbrev pub waiting_slot : Trace
 waiting_slot = record {
   inputs = opening a_com ∷ replying a_com slotted ∷ script_comes a_com (set_x (codes "one")) ∷ [];
-  outputs = opened a_com ∷ (loaded a_com (seen.Text (codes "zero") ∷ []) ∷ send_to a_com (codes "/s") [] ∷ []) ∷ (updated (seen.Text (codes "two") ∷ []) ∷ []) ∷ [];
+  outputs = opened a_com ∷ (loaded a_com (shown_part.Text (codes "zero") ∷ []) ∷ send_to a_com (codes "/s") [] ∷ []) ∷ (updated (shown_part.Text (codes "two") ∷ []) ∷ []) ∷ [];
 }
 
 -- A queue that is left: with one fuel for each input a script is begun and stopped, and the next

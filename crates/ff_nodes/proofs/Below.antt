@@ -3,9 +3,9 @@ use Rattle.std.proofs.Common.{◌≡◌, ℕ, zero, suc, ◌+◌, ◌<◌, List,
 use Rattle.std.specs.List.{AllByRecursion}
 use Rattle.std.proofs.lemmas.List.Elements.{recursion_from_All}
 use Rattle.ff_value.specs.declared.ids.NodeId.{NodeId}
-use Rattle.ff_value.specs.declared.output.Seen.{Seen}
+use Rattle.ff_value.specs.declared.output.ShownPart.{ShownPart}
 use Rattle.ff_machine.specs.declared.limits.TheConstants.{MOST_TREE_DEPTH}
-use Rattle.ff_machine.specs.Shapes.{seen_as}
+use Rattle.ff_machine.specs.Shapes.{shown_as}
 use Rattle.ff_machine.specs.Nodes.{Node, Walk, walk_within, node_at, children, depth, shown, shown_within}
 use Rattle.ff_machine.specs.Alone.{AreTrees}
 use Rattle.ff_machine.proofs.Depths.{depth_up}
@@ -32,21 +32,21 @@ module _ (nodes : List Node) (trees : AreTrees nodes) where
   walk_out n =
       ap (λ ms. n ∷ ms) (sym (same_each (walk_within (suc MOST_TREE_DEPTH) nodes) (walk_within MOST_TREE_DEPTH nodes) (children nodes n) (recursion_from_All (λ c. walk_within (suc MOST_TREE_DEPTH) nodes c ≡ walk_within MOST_TREE_DEPTH nodes c) (children nodes n) (λ i d here. walk_steady MOST_TREE_DEPTH (get_or (children nodes n) i d) (let deep = depth_child n i d here in omega (arith, deep))))))
 
-  -- what is seen of a child, where its own children are shown through so many generations
-  abbrev seen_within : ℕ → NodeId → List Seen
-  seen_within k c = seen_as (node_at nodes c).shape (shown_within k nodes c)
+  -- what is shown of a child, where its own children are shown through so many generations
+  abbrev shown_part_within : ℕ → NodeId → List ShownPart
+  shown_part_within k c = shown_as (node_at nodes c).shape (shown_within k nodes c)
 
   shown_steady : (k : ℕ) (n : NodeId) → MOST_TREE_DEPTH < k + depth nodes n → shown_within (suc k) nodes n ≡ shown_within k nodes n
   shown_steady zero n h = absurd (let ends = trees.ends n in omega (arith, ends, h))
   shown_steady (suc k) n h =
-      same_each (seen_within (suc k)) (seen_within k) (children nodes n) (recursion_from_All (λ c. seen_within (suc k) c ≡ seen_within k c) (children nodes n) (λ i d here. ap (seen_as (node_at nodes (get_or (children nodes n) i d)).shape) (shown_steady k (get_or (children nodes n) i d) (let deep = depth_child n i d here in omega (arith, deep, h)))))
+      same_each (shown_part_within (suc k)) (shown_part_within k) (children nodes n) (recursion_from_All (λ c. shown_part_within (suc k) c ≡ shown_part_within k c) (children nodes n) (λ i d here. ap (shown_as (node_at nodes (get_or (children nodes n) i d)).shape) (shown_steady k (get_or (children nodes n) i d) (let deep = depth_child n i d here in omega (arith, deep, h)))))
 
-  -- what is seen of a node
-  abbrev pub seen : NodeId → List Seen
-  seen c = seen_as (node_at nodes c).shape (shown nodes c)
+  -- what is shown of a node
+  abbrev pub shown_part : NodeId → List ShownPart
+  shown_part c = shown_as (node_at nodes c).shape (shown nodes c)
 
-  -- what is shown of a node is what is seen of its children
-  pub shown_out : (n : NodeId) → shown nodes n ≡ flat_map seen (children nodes n)
+  -- what is shown of a node is what is shown of its children
+  pub shown_out : (n : NodeId) → shown nodes n ≡ flat_map shown_part (children nodes n)
   unfolding shown
   shown_out n =
-      sym (same_each (seen_within (suc MOST_TREE_DEPTH)) (seen_within MOST_TREE_DEPTH) (children nodes n) (recursion_from_All (λ c. seen_within (suc MOST_TREE_DEPTH) c ≡ seen_within MOST_TREE_DEPTH c) (children nodes n) (λ i d here. ap (seen_as (node_at nodes (get_or (children nodes n) i d)).shape) (shown_steady MOST_TREE_DEPTH (get_or (children nodes n) i d) (let deep = depth_child n i d here in omega (arith, deep))))))
+      sym (same_each (shown_part_within (suc MOST_TREE_DEPTH)) (shown_part_within MOST_TREE_DEPTH) (children nodes n) (recursion_from_All (λ c. shown_part_within (suc MOST_TREE_DEPTH) c ≡ shown_part_within MOST_TREE_DEPTH c) (children nodes n) (λ i d here. ap (shown_as (node_at nodes (get_or (children nodes n) i d)).shape) (shown_steady MOST_TREE_DEPTH (get_or (children nodes n) i d) (let deep = depth_child n i d here in omega (arith, deep))))))

@@ -15,7 +15,8 @@ use Rattle.ff_machine.specs.declared.kinds.Kind.TheVariants as kind
 use Rattle.ff_machine.specs.declared.records.Shape.{Shape}
 use Rattle.ff_machine.specs.declared.records.Shape.TheVariants as shape
 use Rattle.ff_machine.specs.declared.limits.TheConstants.{MOST_TREE_DEPTH}
-use Rattle.ff_machine.specs.Shapes.{kind_of, kind_word, name_of, is_unstarted}
+use Rattle.ff_machine.specs.Kinds.{kind_word}
+use Rattle.ff_machine.specs.Shapes.{kind_of, name_of, is_unstarted}
 use Rattle.ff_machine.specs.Nodes.{Node, Walk, walk_within, node_at, children, is_name, by_name, of_word, scripts}
 use Rattle.ff_nodes.specs.declared.cell.NodeCell.{NodeCell}
 use Rattle.ff_nodes.specs.declared.marks.Marks.{Marks}

@@ -2,8 +2,9 @@
 use Rattle.std.proofs.Common.{ℕ, Option, List, flat_map, find, filter}
 use Rattle.std.specs.Str.{bytes_eq}
 use Rattle.ff_value.specs.declared.ids.NodeId.{NodeId}
-use Rattle.ff_value.specs.declared.output.Seen.{Seen}
-use Rattle.ff_machine.specs.Shapes.{kind_of, kind_word, name_of, is_unstarted, seen_as}
+use Rattle.ff_value.specs.declared.output.ShownPart.{ShownPart}
+use Rattle.ff_machine.specs.Kinds.{kind_word}
+use Rattle.ff_machine.specs.Shapes.{kind_of, name_of, is_unstarted, shown_as}
 use Rattle.ff_machine.specs.Nodes.{Node, Walk, node_at, is_name, shown}
 
 -- the first node of that name in their trees
@@ -18,6 +19,6 @@ kind_from nodes word cs = filter (λ m. bytes_eq (kind_word (kind_of (node_at no
 abbrev pub scripts_from : List Node → List NodeId → List NodeId
 scripts_from nodes cs = filter (λ m. is_unstarted (node_at nodes m).shape) (flat_map (Walk nodes) cs)
 
--- what is seen of them
-abbrev pub seen_from : List Node → List NodeId → List Seen
-seen_from nodes cs = flat_map (λ c. seen_as (node_at nodes c).shape (shown nodes c)) cs
+-- what is shown of them
+abbrev pub shown_from : List Node → List NodeId → List ShownPart
+shown_from nodes cs = flat_map (λ c. shown_as (node_at nodes c).shape (shown nodes c)) cs

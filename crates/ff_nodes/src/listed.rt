@@ -1,11 +1,11 @@
-//! What is listed of a tree: its scripts that weren't started, and what the user sees.
+//! What is listed of a tree: its scripts that weren't started, and what the user is shown.
 ghost use Rattle.std.specs.Prelude.{◌≡◌, ◌<◌, ◌++◌, IfOk, OnOk, length};
 ghost use Rattle.ff_machine.specs.Nodes as nodes;
 ghost use Rattle.ff_machine.specs.Shapes as shapes;
 
 use crate::nodes::Nodes;
 use ff_machine::{Kind, Shape};
-use ff_value::{Ids, NoMemory, NodeId, Seen, Shown};
+use ff_value::{Ids, NoMemory, NodeId, Shown, ShownPart};
 
 impl Nodes {
     /// The scripts and the addresses of scripts in the tree of a node that weren't started, in
@@ -36,36 +36,36 @@ impl Nodes {
         Ok(())
     }
 
-    /// What the user sees of the children of a node.
+    /// What the user is shown of the children of a node.
     #[cycle(shown)]
     pub fn shown(&self, root: NodeId) -> Result<Shown, NoMemory>
         requires { root.0 < length self.now }
-        ensures { IfOk result (λ seen. seen ≡ nodes.shown self.now root) }
+        ensures { IfOk result (λ shown. shown ≡ nodes.shown self.now root) }
     {
         let mut parts = Vec::new(self.alloc);
         for child in self.at(root).children().as_slice() {
-            self.put_seen(*child, &mut parts)?;
+            self.put_shown_part(*child, &mut parts)?;
         }
         Shown::from_vec(self.alloc, parts)
     }
 
-    /// Puts what the user sees of a node.
+    /// Puts what the user is shown of a node.
     #[cycle(shown)]
-    fn put_seen(&self, n: NodeId, parts: &mut Vec<Seen>) -> Result<(), NoMemory>
+    fn put_shown_part(&self, n: NodeId, parts: &mut Vec<ShownPart>) -> Result<(), NoMemory>
         requires { n.0 < length self.now }
-        ensures { OnOk result (parts.new.items ≡ parts.old.items ++ shapes.seen_as (nodes.node_at self.now n).shape (nodes.shown self.now n)) }
+        ensures { OnOk result (parts.new.items ≡ parts.old.items ++ shapes.shown_as (nodes.node_at self.now n).shape (nodes.shown self.now n)) }
     {
-        let seen = match self.at(n).shape() {
-            Shape::Text(_, text) => Seen::Text(text.copy()?),
-            Shape::Link(_, url, label) => Seen::Link(url.copy()?, label.copy()?),
-            Shape::TextBox(_, text) => Seen::TextBox(text.copy()?),
-            Shape::Button(_, label) => Seen::Button(label.copy()?),
-            Shape::Div(_) => Seen::Div(self.shown(n)?),
+        let part = match self.at(n).shape() {
+            Shape::Text(_, text) => ShownPart::Text(text.copy()?),
+            Shape::Link(_, url, label) => ShownPart::Link(url.copy()?, label.copy()?),
+            Shape::TextBox(_, text) => ShownPart::TextBox(text.copy()?),
+            Shape::Button(_, label) => ShownPart::Button(label.copy()?),
+            Shape::Div(_) => ShownPart::Div(self.shown(n)?),
             Shape::Page(_) => return Ok(()),
             Shape::Script(_, _, _) => return Ok(()),
             Shape::Src(_, _, _) => return Ok(()),
         };
-        parts.push(seen)?;
+        parts.push(part)?;
         Ok(())
     }
 }

@@ -2,7 +2,7 @@
 //! found there.
 ghost use Rattle.std.specs.Prelude.{◌≡◌, ◌+◌, ◌<◌, [], IsTrue, Some, None, IfOk, IfErr, length};
 ghost use Rattle.ff_machine.specs.Nodes as nodes;
-ghost use Rattle.ff_machine.specs.Shapes.{kind_word};
+ghost use Rattle.ff_machine.specs.Kinds.{kind_word};
 
 use crate::nodes::Nodes;
 use ff_machine::Kind;

@@ -3,6 +3,7 @@ ghost use Rattle.std.specs.Prelude.{◌<◌, length};
 
 use anyhow::Result;
 use ff_machine::{Kind, MOST_NODES};
+use ff_name::Worded;
 use ff_nodes::Nodes;
 use ff_printing::{print_expr, print_shown};
 use ff_value::{Code, NoMemory, NodeId, PageId};
@@ -30,7 +31,7 @@ pub fn tree<R: Print>(rt: &R, alloc: Global, nodes: &Nodes, root: NodeId) -> Res
     println!(rt; "  scripts{scripts}")?;
     for kind in KINDS.iter() {
         let found = of_kind(alloc, nodes, root, *kind)?;
-        println!(rt; "  {}{found}", word(*kind))?;
+        println!(rt; "  {}{found}", kind.word())?;
     }
     let names = named(alloc, nodes, root)?;
     println!(rt; "  names{names}")?;
@@ -43,7 +44,7 @@ pub fn tree<R: Print>(rt: &R, alloc: Global, nodes: &Nodes, root: NodeId) -> Res
 pub fn node<R: Print>(rt: &R, alloc: Global, nodes: &Nodes, n: NodeId) -> Result<()>
     requires { n.0 < length nodes.now }
 {
-    println!(rt; "  kind {}", word(nodes.kind(n)))?;
+    println!(rt; "  kind {}", nodes.kind(n).word())?;
     parts(rt, alloc, nodes, n)?;
     for code in nodes.handlers(n).as_slice() {
         let code = function(alloc, code)?;
@@ -160,19 +161,5 @@ fn page(alloc: Global, page: Option<PageId>) -> Result<String, NoMemory> {
     match page {
         Some(page) => format!(in alloc; "{}", page.0),
         None => format!(in alloc; "-"),
-    }
-}
-
-/// The word of a kind.
-fn word(kind: Kind) -> &'static str {
-    match kind {
-        Kind::Page => "page",
-        Kind::Text => "text",
-        Kind::Link => "link",
-        Kind::TextBox => "box",
-        Kind::Button => "button",
-        Kind::Script => "script",
-        Kind::Src => "src",
-        Kind::Div => "div",
     }
 }

@@ -10,8 +10,8 @@ mod forms;
 mod items;
 mod lines;
 mod reports;
-mod seen;
 mod sent;
+mod shown;
 mod spelling;
 
 use anyhow::Result;
@@ -22,7 +22,7 @@ fn main(rt: HostRuntime) -> Result<()> {
         let line = line?;
         show(&rt, rt.alloc(), line.as_str())?;
     }
-    seen::show(&rt, rt.alloc())?;
+    shown::show(&rt, rt.alloc())?;
     sent::show(&rt, rt.alloc())?;
     reports::show(&rt, rt.alloc())
 }

@@ -1,11 +1,11 @@
 //! Outputs that are printed at the level L.
 
-use crate::seen::pairs_of;
+use crate::shown::pairs_of;
 use crate::spelling::{text, whole_lines};
 use anyhow::{Context, Result};
 use ff_lattice::Lattice;
 use ff_trace::print_out;
-use ff_value::{Domain, Fault, Level, NoMemory, Out, Seen, Shown, Url};
+use ff_value::{Domain, Fault, Level, NoMemory, Out, Shown, ShownPart, Url};
 use std::alloc::Global;
 
 /// Prints the rows.
@@ -51,12 +51,12 @@ fn show_faults<R: Print>(rt: &R, alloc: Global) -> Result<()> {
 /// A link, a button, and a division of a text and a text box.
 fn page(alloc: Global) -> Result<Shown, NoMemory> {
     let mut inner = Vec::new(alloc);
-    inner.push(Seen::Text(text(alloc, "a\nb")?))?;
-    inner.push(Seen::TextBox(text(alloc, "")?))?;
+    inner.push(ShownPart::Text(text(alloc, "a\nb")?))?;
+    inner.push(ShownPart::TextBox(text(alloc, "")?))?;
     let mut parts = Vec::new(alloc);
-    parts.push(Seen::Link(Url::Blank, text(alloc, "l")?))?;
-    parts.push(Seen::Button(text(alloc, "ok")?))?;
-    parts.push(Seen::Div(Shown::from_vec(alloc, inner)?))?;
+    parts.push(ShownPart::Link(Url::Blank, text(alloc, "l")?))?;
+    parts.push(ShownPart::Button(text(alloc, "ok")?))?;
+    parts.push(ShownPart::Div(Shown::from_vec(alloc, inner)?))?;
     Shown::from_vec(alloc, parts)
 }
 

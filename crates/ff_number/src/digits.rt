@@ -17,12 +17,13 @@ pub struct Digits {
 
 impl Model for Digits {
     ghost use Rattle.std.specs.Prelude.{ℕ, List, ◌≤◌, drop};
+    ghost use Rattle.ff_number.specs.declared.digits.TheConstants.{MOST_DIGITS};
 
     ghost Value = { List ℕ };
 
     ghost view = { λ d. drop d.start d.buffer };
 
-    ghost invariant = { λ d. d.start ≤ 20 };
+    ghost invariant = { λ d. d.start ≤ MOST_DIGITS };
 }
 
 impl Digits {

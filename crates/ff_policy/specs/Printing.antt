@@ -6,6 +6,8 @@ use Rattle.serde_json.specs.Written.{compact_text}
 use Rattle.ff_lattice.specs.declared.pair.Pair.{Pair}
 use Rattle.ff_lattice.specs.LevelSet.{below}
 use Rattle.ff_lattice.specs.Order.{Order, size, leq, name}
+use Rattle.ff_value.specs.declared.kind.Kind.TheVariants as kind
+use Rattle.ff_value.specs.Kinds.{word_of}
 use Rattle.ff_policy.specs.Assignment.{KindLevels, Kinds, Key, Assignment}
 
 -- an array of strings
@@ -51,13 +53,13 @@ kind_data order levels =
 abbrev pub kinds_data : Order → Kinds → Data
 kinds_data order kinds =
     object
-    (member (codes "click") (kind_data order kinds.clicks)
-    (member (codes "close") (kind_data order kinds.closes)
-    (member (codes "go") (kind_data order kinds.goes)
-    (member (codes "link") (kind_data order kinds.links)
-    (member (codes "open") (kind_data order kinds.opens)
-    (member (codes "reply") (kind_data order kinds.replies)
-    (member (codes "type") (kind_data order kinds.types) no_members)))))))
+    (member (word_of kind.Click) (kind_data order kinds.clicks)
+    (member (word_of kind.Close) (kind_data order kinds.closes)
+    (member (word_of kind.Go) (kind_data order kinds.goes)
+    (member (word_of kind.Link) (kind_data order kinds.links)
+    (member (word_of kind.Open) (kind_data order kinds.opens)
+    (member (word_of kind.Reply) (kind_data order kinds.replies)
+    (member (word_of kind.Type) (kind_data order kinds.types) no_members)))))))
 
 -- a policy as a JSON value of version 2 with all its members
 unfoldable pub data_of : Assignment → Data

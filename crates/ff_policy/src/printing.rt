@@ -15,7 +15,8 @@ use crate::key::Key;
 use crate::kinds::{KindLevels, Kinds};
 use crate::policy::Policy;
 use ff_lattice::Lattice;
-use ff_name::Level;
+use ff_name::{Level, Worded};
+use ff_value::Kind;
 use serde_json::{Map, Value, json};
 use std::alloc::Global;
 
@@ -189,13 +190,31 @@ fn kinds_value(alloc: Global, lattice: &Lattice, kinds: &Kinds) -> Result<Value,
     ensures { IfOk result (λ value. view value ≡ spec.kinds_data lattice.now kinds.now) }
 {
     let mut members = Map::new(alloc);
-    put_kind(alloc, lattice, "click", kinds.clicks, &mut members)?;
-    put_kind(alloc, lattice, "close", kinds.closes, &mut members)?;
-    put_kind(alloc, lattice, "go", kinds.goes, &mut members)?;
-    put_kind(alloc, lattice, "link", kinds.links, &mut members)?;
-    put_kind(alloc, lattice, "open", kinds.opens, &mut members)?;
-    put_kind(alloc, lattice, "reply", kinds.replies, &mut members)?;
-    put_kind(alloc, lattice, "type", kinds.types, &mut members)?;
+    put_kind(
+        alloc,
+        lattice,
+        Kind::Click.word(),
+        kinds.clicks,
+        &mut members,
+    )?;
+    put_kind(
+        alloc,
+        lattice,
+        Kind::Close.word(),
+        kinds.closes,
+        &mut members,
+    )?;
+    put_kind(alloc, lattice, Kind::Go.word(), kinds.goes, &mut members)?;
+    put_kind(alloc, lattice, Kind::Link.word(), kinds.links, &mut members)?;
+    put_kind(alloc, lattice, Kind::Open.word(), kinds.opens, &mut members)?;
+    put_kind(
+        alloc,
+        lattice,
+        Kind::Reply.word(),
+        kinds.replies,
+        &mut members,
+    )?;
+    put_kind(alloc, lattice, Kind::Type.word(), kinds.types, &mut members)?;
     Ok(Value::Object(members))
 }
 

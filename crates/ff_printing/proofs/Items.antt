@@ -16,12 +16,12 @@ use Rattle.ff_tree.specs.declared.tree.Expr.TheVariants as expr
 use Rattle.ff_tree.specs.declared.tree.Doc.TheOpen.{Doc-F, Expr-F}
 use Rattle.ff_tree.specs.declared.tree.Doc.TheViews.{roll-Doc, roll-Expr, roll-Handler}
 use Rattle.ff_tree.specs.declared.tree.Doc.TheFolds.{fold-roll-Doc, fold-roll-Expr, fold-roll-Handler}
-use Rattle.ff_value.specs.declared.output.Seen.{Seen}
-use Rattle.ff_value.specs.declared.output.Seen.TheVariants as seen
-use Rattle.ff_value.specs.declared.output.Seen.TheOpen.{Seen-F}
-use Rattle.ff_value.specs.declared.output.Seen.TheViews.{roll-Seen}
-use Rattle.ff_value.specs.declared.output.Seen.TheFolds.{fold-roll-Seen}
-use Rattle.ff_forms.specs.Canonical.{word, string, parens, address, lit_item, expr_form, handler_form, doc_form, seen_form, expr_item, handler_item, doc_item, seen_item}
+use Rattle.ff_value.specs.declared.output.ShownPart.{ShownPart}
+use Rattle.ff_value.specs.declared.output.ShownPart.TheVariants as shown_part
+use Rattle.ff_value.specs.declared.output.ShownPart.TheOpen.{ShownPart-F}
+use Rattle.ff_value.specs.declared.output.ShownPart.TheViews.{roll-ShownPart}
+use Rattle.ff_value.specs.declared.output.ShownPart.TheFolds.{fold-roll-ShownPart}
+use Rattle.ff_forms.specs.Canonical.{word, string, parens, address, lit_item, expr_form, handler_form, doc_form, shown_part_form, expr_item, handler_item, doc_item, shown_part_item}
 
 pub expr_item-Lit : (l : Lit) → expr_item (expr.Lit l) ≡ lit_item l
 unfolding roll-Expr denote.Hole.Carrier.roll
@@ -106,22 +106,22 @@ doc_item-Div x ds = fold-roll-Doc Sexp Sexp Sexp doc_form expr_form handler_form
 pub handler_item-is : (x : List ℕ) (e : Expr) → handler_item (roll-Handler (record { param = x; body = e })) ≡ parens (word (codes "fn") ∷ parens (word x ∷ []) ∷ expr_item e ∷ [])
 handler_item-is x e = fold-roll-Handler Sexp Sexp Sexp doc_form expr_form handler_form (record { param = x; body = e })
 
-pub seen_item-Text : (text : List ℕ) → seen_item (seen.Text text) ≡ parens (word (codes "text") ∷ string text ∷ [])
-unfolding roll-Seen denote.Hole.Carrier.roll
-seen_item-Text text = fold-roll-Seen Sexp seen_form (Seen-F.Text text)
+pub shown_part_item-Text : (text : List ℕ) → shown_part_item (shown_part.Text text) ≡ parens (word (codes "text") ∷ string text ∷ [])
+unfolding roll-ShownPart denote.Hole.Carrier.roll
+shown_part_item-Text text = fold-roll-ShownPart Sexp shown_part_form (ShownPart-F.Text text)
 
-pub seen_item-Link : (url : Url) (label : List ℕ) → seen_item (seen.Link url label) ≡ parens (word (codes "link") ∷ address url ∷ string label ∷ [])
-unfolding roll-Seen denote.Hole.Carrier.roll
-seen_item-Link url label = fold-roll-Seen Sexp seen_form (Seen-F.Link url label)
+pub shown_part_item-Link : (url : Url) (label : List ℕ) → shown_part_item (shown_part.Link url label) ≡ parens (word (codes "link") ∷ address url ∷ string label ∷ [])
+unfolding roll-ShownPart denote.Hole.Carrier.roll
+shown_part_item-Link url label = fold-roll-ShownPart Sexp shown_part_form (ShownPart-F.Link url label)
 
-pub seen_item-TextBox : (text : List ℕ) → seen_item (seen.TextBox text) ≡ parens (word (codes "box") ∷ string text ∷ [])
-unfolding roll-Seen denote.Hole.Carrier.roll
-seen_item-TextBox text = fold-roll-Seen Sexp seen_form (Seen-F.TextBox text)
+pub shown_part_item-TextBox : (text : List ℕ) → shown_part_item (shown_part.TextBox text) ≡ parens (word (codes "box") ∷ string text ∷ [])
+unfolding roll-ShownPart denote.Hole.Carrier.roll
+shown_part_item-TextBox text = fold-roll-ShownPart Sexp shown_part_form (ShownPart-F.TextBox text)
 
-pub seen_item-Button : (label : List ℕ) → seen_item (seen.Button label) ≡ parens (word (codes "button") ∷ string label ∷ [])
-unfolding roll-Seen denote.Hole.Carrier.roll
-seen_item-Button label = fold-roll-Seen Sexp seen_form (Seen-F.Button label)
+pub shown_part_item-Button : (label : List ℕ) → shown_part_item (shown_part.Button label) ≡ parens (word (codes "button") ∷ string label ∷ [])
+unfolding roll-ShownPart denote.Hole.Carrier.roll
+shown_part_item-Button label = fold-roll-ShownPart Sexp shown_part_form (ShownPart-F.Button label)
 
-pub seen_item-Div : (parts : List Seen) → seen_item (seen.Div parts) ≡ parens (word (codes "div") ∷ map seen_item parts)
-unfolding roll-Seen denote.Hole.Carrier.roll
-seen_item-Div parts = fold-roll-Seen Sexp seen_form (Seen-F.Div parts)
+pub shown_part_item-Div : (parts : List ShownPart) → shown_part_item (shown_part.Div parts) ≡ parens (word (codes "div") ∷ map shown_part_item parts)
+unfolding roll-ShownPart denote.Hole.Carrier.roll
+shown_part_item-Div parts = fold-roll-ShownPart Sexp shown_part_form (ShownPart-F.Div parts)

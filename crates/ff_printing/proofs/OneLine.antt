@@ -20,16 +20,16 @@ use Rattle.ff_text.specs.declared.items.Sexp.TheViews.{roll-Sexp}
 use Rattle.ff_text.specs.declared.items.Sexp.TheFolds.{fold-Sexp, fold-roll-Sexp}
 use Rattle.ff_text.proofs.Back.{value_spelled}
 use Rattle.ff_text.proofs.Layers.{Each as EachItem, items_ind, spelled-Word, spelled-Str, spelled-List, fits_at-Word, fits_at-List}
-use Rattle.ff_value.specs.Spelled.{IsSpelledSeen, seen_spelled}
+use Rattle.ff_value.specs.Spelled.{IsSpelledShownPart, shown_part_spelled}
 use Rattle.ff_value.specs.declared.output.Pair.{Pair}
-use Rattle.ff_value.specs.declared.output.Seen.{Seen}
-use Rattle.ff_value.specs.declared.output.Seen.TheVariants as seen
-use Rattle.ff_value.specs.declared.output.Seen.TheBlock.{the_family, member-Seen}
-use Rattle.ff_value.specs.declared.output.Seen.TheOpen.{Seen-F}
-use Rattle.ff_value.specs.declared.output.Seen.TheViews.{out-Seen, roll-Seen, roll-out-Seen}
-use Rattle.ff_value.specs.declared.output.Seen.TheFolds.{ind-Seen, claims, map-Seen, rec-roll-Seen}
-use Rattle.ff_forms.specs.Canonical.{word, string, parens, address, seen_item, shown_item, pair_item, pairs_item}
-use Rattle.ff_printing.proofs.Items.{seen_item-Text, seen_item-Link, seen_item-TextBox, seen_item-Button, seen_item-Div}
+use Rattle.ff_value.specs.declared.output.ShownPart.{ShownPart}
+use Rattle.ff_value.specs.declared.output.ShownPart.TheVariants as shown_part
+use Rattle.ff_value.specs.declared.output.ShownPart.TheBlock.{the_family, member-ShownPart}
+use Rattle.ff_value.specs.declared.output.ShownPart.TheOpen.{ShownPart-F}
+use Rattle.ff_value.specs.declared.output.ShownPart.TheViews.{out-ShownPart, roll-ShownPart, roll-out-ShownPart}
+use Rattle.ff_value.specs.declared.output.ShownPart.TheFolds.{ind-ShownPart, claims, map-ShownPart, rec-roll-ShownPart}
+use Rattle.ff_forms.specs.Canonical.{word, string, parens, address, shown_part_item, shown_item, pair_item, pairs_item}
+use Rattle.ff_printing.proofs.Items.{shown_part_item-Text, shown_part_item-Link, shown_part_item-TextBox, shown_part_item-Button, shown_part_item-Div}
 use Rattle.ff_printing.proofs.Trees.{Each}
 use Rattle.ff_printing.proofs.WordTexts.{url_word}
 
@@ -176,26 +176,26 @@ all_mapped : {A B : Type 0} (f : A → B) (P : B → Type 0) (xs : List A) → A
 all_mapped f P [] = refl
 all_mapped f P (x ∷ xs) = ap (λ (T : Type 0). P (f x) × T) (all_mapped f P xs)
 
-seen_of_parts : (S : Type 0) (s : S → Seen) (claim : Seen → Type 0) (x : Seen-F S) → seen_spelled S (λ p. claim (s p)) x ≡ seen_spelled Seen claim (map-Seen S Seen s x)
-seen_of_parts S s claim (Seen-F.Text text) = refl
-seen_of_parts S s claim (Seen-F.Link url label) = refl
-seen_of_parts S s claim (Seen-F.TextBox text) = refl
-seen_of_parts S s claim (Seen-F.Button label) = refl
-seen_of_parts S s claim (Seen-F.Div parts) = all_mapped s claim parts
+shown_of_parts : (S : Type 0) (s : S → ShownPart) (claim : ShownPart → Type 0) (x : ShownPart-F S) → shown_part_spelled S (λ p. claim (s p)) x ≡ shown_part_spelled ShownPart claim (map-ShownPart S ShownPart s x)
+shown_of_parts S s claim (ShownPart-F.Text text) = refl
+shown_of_parts S s claim (ShownPart-F.Link url label) = refl
+shown_of_parts S s claim (ShownPart-F.TextBox text) = refl
+shown_of_parts S s claim (ShownPart-F.Button label) = refl
+shown_of_parts S s claim (ShownPart-F.Div parts) = all_mapped s claim parts
 
-IsSpelledSeen-out : (x : Seen) → IsSpelledSeen x ≡ seen_spelled Seen IsSpelledSeen (out-Seen x)
-unfolding IsSpelledSeen
-IsSpelledSeen-out x = ap IsSpelledSeen (sym (roll-out-Seen x)) ∙ rec-roll-Seen (Type 0) (λ S _. seen_spelled S) seen_of_parts (out-Seen x)
+IsSpelledShownPart-out : (x : ShownPart) → IsSpelledShownPart x ≡ shown_part_spelled ShownPart IsSpelledShownPart (out-ShownPart x)
+unfolding IsSpelledShownPart
+IsSpelledShownPart-out x = ap IsSpelledShownPart (sym (roll-out-ShownPart x)) ∙ rec-roll-ShownPart (Type 0) (λ S _. shown_part_spelled S) shown_of_parts (out-ShownPart x)
 
-layer_of : (x : Seen) (layer : Seen-F Seen) → out-Seen x ≡ layer → IsSpelledSeen x → seen_spelled Seen IsSpelledSeen layer
-layer_of x layer e spelled = rule (IsSpelledSeen-out x ∙ ap (seen_spelled Seen IsSpelledSeen) e) spelled
+layer_of : (x : ShownPart) (layer : ShownPart-F ShownPart) → out-ShownPart x ≡ layer → IsSpelledShownPart x → shown_part_spelled ShownPart IsSpelledShownPart layer
+layer_of x layer e spelled = rule (IsSpelledShownPart-out x ∙ ap (shown_part_spelled ShownPart IsSpelledShownPart) e) spelled
 
-abbrev SeenHas : Seen → Type 0
-SeenHas s = IsSpelledSeen s → has_words (seen_item s) ≡ true
+abbrev ShownPartHas : ShownPart → Type 0
+ShownPartHas s = IsSpelledShownPart s → has_words (shown_part_item s) ≡ true
 
-all_have : (shown : List Seen) → Each SeenHas shown → AllByRecursion IsSpelledSeen shown → HaveWords (map seen_item shown)
+all_have : (shown : List ShownPart) → Each ShownPartHas shown → AllByRecursion IsSpelledShownPart shown → HaveWords (map shown_part_item shown)
 all_have [] each spelled = refl
-all_have (s ∷ shown) each spelled = and_more (seen_item s) (map seen_item shown) (each.0 spelled.0) (all_have shown each.1 spelled.1)
+all_have (s ∷ shown) each spelled = and_more (shown_part_item s) (map shown_part_item shown) (each.0 spelled.0) (all_have shown each.1 spelled.1)
 
 label_has : (head text : List ℕ) → is_word head ≡ true → has_words (parens (word head ∷ string text ∷ [])) ≡ true
 label_has head text h = list_has (word head ∷ string text ∷ []) (and_more (word head) (string text ∷ []) (word_has head h) (and_more (string text) [] (string_has text) refl))
@@ -205,35 +205,35 @@ link_has url label well =
     list_has (word (codes "link") ∷ address url ∷ string label ∷ []) (and_more (word (codes "link")) (address url ∷ string label ∷ []) (word_has (codes "link") refl)
     (and_more (address url) (string label ∷ []) (word_has (printed url) (url_word url well)) (and_more (string label) [] (string_has label) refl)))
 
-seen_layer : (y : Seen-F (Such the_family (claims SeenHas) member-Seen)) → SeenHas (roll-Seen (map-Seen (Such the_family (claims SeenHas) member-Seen) Seen (λ e. e.0) y))
-unfolding roll-Seen denote.Hole.Carrier.roll
-seen_layer (Seen-F.Text text) spelled = ap has_words (seen_item-Text text) ∙ label_has (codes "text") text refl
-seen_layer (Seen-F.Link url label) spelled = ap has_words (seen_item-Link url label) ∙ link_has url label (layer_of (seen.Link url label) (Seen-F.Link url label) (seen.outs-Link url label) spelled).0
-seen_layer (Seen-F.TextBox text) spelled = ap has_words (seen_item-TextBox text) ∙ label_has (codes "box") text refl
-seen_layer (Seen-F.Button label) spelled = ap has_words (seen_item-Button label) ∙ label_has (codes "button") label refl
-seen_layer (Seen-F.Div parts) spelled =
+shown_part_layer : (y : ShownPart-F (Such the_family (claims ShownPartHas) member-ShownPart)) → ShownPartHas (roll-ShownPart (map-ShownPart (Such the_family (claims ShownPartHas) member-ShownPart) ShownPart (λ e. e.0) y))
+unfolding roll-ShownPart denote.Hole.Carrier.roll
+shown_part_layer (ShownPart-F.Text text) spelled = ap has_words (shown_part_item-Text text) ∙ label_has (codes "text") text refl
+shown_part_layer (ShownPart-F.Link url label) spelled = ap has_words (shown_part_item-Link url label) ∙ link_has url label (layer_of (shown_part.Link url label) (ShownPart-F.Link url label) (shown_part.outs-Link url label) spelled).0
+shown_part_layer (ShownPart-F.TextBox text) spelled = ap has_words (shown_part_item-TextBox text) ∙ label_has (codes "box") text refl
+shown_part_layer (ShownPart-F.Button label) spelled = ap has_words (shown_part_item-Button label) ∙ label_has (codes "button") label refl
+shown_part_layer (ShownPart-F.Div parts) spelled =
     let shown = map (λ e. e.0) parts in
-    ap has_words (seen_item-Div shown)
-    ∙ list_has (word (codes "div") ∷ map seen_item shown) (and_more (word (codes "div")) (map seen_item shown) (word_has (codes "div") refl)
-    (all_have shown (each parts) (layer_of (seen.Div shown) (Seen-F.Div shown) (seen.outs-Div shown) spelled)))
+    ap has_words (shown_part_item-Div shown)
+    ∙ list_has (word (codes "div") ∷ map shown_part_item shown) (and_more (word (codes "div")) (map shown_part_item shown) (word_has (codes "div") refl)
+    (all_have shown (each parts) (layer_of (shown_part.Div shown) (ShownPart-F.Div shown) (shown_part.outs-Div shown) spelled)))
   where
-    each : (entries : List (Such the_family (claims SeenHas) member-Seen)) → Each SeenHas (map (λ e. e.0) entries)
+    each : (entries : List (Such the_family (claims ShownPartHas) member-ShownPart)) → Each ShownPartHas (map (λ e. e.0) entries)
     each [] = tt
     each (e ∷ entries) = (e.1, each entries)
 
-seen_has : (s : Seen) → SeenHas s
-seen_has = ind-Seen SeenHas (λ x y e. subst (λ l. SeenHas (roll-Seen l)) e (seen_layer y))
+shown_part_has : (s : ShownPart) → ShownPartHas s
+shown_part_has = ind-ShownPart ShownPartHas (λ x y e. subst (λ l. ShownPartHas (roll-ShownPart l)) e (shown_part_layer y))
 
-each_seen : (shown : List Seen) → Each SeenHas shown
-each_seen [] = tt
-each_seen (s ∷ shown) = (seen_has s, each_seen shown)
+each_shown_part : (shown : List ShownPart) → Each ShownPartHas shown
+each_shown_part [] = tt
+each_shown_part (s ∷ shown) = (shown_part_has s, each_shown_part shown)
 
 -- the words in the item of a page as the user is shown it are words
-pub shown_item_has_words : (shown : List Seen) → AllByRecursion IsSpelledSeen shown → has_words (shown_item shown) ≡ true
+pub shown_item_has_words : (shown : List ShownPart) → AllByRecursion IsSpelledShownPart shown → has_words (shown_item shown) ≡ true
 shown_item_has_words shown spelled =
-    list_has (word (codes "page") ∷ map seen_item shown) (and_more (word (codes "page")) (map seen_item shown) (word_has (codes "page") refl) (all_have shown (each_seen shown) spelled))
+    list_has (word (codes "page") ∷ map shown_part_item shown) (and_more (word (codes "page")) (map shown_part_item shown) (word_has (codes "page") refl) (all_have shown (each_shown_part shown) spelled))
 
-pub shown_one_line : (shown : List Seen) → AllByRecursion IsSpelledSeen shown → All (λ b. b ≢ 10) (spelled (shown_item shown))
+pub shown_one_line : (shown : List ShownPart) → AllByRecursion IsSpelledShownPart shown → All (λ b. b ≢ 10) (spelled (shown_item shown))
 shown_one_line shown spelled = words_one_line (shown_item shown) (shown_item_has_words shown spelled)
 
 pair_has : (pair : Pair) → has_words (pair_item pair) ≡ true

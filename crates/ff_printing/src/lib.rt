@@ -3,7 +3,7 @@
 
 mod print;
 mod print_reply;
-mod print_seen;
+mod print_shown_part;
 mod print_tree;
 mod printer;
 

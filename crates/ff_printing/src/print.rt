@@ -4,12 +4,12 @@ ghost use Rattle.std.specs.List.{AllByRecursion};
 ghost use Rattle.ff_contract.specs.Appending.{Appends};
 ghost use Rattle.ff_text.specs.Printed.{spelled};
 ghost use Rattle.ff_tree.specs.Spelled.{IsWellSpelledDoc, IsWellSpelledExpr};
-ghost use Rattle.ff_value.specs.Spelled.{IsSpelledSeen, IsWellSpelledResp};
+ghost use Rattle.ff_value.specs.Spelled.{IsSpelledShownPart, IsWellSpelledResp};
 ghost use Rattle.ff_printing.specs.Again.{ReadsBackDoc, ReadsBackExpr, ReadsBackResp};
 ghost use Rattle.ff_forms.specs.Canonical.{doc_item, expr_item, resp_item, shown_item, pairs_item};
 
 use crate::printer::Printer;
-use crate::{print_reply, print_seen, print_tree};
+use crate::{print_reply, print_shown_part, print_tree};
 use ff_name::NoMemory;
 use ff_tree::{Doc, Expr};
 use ff_value::{Pairs, Resp, Shown};
@@ -52,10 +52,10 @@ pub fn print_resp(resp: &Resp, out: &mut Vec<u8>) -> Result<(), NoMemory>
 pub fn print_shown(shown: &Shown, out: &mut Vec<u8>) -> Result<(), NoMemory>
     ensures appends { Appends result out.old.items out.new.items (spelled (shown_item shown.now)) }
     // It stands in one line.
-    ensures one_line { AllByRecursion IsSpelledSeen shown.now → All (λ b. b ≢ 10) (spelled (shown_item shown.now)) }
+    ensures one_line { AllByRecursion IsSpelledShownPart shown.now → All (λ b. b ≢ 10) (spelled (shown_item shown.now)) }
 {
     let mut printer = Printer::after(out)?;
-    print_seen::print_page(shown.as_slice(), &mut printer);
+    print_shown_part::print_page(shown.as_slice(), &mut printer);
     printer.end(out)
 }
 
@@ -66,6 +66,6 @@ pub fn print_pairs(pairs: &Pairs, out: &mut Vec<u8>) -> Result<(), NoMemory>
     ensures one_line { All (λ b. b ≢ 10) (spelled (pairs_item pairs.now)) }
 {
     let mut printer = Printer::after(out)?;
-    print_seen::print_pairs(pairs.as_slice(), &mut printer);
+    print_shown_part::print_pairs(pairs.as_slice(), &mut printer);
     printer.end(out)
 }

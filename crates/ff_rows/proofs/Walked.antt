@@ -15,7 +15,8 @@ use Rattle.ff_reactive.proofs.Lists.{filter_none}
 use Rattle.ff_value.specs.declared.ids.NodeId.{NodeId}
 use Rattle.ff_machine.specs.declared.kinds.Kind.{Kind}
 use Rattle.ff_machine.specs.declared.limits.TheConstants.{MOST_TREE_DEPTH}
-use Rattle.ff_machine.specs.Shapes.{kind_of, kind_word}
+use Rattle.ff_machine.specs.Kinds.{kind_word}
+use Rattle.ff_machine.specs.Shapes.{kind_of}
 use Rattle.ff_machine.specs.Nodes.{Node, Walk, walk_within, node_at, of_word}
 use Rattle.ff_machine.specs.Alone.{AreTrees, AreNodes}
 use Rattle.ff_machine.specs.Operators.{item_at}

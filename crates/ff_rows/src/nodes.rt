@@ -9,8 +9,8 @@ ghost use Rattle.ff_machine.specs.References.{made};
 ghost use Rattle.ff_machine.specs.Valid.{IsVal};
 
 use crate::operands::{node_num, node_str, node_str_num, one_node};
-use crate::words::{kind_named, word_of};
-use ff_name::Text;
+use crate::words::kind_named;
+use ff_name::{Text, Worded};
 use ff_operators::Fail;
 use ff_stores::Stores;
 use ff_value::{Fault, NodeId, PageId, Val};
@@ -23,7 +23,7 @@ pub(crate) fn kind(alloc: Global, stores: &Stores, page: PageId, args: &[Val]) -
 {
     match one_node(args) {
         Some(n) => {
-            let word = Text::of_str(alloc, word_of(stores.nodes().kind(n)))?;
+            let word = Text::of_str(alloc, stores.nodes().kind(n).word())?;
             Ok(Val::Str(word))
         }
         None => Err(Fail::Fault(Fault::Kind)),

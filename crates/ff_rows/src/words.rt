@@ -2,44 +2,18 @@
 ghost use Rattle.std.specs.Prelude.{◌≡◌, ◌≢◌, MatchOption, IfOk, IfSome};
 ghost use Rattle.ff_name.specs.Address.{IsWellSpelled};
 ghost use Rattle.ff_name.specs.Reading.{read_url};
-ghost use Rattle.ff_machine.specs.Shapes.{kind_word};
+ghost use Rattle.ff_machine.specs.Kinds.{kind_word};
 ghost use Rattle.ff_machine.specs.declared.kinds.Kind.{Kind};
 
 use ff_machine::Kind;
-use ff_name::{NoMemory, Text, Url, UrlFault};
+use ff_name::{NoMemory, Text, Url, UrlFault, by_word};
 use std::alloc::{AllocError, Global};
-
-/// The word of a kind.
-pub(crate) fn word_of(kind: Kind) -> &'static str
-    ensures { result.now ≡ kind_word kind }
-{
-    match kind {
-        Kind::Page => "page",
-        Kind::Text => "text",
-        Kind::Link => "link",
-        Kind::TextBox => "box",
-        Kind::Button => "button",
-        Kind::Script => "script",
-        Kind::Src => "src",
-        Kind::Div => "div",
-    }
-}
 
 /// The kind of a word, or `None` where no kind has it.
 pub(crate) fn kind_named(word: &str) -> Option<Kind>
     ensures { MatchOption result ((kind : Kind) → kind_word kind ≢ word.now) (λ kind. kind_word kind ≡ word.now) }
 {
-    match word {
-        "page" => Some(Kind::Page),
-        "text" => Some(Kind::Text),
-        "link" => Some(Kind::Link),
-        "box" => Some(Kind::TextBox),
-        "button" => Some(Kind::Button),
-        "script" => Some(Kind::Script),
-        "src" => Some(Kind::Src),
-        "div" => Some(Kind::Div),
-        _ => None,
-    }
+    by_word::<Kind>(word.as_bytes())
 }
 
 /// The address that a text spells, or `None` where it spells none.

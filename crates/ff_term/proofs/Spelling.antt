@@ -9,7 +9,7 @@ use Rattle.ff_tree.specs.declared.tree.Doc.TheOpen.{Expr-F}
 use Rattle.ff_tree.specs.declared.tree.Doc.TheViews.{out-Expr}
 use Rattle.ff_tree.specs.declared.tree.Doc.TheFolds.{map-Expr, fold_out-Expr}
 use Rattle.ff_tree.specs.Spelled.{IsSpelledExpr, IsWellSpelledExpr, most, doc_nesting, expr_nesting, handler_nesting, doc_depth, expr_depth, handler_depth}
-use Rattle.ff_tree.proofs.Levels.{IsSpelledExpr-Lit, IsSpelledExpr-Var, IsSpelledExpr-Let, IsSpelledExpr-Set, IsSpelledExpr-If, IsSpelledExpr-While, IsSpelledExpr-Do, IsSpelledExpr-And, IsSpelledExpr-Or, IsSpelledExpr-Make, IsSpelledExpr-Apply, IsSpelledExpr-Tree, IsSpelledExpr-Prim}
+use Rattle.ff_tree.proofs.Layers.{IsSpelledExpr-Lit, IsSpelledExpr-Var, IsSpelledExpr-Let, IsSpelledExpr-Set, IsSpelledExpr-If, IsSpelledExpr-While, IsSpelledExpr-Do, IsSpelledExpr-And, IsSpelledExpr-Or, IsSpelledExpr-Make, IsSpelledExpr-Apply, IsSpelledExpr-Tree, IsSpelledExpr-Prim}
 use Rattle.ff_term.specs.Running.{Running}
 use Rattle.ff_term.specs.Whole.{whole, wholes}
 use Rattle.ff_term.specs.Meets.{Conditions, Meets, MeetAll, how_many}
@@ -17,12 +17,12 @@ use Rattle.ff_term.specs.Sources.{TakesSources}
 use Rattle.ff_term.proofs.Forms.{whole-Lit, whole-Var, whole-Let, whole-Set, whole-If, whole-While, whole-Do, whole-And, whole-Or, whole-Make, whole-Apply, whole-Tree, whole-Prim}
 use Rattle.ff_term.proofs.Induction.{Each, ByForms, by_forms}
 
-abbrev levels : Expr-F Doc Expr Handler → ℕ
-levels l = expr_nesting (map-Expr Doc Expr Handler ℕ ℕ ℕ doc_depth expr_depth handler_depth l)
+abbrev layers : Expr-F Doc Expr Handler → ℕ
+layers l = expr_nesting (map-Expr Doc Expr Handler ℕ ℕ ℕ doc_depth expr_depth handler_depth l)
 
--- a form whose level is known is as deep as its parts make it
-deep : (x : Expr) (l : Expr-F Doc Expr Handler) → out-Expr x ≡ l → expr_depth x ≤ 64 → levels l ≤ 64
-deep x l e h = let p : expr_depth x ≡ levels l = fold_out-Expr ℕ ℕ ℕ doc_nesting expr_nesting handler_nesting x ∙ ap levels e in subst (λ (n : ℕ). n ≤ 64) p h
+-- a form whose layer is known is as deep as its parts make it
+deep : (x : Expr) (l : Expr-F Doc Expr Handler) → out-Expr x ≡ l → expr_depth x ≤ 64 → layers l ≤ 64
+deep x l e h = let p : expr_depth x ≡ layers l = fold_out-Expr ℕ ℕ ℕ doc_nesting expr_nesting handler_nesting x ∙ ap layers e in subst (λ (n : ℕ). n ≤ 64) p h
 
 from : {A B : Type 0} → A ≡ B → A → B
 from p a = subst (λ (T : Type 0). T) p a
@@ -32,7 +32,7 @@ many-wholes [] = refl
 many-wholes (e ∷ es) = let p = many-wholes es in omega arith
 
 module _ (c : Conditions) (t : TakesSources c) where
-  -- spelled in whatever depth, and in at most 64 levels
+  -- spelled in whatever depth, and in at most 64 layers
   abbrev Q : Expr → Type 0
   Q e = IsSpelledExpr e → expr_depth e ≤ 64 → Meets c (whole e)
 

@@ -24,24 +24,24 @@ runnings [] = none
 runnings (e ∷ es) = more e.1 (runnings es)
 
 -- a form, whose parts are given beside what they are
-abbrev pub whole_level : Expr-F (Doc × Unit {0}) (Expr × Running) (Handler × Unit {0}) → Running
-whole_level (Expr-F.Lit l) = Done (literal l)
-whole_level (Expr-F.Var x) = Var x
-whole_level (Expr-F.Let x e) = Let x e.1
-whole_level (Expr-F.Set x e) = Set x e.1
-whole_level (Expr-F.If e f g) = If e.1 f.1 g.1
-whole_level (Expr-F.While e f) = While e.1 f.1
-whole_level (Expr-F.Do es) = Do (runnings es)
-whole_level (Expr-F.And e f) = And e.1 f.1
-whole_level (Expr-F.Or e f) = Or e.1 f.1
-whole_level (Expr-F.Make xs e) = Make xs e.0
-whole_level (Expr-F.Apply e es) = Apply e.1 (runnings es)
-whole_level (Expr-F.Tree d) = Tree d.0
-whole_level (Expr-F.Prim op es) = Prim op (runnings es)
+abbrev pub whole_layer : Expr-F (Doc × Unit {0}) (Expr × Running) (Handler × Unit {0}) → Running
+whole_layer (Expr-F.Lit l) = Done (literal l)
+whole_layer (Expr-F.Var x) = Var x
+whole_layer (Expr-F.Let x e) = Let x e.1
+whole_layer (Expr-F.Set x e) = Set x e.1
+whole_layer (Expr-F.If e f g) = If e.1 f.1 g.1
+whole_layer (Expr-F.While e f) = While e.1 f.1
+whole_layer (Expr-F.Do es) = Do (runnings es)
+whole_layer (Expr-F.And e f) = And e.1 f.1
+whole_layer (Expr-F.Or e f) = Or e.1 f.1
+whole_layer (Expr-F.Make xs e) = Make xs e.0
+whole_layer (Expr-F.Apply e es) = Apply e.1 (runnings es)
+whole_layer (Expr-F.Tree d) = Tree d.0
+whole_layer (Expr-F.Prim op es) = Prim op (runnings es)
 
 -- the expression as a runtime expression
 unfoldable pub whole : Expr → Running
-whole = para-Expr (Unit {0}) Running (Unit {0}) (λ _. tt) whole_level (λ _. tt)
+whole = para-Expr (Unit {0}) Running (Unit {0}) (λ _. tt) whole_layer (λ _. tt)
 
 -- the parts of a list
 abbrev pub wholes : List Expr → Runnings
@@ -49,17 +49,17 @@ wholes [] = none
 wholes (e ∷ es) = more (whole e) (wholes es)
 
 -- a form, whose parts are whole
-abbrev pub level : Expr-F Doc Expr Handler → Running
-level (Expr-F.Lit l) = Done (literal l)
-level (Expr-F.Var x) = Var x
-level (Expr-F.Let x e) = Let x (whole e)
-level (Expr-F.Set x e) = Set x (whole e)
-level (Expr-F.If e f g) = If (whole e) (whole f) (whole g)
-level (Expr-F.While e f) = While (whole e) (whole f)
-level (Expr-F.Do es) = Do (wholes es)
-level (Expr-F.And e f) = And (whole e) (whole f)
-level (Expr-F.Or e f) = Or (whole e) (whole f)
-level (Expr-F.Make xs e) = Make xs e
-level (Expr-F.Apply e es) = Apply (whole e) (wholes es)
-level (Expr-F.Tree d) = Tree d
-level (Expr-F.Prim op es) = Prim op (wholes es)
+abbrev pub layer : Expr-F Doc Expr Handler → Running
+layer (Expr-F.Lit l) = Done (literal l)
+layer (Expr-F.Var x) = Var x
+layer (Expr-F.Let x e) = Let x (whole e)
+layer (Expr-F.Set x e) = Set x (whole e)
+layer (Expr-F.If e f g) = If (whole e) (whole f) (whole g)
+layer (Expr-F.While e f) = While (whole e) (whole f)
+layer (Expr-F.Do es) = Do (wholes es)
+layer (Expr-F.And e f) = And (whole e) (whole f)
+layer (Expr-F.Or e f) = Or (whole e) (whole f)
+layer (Expr-F.Make xs e) = Make xs e
+layer (Expr-F.Apply e es) = Apply (whole e) (wholes es)
+layer (Expr-F.Tree d) = Tree d
+layer (Expr-F.Prim op es) = Prim op (wholes es)

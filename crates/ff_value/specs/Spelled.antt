@@ -13,9 +13,9 @@ use Rattle.ff_value.specs.declared.input.Input.{Input}
 use Rattle.ff_value.specs.declared.output.Out.{Out}
 use Rattle.ff_value.specs.declared.output.Out.TheVariants as out
 use Rattle.ff_value.specs.declared.output.Pair.{Pair}
-use Rattle.ff_value.specs.declared.output.Seen.{Seen}
-use Rattle.ff_value.specs.declared.output.Seen.TheOpen.{Seen-F}
-use Rattle.ff_value.specs.declared.output.Seen.TheFolds.{rec-Seen}
+use Rattle.ff_value.specs.declared.output.ShownPart.{ShownPart}
+use Rattle.ff_value.specs.declared.output.ShownPart.TheOpen.{ShownPart-F}
+use Rattle.ff_value.specs.declared.output.ShownPart.TheFolds.{rec-ShownPart}
 use Rattle.ff_value.specs.declared.reply.CookieOp.{CookieOp}
 use Rattle.ff_value.specs.declared.reply.CookieOp.TheVariants as cookie
 use Rattle.ff_value.specs.declared.reply.Resp.{Resp}
@@ -87,17 +87,17 @@ IsWellSpelledAct (act.Replies domain request resp) = IsDomain domain × IsNat re
 abbrev pub IsWellSpelledInput : Input → Type 0
 IsWellSpelledInput input = IsWellSpelledAct input.act
 
--- what the user sees is spelled, where `seen` says of its parts that they are
-abbrev pub seen_spelled : (S : Type 0) → (S → Type 0) → Seen-F S → Type 0
-seen_spelled S seen (Seen-F.Text text) = IsUtf8 text
-seen_spelled S seen (Seen-F.Link url label) = IsWellSpelled url × IsUtf8 label
-seen_spelled S seen (Seen-F.TextBox text) = IsUtf8 text
-seen_spelled S seen (Seen-F.Button label) = IsUtf8 label
-seen_spelled S seen (Seen-F.Div parts) = AllByRecursion seen parts
+-- what the user is shown is spelled, where `part` says of its parts that they are
+abbrev pub shown_part_spelled : (S : Type 0) → (S → Type 0) → ShownPart-F S → Type 0
+shown_part_spelled S part (ShownPart-F.Text text) = IsUtf8 text
+shown_part_spelled S part (ShownPart-F.Link url label) = IsWellSpelled url × IsUtf8 label
+shown_part_spelled S part (ShownPart-F.TextBox text) = IsUtf8 text
+shown_part_spelled S part (ShownPart-F.Button label) = IsUtf8 label
+shown_part_spelled S part (ShownPart-F.Div parts) = AllByRecursion part parts
 
--- what the user sees has texts and addresses that the notation spells
-unfoldable pub IsSpelledSeen : Seen → Type 0
-IsSpelledSeen = rec-Seen (Type 0) (λ S _. seen_spelled S)
+-- what the user is shown has texts and addresses that the notation spells
+unfoldable pub IsSpelledShownPart : ShownPart → Type 0
+IsSpelledShownPart = rec-ShownPart (Type 0) (λ S _. shown_part_spelled S)
 
 abbrev pub IsSpelledPair : Pair → Type 0
 IsSpelledPair pair = IsUtf8 pair.key × IsUtf8 pair.value
@@ -106,8 +106,8 @@ IsSpelledPair pair = IsUtf8 pair.key × IsUtf8 pair.value
 abbrev pub IsWellSpelledOut : Out → Type 0
 IsWellSpelledOut out.Opened = Unit {0}
 IsWellSpelledOut (out.Closed win) = IsNat win
-IsWellSpelledOut (out.Loaded win url shown) = IsNat win × IsWellSpelled url × AllByRecursion IsSpelledSeen shown
-IsWellSpelledOut (out.Updated win shown) = IsNat win × AllByRecursion IsSpelledSeen shown
+IsWellSpelledOut (out.Loaded win url shown) = IsNat win × IsWellSpelled url × AllByRecursion IsSpelledShownPart shown
+IsWellSpelledOut (out.Updated win shown) = IsNat win × AllByRecursion IsSpelledShownPart shown
 IsWellSpelledOut (out.Error win fault) = IsNat win
 IsWellSpelledOut out.Stopped = Unit {0}
 IsWellSpelledOut (out.Send domain request cookies body) = IsDomain domain × IsRequest request × AllByRecursion IsSpelledPair cookies × IsUtf8 body

@@ -22,7 +22,7 @@ pub use ff_tree::{
 pub use ids::{ActId, Ids, NodeId, PageId, WinId};
 pub use input::{Act, Input, Offers};
 pub use kind::Kind;
-pub use output::{Out, Pair, Pairs, Seen, Shown};
+pub use output::{Out, Pair, Pairs, Shown, ShownPart};
 pub use reply::{CookieOp, Cookies, Resp};
 pub use value::{Code, Codes, Val};
 pub use weigh::weight_resp;

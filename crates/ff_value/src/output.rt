@@ -5,32 +5,32 @@ use ff_name::{Domain, NoMemory, Text, Url};
 use ff_shared::SharedList;
 use std::cmp::{Eq, PartialEq};
 
-/// What the user sees of a node.
+/// What the user is shown of a node.
 #[derive(Debug, Drop)]
-pub enum Seen {
+pub enum ShownPart {
     Text(Text),
     /// A link with its address and its label.
     Link(Url, Text),
     TextBox(Text),
     Button(Text),
-    /// A division with what is seen of its parts.
+    /// A division with what is shown of its parts.
     Div(Shown),
 }
 
-/// What the user sees of a page.
-pub type Shown = SharedList<Seen>;
+/// What the user is shown of a page.
+pub type Shown = SharedList<ShownPart>;
 
-impl Seen {
+impl ShownPart {
     /// An equal view that shares its parts. Its one refusal is a count of owners that is full.
-    pub fn copy(&self) -> Result<Seen, NoMemory>
-        ensures { IfOk result (λ seen. seen ≡ self.now) }
+    pub fn copy(&self) -> Result<ShownPart, NoMemory>
+        ensures { IfOk result (λ part. part ≡ self.now) }
     {
         match self {
-            Seen::Text(text) => Ok(Seen::Text(text.copy()?)),
-            Seen::Link(url, label) => Ok(Seen::Link(url.copy()?, label.copy()?)),
-            Seen::TextBox(text) => Ok(Seen::TextBox(text.copy()?)),
-            Seen::Button(label) => Ok(Seen::Button(label.copy()?)),
-            Seen::Div(parts) => Ok(Seen::Div(parts.copy()?)),
+            ShownPart::Text(text) => Ok(ShownPart::Text(text.copy()?)),
+            ShownPart::Link(url, label) => Ok(ShownPart::Link(url.copy()?, label.copy()?)),
+            ShownPart::TextBox(text) => Ok(ShownPart::TextBox(text.copy()?)),
+            ShownPart::Button(label) => Ok(ShownPart::Button(label.copy()?)),
+            ShownPart::Div(parts) => Ok(ShownPart::Div(parts.copy()?)),
         }
     }
 }
@@ -135,23 +135,23 @@ impl Eq for Pair {
     ghost laws = { same_content-equiv the_row.coded };
 }
 
-impl PartialEq for Seen {
-    ghost use Rattle.ff_value.specs.contracts.output.Seen.{the_row};
+impl PartialEq for ShownPart {
+    ghost use Rattle.ff_value.specs.contracts.output.ShownPart.{the_row};
     ghost use Rattle.ff_shared.specs.Content.{same_content, same_content-per};
 
     ghost eq = { same_content the_row.coded };
 
     ghost laws = { same_content-per the_row.coded };
 
-    fn eq(&self, other: &Seen) -> bool
+    fn eq(&self, other: &ShownPart) -> bool
         ensures { IsTrue result ↔ (self.now ≡ other.now) }
     {
-        same_seen(self, other)
+        same_shown_part(self, other)
     }
 }
 
-impl Eq for Seen {
-    ghost use Rattle.ff_value.specs.contracts.output.Seen.{the_row};
+impl Eq for ShownPart {
+    ghost use Rattle.ff_value.specs.contracts.output.ShownPart.{the_row};
     ghost use Rattle.ff_shared.specs.Content.{same_content-equiv};
 
     ghost laws = { same_content-equiv the_row.coded };
@@ -210,42 +210,42 @@ impl Eq for Out {
 
 /// Whether two views are equal.
 #[cycle(same)]
-fn same_seen(a: &Seen, b: &Seen) -> bool
+fn same_shown_part(a: &ShownPart, b: &ShownPart) -> bool
     ensures { IsTrue result ↔ (a.now ≡ b.now) }
 {
     match a {
-        Seen::Text(text) => match b {
-            Seen::Text(text2) => *text == *text2,
+        ShownPart::Text(text) => match b {
+            ShownPart::Text(text2) => *text == *text2,
             _ => false,
         },
-        Seen::Link(url, label) => match b {
-            Seen::Link(url2, label2) => *url == *url2 && *label == *label2,
+        ShownPart::Link(url, label) => match b {
+            ShownPart::Link(url2, label2) => *url == *url2 && *label == *label2,
             _ => false,
         },
-        Seen::TextBox(text) => match b {
-            Seen::TextBox(text2) => *text == *text2,
+        ShownPart::TextBox(text) => match b {
+            ShownPart::TextBox(text2) => *text == *text2,
             _ => false,
         },
-        Seen::Button(label) => match b {
-            Seen::Button(label2) => *label == *label2,
+        ShownPart::Button(label) => match b {
+            ShownPart::Button(label2) => *label == *label2,
             _ => false,
         },
-        Seen::Div(parts) => match b {
-            Seen::Div(parts2) => same_shown(parts.as_slice(), parts2.as_slice()),
+        ShownPart::Div(parts) => match b {
+            ShownPart::Div(parts2) => same_shown(parts.as_slice(), parts2.as_slice()),
             _ => false,
         },
     }
 }
 
 #[cycle(same)]
-fn same_shown(xs: &[Seen], ys: &[Seen]) -> bool
+fn same_shown(xs: &[ShownPart], ys: &[ShownPart]) -> bool
     ensures { IsTrue result ↔ (xs.now ≡ ys.now) }
 {
     if xs.len() != ys.len() {
         return false;
     }
     for i in 0..xs.len() {
-        if !same_seen(&xs[i], &ys[i]) {
+        if !same_shown_part(&xs[i], &ys[i]) {
             return false;
         }
     }

@@ -2,7 +2,7 @@
 
 use ff_value::{
     Act, ActId, Code, CookieOp, Domain, Expr, Fault, Input, Kind, Level, Lit, NoMemory, NodeId,
-    Offers, Out, Pair, Resp, Seen, Shared, SharedList, Text, Url, Val, WinId, Worded, by_word,
+    Offers, Out, Pair, Resp, Shared, SharedList, ShownPart, Text, Url, Val, WinId, Worded, by_word,
     weight_resp,
 };
 use std::alloc::{AllocError, Global};
@@ -36,14 +36,14 @@ fn reply(alloc: Global, request: u32) -> Result<Input, NoMemory> {
 }
 
 /// A view of divisions in one another, so many lists deep.
-fn nested(alloc: Global, lists: usize) -> Result<Seen, NoMemory> {
-    let mut seen = Seen::Text(text(alloc, "hi")?);
+fn nested(alloc: Global, lists: usize) -> Result<ShownPart, NoMemory> {
+    let mut part = ShownPart::Text(text(alloc, "hi")?);
     for _ in 1..lists {
         let mut parts = Vec::new(alloc);
-        parts.push(seen)?;
-        seen = Seen::Div(SharedList::from_vec(alloc, parts)?);
+        parts.push(part)?;
+        part = ShownPart::Div(SharedList::from_vec(alloc, parts)?);
     }
-    Ok(seen)
+    Ok(part)
 }
 
 fn sent(alloc: Global) -> Result<Out, NoMemory> {
@@ -106,12 +106,12 @@ fn act(alloc: Global, place: usize) -> Result<Act, NoMemory> {
 }
 
 /// A part of a view of each sort.
-fn seen(alloc: Global, place: usize) -> Result<Seen, NoMemory> {
+fn shown_part(alloc: Global, place: usize) -> Result<ShownPart, NoMemory> {
     match place {
-        0 => Ok(Seen::Text(text(alloc, "hi")?)),
-        1 => Ok(Seen::Link(Url::Blank, text(alloc, "hi")?)),
-        2 => Ok(Seen::TextBox(text(alloc, "hi")?)),
-        3 => Ok(Seen::Button(text(alloc, "hi")?)),
+        0 => Ok(ShownPart::Text(text(alloc, "hi")?)),
+        1 => Ok(ShownPart::Link(Url::Blank, text(alloc, "hi")?)),
+        2 => Ok(ShownPart::TextBox(text(alloc, "hi")?)),
+        3 => Ok(ShownPart::Button(text(alloc, "hi")?)),
         _ => nested(alloc, 2),
     }
 }
@@ -172,14 +172,14 @@ fn act_at_is_copied(alloc: Global, place: usize) -> Result<bool, NoMemory> {
     act_is_copied(&act)
 }
 
-fn seen_is_copied(seen: &Seen) -> Result<bool, NoMemory> {
-    let copy = seen.copy()?;
-    Ok(copy == *seen)
+fn shown_part_is_copied(part: &ShownPart) -> Result<bool, NoMemory> {
+    let copy = part.copy()?;
+    Ok(copy == *part)
 }
 
-fn seen_at_is_copied(alloc: Global, place: usize) -> Result<bool, NoMemory> {
-    let seen = seen(alloc, place)?;
-    seen_is_copied(&seen)
+fn shown_part_at_is_copied(alloc: Global, place: usize) -> Result<bool, NoMemory> {
+    let part = shown_part(alloc, place)?;
+    shown_part_is_copied(&part)
 }
 
 fn out_is_copied(out: &Out) -> Result<bool, NoMemory> {
@@ -232,12 +232,12 @@ fn show_acts(rt: &HostRuntime) -> io::Result<()> {
     Ok(())
 }
 
-fn show_seen(rt: &HostRuntime) -> io::Result<()> {
+fn show_shown_part(rt: &HostRuntime) -> io::Result<()> {
     for (place, what) in ["text", "link", "box", "button", "div"]
         .into_iter()
         .enumerate()
     {
-        let same = seen_at_is_copied(rt.alloc(), place)?;
+        let same = shown_part_at_is_copied(rt.alloc(), place)?;
         println!(rt; "part of a view {what}: {same}")?;
     }
     Ok(())
@@ -289,14 +289,14 @@ fn show_reply(rt: &HostRuntime) -> io::Result<()> {
 }
 
 /// Whether a part of a view is the one of so many lists.
-fn is_nested(alloc: Global, lists: usize, seen: &Seen) -> Result<bool, NoMemory> {
+fn is_nested(alloc: Global, lists: usize, part: &ShownPart) -> Result<bool, NoMemory> {
     let other = nested(alloc, lists)?;
-    Ok(other == *seen)
+    Ok(other == *part)
 }
 
 fn show_deepest(rt: &HostRuntime) -> io::Result<()> {
     let deepest = nested(rt.alloc(), 64)?;
-    let same = seen_is_copied(&deepest)?;
+    let same = shown_part_is_copied(&deepest)?;
     println!(rt; "view of 64 lists: {same}")?;
     for lists in [63, 64, 65] {
         let same = is_nested(rt.alloc(), lists, &deepest)?;
@@ -359,7 +359,7 @@ pub fn show(rt: &HostRuntime) -> io::Result<()> {
     show_cookies(rt)?;
     show_resps(rt)?;
     show_acts(rt)?;
-    show_seen(rt)?;
+    show_shown_part(rt)?;
     show_outs(rt)?;
     show_vals(rt)?;
     show_reply(rt)?;

@@ -2,7 +2,7 @@ use Rattle.std.proofs.Common.{◌≡◌, sym, ◌∙◌}
 use Rattle.std.specs.Int.{w64}
 use Rattle.std.specs.Prelude.{FitsSigned as SFits}
 use Rattle.std.proofs.lemmas.Int.{to_z-of_z}
-use Rattle.ff_machine.specs.Shapes.{kind_word}
+use Rattle.ff_machine.specs.Kinds.{kind_word}
 use Rattle.ff_machine.specs.Nodes.{of_word}
 use Rattle.ff_machine.specs.declared.kinds.Kind.{Kind}
 use Rattle.ff_rows.proofs.Walked.{no_kind, none_at, past_at}

@@ -1,5 +1,5 @@
 use Rattle.std.proofs.lemmas.Result.{IfOk-weaker}
-use Rattle.ff_frames.proofs.Rewriting.{frame-is, form-level, full-frame}
+use Rattle.ff_frames.proofs.Rewriting.{frame-is, form-layer, full-frame}
 use Rattle.ff_frames.proofs.stack.Stack.next.Goals as goal
 
 pub read_frame-requires : goal.read_frame-requires
@@ -7,7 +7,7 @@ read_frame-requires c = let top = c.in-Some.ensures in full-frame c.args.self.no
 
 pub returns-in-Part : goal.returns-in-Part
 returns-in-Part c =
-    rw (form-level c.args.self.now c.in-Part.form c.get.result.now c.in-Part.is c.get.ensures c.requires.valid) c.read_form.ensures
+    rw (form-layer c.args.self.now c.in-Part.form c.get.result.now c.in-Part.is c.get.ensures c.requires.valid) c.read_form.ensures
 
 pub returns-in-Some : goal.returns-in-Some
 returns-in-Some c =

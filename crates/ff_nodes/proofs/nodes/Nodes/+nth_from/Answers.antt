@@ -1,7 +1,8 @@
 use Rattle.std.proofs.Common.{◌≡◌, ℕ, true, List, [], ◌∷◌, length, slice_get, sym, ap, ◌∙◌, arith}
 use Rattle.std.specs.Str.{bytes_eq}
 use Rattle.ff_value.specs.declared.ids.NodeId.{NodeId}
-use Rattle.ff_machine.specs.Shapes.{kind_of, kind_word}
+use Rattle.ff_machine.specs.Kinds.{kind_word}
+use Rattle.ff_machine.specs.Shapes.{kind_of}
 use Rattle.ff_machine.specs.Nodes.{Node, node_at, children}
 use Rattle.ff_nodes.proofs.Rest.{kind_from}
 use Rattle.ff_nodes.proofs.Searching.{get_after}

@@ -1,6 +1,6 @@
 use Rattle.std.proofs.Common.{◌≡◌, ◌+◌, ◌-◌, drop, length, slice_get}
 use Rattle.ff_machine.specs.Nodes as nodes
-use Rattle.ff_machine.specs.Shapes.{kind_word}
+use Rattle.ff_machine.specs.Kinds.{kind_word}
 use Rattle.ff_nodes.proofs.Rest.{kind_from}
 use Rattle.ff_nodes.proofs.nodes.Nodes.+nth_from.Given as goal
 

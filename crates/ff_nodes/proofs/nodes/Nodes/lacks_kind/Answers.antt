@@ -1,7 +1,7 @@
 use Rattle.std.proofs.Common.{◌≡◌, ◌<◌, [], List, length, sym, subst, ap, ◌∙◌}
 use Rattle.std.specs.Int.{bit_at}
 use Rattle.std.proofs.lemmas.Option.{get_or_from_slice_get}
-use Rattle.ff_machine.specs.Shapes.{kind_word}
+use Rattle.ff_machine.specs.Kinds.{kind_word}
 use Rattle.ff_machine.specs.Nodes.{Node, of_word}
 use Rattle.ff_nodes.specs.declared.cell.NodeCell.{NodeCell}
 use Rattle.ff_nodes.specs.Marked.{kind_bit}

@@ -3,7 +3,7 @@
 use crate::spelling::{text, text_of};
 use anyhow::Result;
 use ff_printing::{print_pairs, print_shown};
-use ff_value::{NoMemory, Pair, Pairs, Seen, Shown, Url};
+use ff_value::{NoMemory, Pair, Pairs, Shown, ShownPart, Url};
 use std::alloc::Global;
 
 /// Prints the rows.
@@ -22,12 +22,12 @@ pub fn show<R: Print>(rt: &R, alloc: Global) -> Result<()> {
 /// A link, a division of a text box and a button, and a text.
 fn page(alloc: Global) -> Result<Shown, NoMemory> {
     let mut parts = Vec::new(alloc);
-    parts.push(Seen::TextBox(text(alloc, "a\nb")?))?;
-    parts.push(Seen::Button(text(alloc, "ok")?))?;
+    parts.push(ShownPart::TextBox(text(alloc, "a\nb")?))?;
+    parts.push(ShownPart::Button(text(alloc, "ok")?))?;
     let mut shown = Vec::new(alloc);
-    shown.push(Seen::Link(Url::Blank, text(alloc, "go")?))?;
-    shown.push(Seen::Div(Shown::from_vec(alloc, parts)?))?;
-    shown.push(Seen::Text(text(alloc, "t")?))?;
+    shown.push(ShownPart::Link(Url::Blank, text(alloc, "go")?))?;
+    shown.push(ShownPart::Div(Shown::from_vec(alloc, parts)?))?;
+    shown.push(ShownPart::Text(text(alloc, "t")?))?;
     Shown::from_vec(alloc, shown)
 }
 

@@ -1,7 +1,7 @@
 //! What the user is shown, and keys with their values, printed.
 ghost use Rattle.std.specs.Prelude.{[], ◌∷◌, map};
 ghost use Rattle.ff_text.specs.Printed.{spelled};
-ghost use Rattle.ff_forms.specs.Canonical.{address, string, word, parens, seen_item, shown_item, pair_item, pairs_item};
+ghost use Rattle.ff_forms.specs.Canonical.{address, string, word, parens, shown_part_item, shown_item, pair_item, pairs_item};
 ghost use Rattle.ff_forms.specs.Heads.{doc_word};
 ghost use Rattle.ff_forms.specs.declared.heads.DocHead.TheVariants as doc_head;
 ghost use Rattle.ff_printing.specs.Pieces.{Prints, each_after_blank};
@@ -9,33 +9,33 @@ ghost use Rattle.ff_printing.specs.Pieces.{Prints, each_after_blank};
 use crate::printer::Printer;
 use ff_forms::DocHead;
 use ff_name::{Text, Url, Worded};
-use ff_value::{Pair, Seen};
+use ff_value::{Pair, ShownPart};
 
 /// Appends what the user is shown of a page.
-pub(crate) fn print_page(shown: &[Seen], out: &mut Printer)
+pub(crate) fn print_page(shown: &[ShownPart], out: &mut Printer)
     ensures { Prints out.old out.new (spelled (shown_item shown.now)) }
 {
     print_list(b"page", shown, out)
 }
 
 /// Appends what the user is shown of a node.
-#[cycle(seen)]
-fn print_seen(seen: &Seen, out: &mut Printer)
-    ensures { Prints out.old out.new (spelled (seen_item seen.now)) }
+#[cycle(shown_part)]
+fn print_shown_part(part: &ShownPart, out: &mut Printer)
+    ensures { Prints out.old out.new (spelled (shown_part_item part.now)) }
 {
-    match seen {
-        Seen::Text(text) => out.labelled(DocHead::Text, text),
-        Seen::Link(url, label) => print_link(url, label, out),
-        Seen::TextBox(text) => out.labelled(DocHead::TextBox, text),
-        Seen::Button(label) => out.labelled(DocHead::Button, label),
-        Seen::Div(parts) => print_list(DocHead::Div.word().as_bytes(), parts.as_slice(), out),
+    match part {
+        ShownPart::Text(text) => out.labelled(DocHead::Text, text),
+        ShownPart::Link(url, label) => print_link(url, label, out),
+        ShownPart::TextBox(text) => out.labelled(DocHead::TextBox, text),
+        ShownPart::Button(label) => out.labelled(DocHead::Button, label),
+        ShownPart::Div(parts) => print_list(DocHead::Div.word().as_bytes(), parts.as_slice(), out),
     }
 }
 
 /// Appends a list of what the user is shown of some nodes.
-#[cycle(seen)]
-fn print_list(head: &[u8], parts: &[Seen], out: &mut Printer)
-    ensures { Prints out.old out.new (spelled (parens (word head.now ∷ map seen_item parts.now))) }
+#[cycle(shown_part)]
+fn print_list(head: &[u8], parts: &[ShownPart], out: &mut Printer)
+    ensures { Prints out.old out.new (spelled (parens (word head.now ∷ map shown_part_item parts.now))) }
 {
     out.open_list(head);
     print_parts(parts, out);
@@ -43,13 +43,13 @@ fn print_list(head: &[u8], parts: &[Seen], out: &mut Printer)
 }
 
 /// Appends what the user is shown of some nodes, with a blank before each.
-#[cycle(seen)]
-fn print_parts(parts: &[Seen], out: &mut Printer)
-    ensures { Prints out.old out.new (each_after_blank seen_item parts.now) }
+#[cycle(shown_part)]
+fn print_parts(parts: &[ShownPart], out: &mut Printer)
+    ensures { Prints out.old out.new (each_after_blank shown_part_item parts.now) }
 {
     for part in parts {
         out.bytes(b" ");
-        print_seen(part, out);
+        print_shown_part(part, out);
     }
 }
 
