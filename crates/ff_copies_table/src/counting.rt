@@ -5,7 +5,7 @@ ghost use Rattle.std.specs.Prelude.{◌≡◌, ◌<◌, false, IfOk, IfSome};
 ghost use Rattle.ff_lattice.specs.Order.{size as count_levels};
 ghost use Rattle.ff_reactive.specs.Worlds.{OfferOk, AreOffers};
 ghost use Rattle.ff_value.specs.Spelled.{IsWellSpelledInput};
-ghost use Rattle.ff_levels.specs.Levels.{IsInput};
+ghost use Rattle.ff_trace.specs.Lines.{IsInputOf};
 
 use crate::is_of_two;
 use ff_name::Level;
@@ -25,7 +25,7 @@ const MOST_STEPS: u32 = 20_000;
 #[tactic(auto, using(crate::proofs::Offered::seen_ok))]
 fn offer(alloc: Global, policy: &Policy, l: u8, input: &Input) -> Result<Option<Input>, NoMemory>
     requires level { l < count_levels policy.now.order }
-    requires input { IsInput policy.now.order input.now }
+    requires input { IsInputOf policy.now.order input.now }
     ensures { IfOk result (OfferOk IsWellSpelledInput) }
 {
     sees(alloc, policy, Level(l), input)
@@ -33,7 +33,7 @@ fn offer(alloc: Global, policy: &Policy, l: u8, input: &Input) -> Result<Option<
 
 /// What the two levels are offered of an input.
 fn offers(alloc: Global, policy: &Policy, input: &Input) -> Result<Offers, NoMemory>
-    requires input { IsInput policy.now.order input.now }
+    requires input { IsInputOf policy.now.order input.now }
     ensures { IfOk result (λ offers. AreOffers IsWellSpelledInput 2 offers) }
 {
     if policy.lattice().size() != 2 {
@@ -48,9 +48,8 @@ fn offers(alloc: Global, policy: &Policy, input: &Input) -> Result<Offers, NoMem
 }
 
 /// The input of a line, if it holds one.
-#[tactic(auto, using(ff_levels::proofs::Inputs::input_is))]
 fn input_of(alloc: Global, policy: &Policy, line: &str) -> Result<Option<Input>, NoMemory>
-    ensures { IfOk result (λ input. IfSome input (IsInput policy.now.order)) }
+    ensures { IfOk result (λ input. IfSome input (IsInputOf policy.now.order)) }
 {
     if line.len() > 65_536 {
         return Err(AllocError);
@@ -99,7 +98,7 @@ fn turns_of<C: Ledger, L: Ledger>(
     copies: &mut Steps<C>,
     turns: &mut Steps<L>,
 ) -> Result<u32, NoMemory>
-    requires { IsInput policy.now.order input.now }
+    requires { IsInputOf policy.now.order input.now }
 {
     if !is_of_two(pool) {
         return Err(AllocError);

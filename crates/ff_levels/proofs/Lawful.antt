@@ -13,9 +13,10 @@ use Rattle.ff_policy.specs.Assignment.{Assignment, IsAssignment}
 use Rattle.ff_route.proofs.Fits.{sees_below, level_ok, name_ok, names_differ}
 use Rattle.ff_trace.proofs.Fitting.{out_one_line}
 use Rattle.ff_levels.proofs.Inputs.{seen_input}
-use Rattle.ff_levels.specs.Levels.{levels, machine, IsInput}
+use Rattle.ff_levels.specs.Levels.{levels, machine}
+use Rattle.ff_trace.specs.Lines.{IsInputOf}
 
-keeps : (order : Order) (fuel : ℕ) → KeepsOk (reactor fuel) (IsInput order) (IsState fuel) IsWellSpelledOut
+keeps : (order : Order) (fuel : ℕ) → KeepsOk (reactor fuel) (IsInputOf order) (IsState fuel) IsWellSpelledOut
 keeps order fuel =
     let kept = core.keeps fuel in
     record {
@@ -26,7 +27,7 @@ keeps order fuel =
       turn_outputs = kept.turn_outputs;
     }
 
-pub lawful : (p : Assignment) → IsAssignment p → IsLawful (machine p) (levels p) (IsInput p.order) (IsState p.fuel) IsWellSpelledOut
+pub lawful : (p : Assignment) → IsAssignment p → IsLawful (machine p) (levels p) (IsInputOf p.order) (IsState p.fuel) IsWellSpelledOut
 lawful p valid = record {
   start_ok = (keeps p.order p.fuel).start_ok;
   handle_ok = λ s i ok input. machine_handle_ok (keeps p.order p.fuel) _ s i ok input;
@@ -40,5 +41,5 @@ lawful p valid = record {
 }
 
 -- lists of inputs that look the same to a level give it the same view
-pub multi_is_noninterfering : (p : Assignment) → IsAssignment p → IsNoninterfering (machine p) (levels p) (IsInput p.order)
+pub multi_is_noninterfering : (p : Assignment) → IsAssignment p → IsNoninterfering (machine p) (levels p) (IsInputOf p.order)
 multi_is_noninterfering p valid = noninterfering (lawful p valid)

@@ -56,6 +56,8 @@ impl Taker for Growing {
 
     ghost is_at = { λ taker state bytes. state.items ≡ bytes };
 
+    ghost copies_none = { λ taker. ⊤ };
+
     fn take<C: Ledger, L: Ledger>(
         &self,
         _alloc: Global,

@@ -25,4 +25,4 @@ mod steps;
 
 pub use event::Event;
 pub use ff_core::NoMemory;
-pub use pool::{MOST_COPIES, Pool};
+pub use pool::Pool;

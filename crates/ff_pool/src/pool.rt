@@ -1,7 +1,7 @@
 //! The pool and its single steps.
 ghost use Rattle.std.specs.Prelude.{◌≡◌, ◌+◌, ◌<◌, ◌≤◌, ◌↔◌, true, false, not, IsTrue, IfOk, OnOk, OnErr};
 ghost use Rattle.ff_core.specs.declared.browser.TheConstants.{MOST_BUDGET};
-ghost use Rattle.ff_pool.specs.declared.pool.TheConstants.{MOST_COPIES};
+ghost use Rattle.ff_lattice.specs.declared.names.TheConstants.{MOST_LEVELS};
 ghost use Rattle.ff_reactive.specs.Worlds.{leader};
 ghost use Rattle.ff_pool.specs.Heads.{class_of};
 ghost use Rattle.ff_pool.specs.Pooled as pooled;
@@ -19,9 +19,6 @@ use ff_value::{Offers, Out};
 use std::alloc::{AllocError, Global};
 use std::marker::Model;
 use std::sync::ledger::Ledger;
-
-/// The most levels of a pool.
-pub const MOST_COPIES: u8 = 16;
 
 /// One copy of the browser for each level, where the levels of one class share theirs.
 #[derive(Drop)]
@@ -53,12 +50,12 @@ impl Model for Pool {
 }
 
 impl Pool {
-    /// A pool of `n` levels, from 1 to `MOST_COPIES`, all in one class, to whose browsers each input
+    /// A pool of `n` levels, from 1 to `MOST_LEVELS`, all in one class, to whose browsers each input
     /// brings so much fuel, from 1 to `MOST_BUDGET`. Its one refusal is want of memory.
     #[tactic(auto, using(crate::proofs::Making::made_more))]
     pub fn new(alloc: Global, n: u8, fuel: u32) -> Result<Pool, NoMemory>
         requires some { 1 ≤ n }
-        requires most { n ≤ MOST_COPIES }
+        requires most { n ≤ MOST_LEVELS }
         requires fuel_some { 1 ≤ fuel }
         requires fuel_most { fuel ≤ MOST_BUDGET }
         ensures { IfOk result (λ pool. pool ≡ new_pool n fuel) }
@@ -85,7 +82,7 @@ impl Pool {
     pub fn spent(&self) -> bool
         ensures answer { result ≡ self.now.spent }
         ensures valid { self.now.spent ≡ false → IsPool self.now }
-        ensures few { self.now.spent ≡ false → size self.now ≤ MOST_COPIES }
+        ensures few { self.now.spent ≡ false → size self.now ≤ MOST_LEVELS }
     {
         self.spent
     }

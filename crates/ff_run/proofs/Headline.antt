@@ -5,7 +5,8 @@ use Rattle.ff_io.specs.Shelf.{ShelfTold}
 use Rattle.ff_reactive.specs.Laws.{IsProjection, IsSecure, IsPrecise}
 use Rattle.ff_value.specs.declared.input.Input.{Input}
 use Rattle.ff_policy.specs.Assignment.{Assignment, IsAssignment}
-use Rattle.ff_levels.specs.Levels.{levels, machine, IsInput}
+use Rattle.ff_levels.specs.Levels.{levels, machine}
+use Rattle.ff_trace.specs.Lines.{IsInputOf}
 use Rattle.ff_session.specs.Works.{Exchanged, Claims, IsAnswered}
 use Rattle.ff_session.specs.declared.work.Work.TheVariants.{Multi}
 use Rattle.ff_session.proofs.Headline.{projection, security, precision}
@@ -35,8 +36,8 @@ module _ (name : List ℕ) (shelf shelf_now : ShelfTold) (before now : Told) (tu
     pub projection_under : ClaimsUnder shelf name before now (λ p is put. IsProjection (machine p) (levels p) is put)
     projection_under = claimed (λ p is put. IsProjection (machine p) (levels p) is put) s (under_of s answered obeys) (λ p valid run. projection p s run valid answered)
 
-    pub security_under : ClaimsUnder shelf name before now (λ p is put. IsSecure (machine p) (levels p) (IsInput p.order) is put)
-    security_under = claimed (λ p is put. IsSecure (machine p) (levels p) (IsInput p.order) is put) s (under_of s answered obeys) (λ p valid run. security p s run valid answered)
+    pub security_under : ClaimsUnder shelf name before now (λ p is put. IsSecure (machine p) (levels p) (IsInputOf p.order) is put)
+    security_under = claimed (λ p is put. IsSecure (machine p) (levels p) (IsInputOf p.order) is put) s (under_of s answered obeys) (λ p valid run. security p s run valid answered)
 
     pub precision_under : ClaimsUnder shelf name before now (λ p is put. IsPrecise (machine p) (levels p) is put)
     precision_under = claimed (λ p is put. IsPrecise (machine p) (levels p) is put) s (under_of s answered obeys) (λ p valid run. precision p s run valid answered)

@@ -1,7 +1,7 @@
 //! Inputs that are drawn from a start, multi-executed.
 ghost use Rattle.std.specs.Prelude.{◌≡◌, ◌≤◌, ◌<◌, ◌+◌, ◌++◌, ℕ, List, IfOk, OnOk};
 ghost use Rattle.ff_gen.specs.Workload.{following};
-ghost use Rattle.ff_levels.specs.Levels.{IsInput};
+ghost use Rattle.ff_trace.specs.Lines.{IsInputOf};
 ghost use Rattle.ff_run.specs.Generated.{IsDrawn, RanDrawn, AtMostDrawn, Generates, summary};
 
 use crate::tally::print_summary;
@@ -91,11 +91,11 @@ fn ran<C: Ledger, L: Ledger>(
 }
 
 /// The next input that is drawn. It is refused for want of memory.
-#[tactic(auto, using(ff_session::proofs::Giving::is_input))]
+#[tactic(auto, using(ff_session::proofs::Giving::is_given))]
 fn next_input(alloc: Global, lattice: &Lattice, draws: &mut Draws) -> Result<Input, AllocError>
     ensures following { draws.new ≡ following draws.old }
     ensures drawn { IfOk result (IsDrawn lattice.now draws.new) }
-    ensures input { IfOk result (IsInput lattice.now) }
+    ensures input { IfOk result (IsInputOf lattice.now) }
 {
     let mut line = Vec::new(alloc);
     draws.next_line(&mut line)?;

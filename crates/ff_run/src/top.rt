@@ -2,7 +2,8 @@ ghost use Rattle.std.specs.Prelude.{◌≡◌, ◌≢◌, ◌≤◌, ◌<◌, �
 ghost use Rattle.ff_reactive.specs.Laws.{IsProjection, IsSecure, IsPrecise};
 ghost use Rattle.ff_policy.specs.Assignment.{Assignment, IsAssignment};
 ghost use Rattle.ff_policy.specs.declared.fault.PolicyFault.{PolicyFault};
-ghost use Rattle.ff_levels.specs.Levels.{levels, machine, IsInput};
+ghost use Rattle.ff_levels.specs.Levels.{levels, machine};
+ghost use Rattle.ff_trace.specs.Lines.{IsInputOf};
 ghost use Rattle.ff_session.specs.Works.{IsAnswered};
 ghost use Rattle.ff_session.specs.declared.work.Work.{Work};
 ghost use Rattle.ff_status.specs.Words.{error_line};
@@ -62,7 +63,7 @@ pub fn run<S: Shelf, P: Port, E: Sink, C: Ledger, L: Ledger>(
     ensures projected { (name : List ℕ) → Asks words.now multi name → IsAnswered result
         → ClaimsUnder (S.told shelf.old) name (P.told port.old) (P.told port.new) (λ p is put. IsProjection (machine p) (levels p) is put) }
     ensures secure { (name : List ℕ) → Asks words.now multi name → IsAnswered result
-        → ClaimsUnder (S.told shelf.old) name (P.told port.old) (P.told port.new) (λ p is put. IsSecure (machine p) (levels p) (IsInput p.order) is put) }
+        → ClaimsUnder (S.told shelf.old) name (P.told port.old) (P.told port.new) (λ p is put. IsSecure (machine p) (levels p) (IsInputOf p.order) is put) }
     ensures precise { (name : List ℕ) → Asks words.now multi name → IsAnswered result
         → ClaimsUnder (S.told shelf.old) name (P.told port.old) (P.told port.new) (λ p is put. IsPrecise (machine p) (levels p) is put) }
 

@@ -23,12 +23,13 @@ use Rattle.ff_policy.specs.Assignment.{Assignment}
 use Rattle.ff_route.specs.Route.{offers}
 use Rattle.ff_route.proofs.Fits.{sees_spelled}
 use Rattle.ff_levels.specs.Levels as run
-use Rattle.ff_levels.specs.Levels.{machine, IsInput}
+use Rattle.ff_levels.specs.Levels.{machine}
+use Rattle.ff_trace.specs.Lines.{IsInputOf}
 use Rattle.ff_session.specs.Multi.{copies_entry, copies_turns, IsPoolOf, AreCopiesAt, AreTakenBelow}
 
 -- ---- an input comes
 
-module _ (p : Assignment) (pool : Pooled) (i : Input) (is : List Input) (spelled : IsInput p.order i) (at : AreCopiesAt p pool is) where
+module _ (p : Assignment) (pool : Pooled) (i : Input) (is : List Input) (spelled : IsInputOf p.order i) (at : AreCopiesAt p pool is) where
   -- what the levels see of it can be offered to them
   offered : AreOffers IsWellSpelledInput (size p.order) (offers p i)
   offered = offers_ok (ends p.fuel) (run.levels p) same_input same_input_decides (λ l j x ok seen. sees_spelled p l j x ok seen) i spelled.spelled

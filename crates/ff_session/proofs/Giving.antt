@@ -8,8 +8,6 @@ use Rattle.ff_trace.specs.declared.fault.LineFault.{LineFault}
 use Rattle.ff_status.specs.declared.status.TraceFault.{TraceFault}
 use Rattle.ff_status.specs.declared.status.TraceFault.TheVariants as fault
 use Rattle.ff_policy.specs.Assignment.{Assignment}
-use Rattle.ff_levels.specs.Levels.{IsInput}
-use Rattle.ff_levels.proofs.Inputs.{input_is}
 use Rattle.ff_stream.specs.declared.end.BadLine.{BadLine}
 use Rattle.ff_stream.proofs.Laws.{trace_once}
 use Rattle.ff_session.specs.Giving.{Gives}
@@ -39,9 +37,6 @@ is_given order line item gives = from (Ok (Some item)) refl gives
     from answer is (Gives.an_input i reads well) = subst (IsInputOf order) (same_Some i item (ap input_of is)) well
     from answer is (Gives.a_fault which reads) = absurd (none-some item (ap input_of is))
 
--- and one that the levels and the browser take
-pub is_input : (order : Order) (line : List ℕ) (item : Input) → Gives order line (Ok (Some item)) → IsInput order item
-is_input order line item gives = input_is order item (is_given order line item gives)
 
 -- the bytes of a trace give one list of inputs, and have one first bad line
 pub trace_read_once : (p : Assignment) (ended : Bool) (bytes : List ℕ) (is js : List Input) (bad other : Option (BadLine TraceFault)) → IsTraceFor p ended bytes is bad → IsTraceFor p ended bytes js other → (is ≡ js) × (bad ≡ other)

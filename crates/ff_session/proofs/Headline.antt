@@ -7,7 +7,8 @@ use Rattle.ff_reactive.specs.Laws.{IsProjection, IsSecure, IsPrecise}
 use Rattle.ff_reactive.proofs.Laws.{projected, secured, precised}
 use Rattle.ff_value.specs.declared.input.Input.{Input}
 use Rattle.ff_policy.specs.Assignment.{Assignment, IsAssignment}
-use Rattle.ff_levels.specs.Levels.{levels, machine, IsInput}
+use Rattle.ff_levels.specs.Levels.{levels, machine}
+use Rattle.ff_trace.specs.Lines.{IsInputOf}
 use Rattle.ff_levels.proofs.Lawful.{lawful}
 use Rattle.ff_status.specs.declared.status.Status.{Status}
 use Rattle.ff_status.specs.declared.status.Status.TheVariants.{Done, Usage, Policy, Trace, ReadFault, WriteFault, ShelfFault, NoMemory}
@@ -18,7 +19,7 @@ use Rattle.ff_session.specs.Once.{gives_once}
 use Rattle.ff_session.specs.Multi.{multi_text}
 use Rattle.ff_session.specs.Works.{AreInputsGot, IsOwed, IsWritten, Exchanged, IsAnswered, Claims}
 use Rattle.ff_session.specs.declared.work.Work.TheVariants.{Multi}
-use Rattle.ff_session.proofs.Giving.{is_input}
+use Rattle.ff_session.proofs.Giving.{is_given}
 
 module _ {before now : Told} {turns_before turns_now : ℕ} (p : Assignment) (s : Status) (run : Exchanged Multi p before now turns_before turns_now s) where
   text_is : (other : Option (BadLine TraceFault)) → IsOwed Multi p run.pieces other turns_before turns_now → (is : List Input) (bad : Option (BadLine TraceFault)) → AreInputsGot p run.pieces is bad → put_of run.pieces ≡ multi_text p is
@@ -35,18 +36,18 @@ module _ {before now : Told} {turns_before turns_now : ℕ} (p : Assignment) (s 
   from NoMemory answered written is bad reads = absurd answered
 
   -- what follows from the text that was put
-  claimed : (claim : List Input → List ℕ → Type 0) → IsAnswered s → ((is : List Input) (put : List ℕ) → All (IsInput p.order) is → put ≡ multi_text p is → claim is put) → Claims Multi p before now claim
+  claimed : (claim : List Input → List ℕ → Type 0) → IsAnswered s → ((is : List Input) (put : List ℕ) → All (IsInputOf p.order) is → put ≡ multi_text p is → claim is put) → Claims Multi p before now claim
   claimed claim answered follows = record {
     pieces = run.pieces;
     passed = run.passed;
-    held = λ is bad reads. follows is (put_of run.pieces) (reads_each (IsInput p.order) (is_input p.order) (has_end run.pieces) 1 0 (got_of run.pieces) is bad reads) (from s answered run.written is bad reads);
+    held = λ is bad reads. follows is (put_of run.pieces) (reads_each (IsInputOf p.order) (is_given p.order) (has_end run.pieces) 1 0 (got_of run.pieces) is bad reads) (from s answered run.written is bad reads);
   }
 
   pub projection : IsAssignment p → IsAnswered s → Claims Multi p before now (λ is put. IsProjection (machine p) (levels p) is put)
   projection valid answered = claimed (λ is put. IsProjection (machine p) (levels p) is put) answered (λ is put fit text. projected (lawful p valid) is put fit text)
 
-  pub security : IsAssignment p → IsAnswered s → Claims Multi p before now (λ is put. IsSecure (machine p) (levels p) (IsInput p.order) is put)
-  security valid answered = claimed (λ is put. IsSecure (machine p) (levels p) (IsInput p.order) is put) answered (λ is put fit text. secured (lawful p valid) is put fit text)
+  pub security : IsAssignment p → IsAnswered s → Claims Multi p before now (λ is put. IsSecure (machine p) (levels p) (IsInputOf p.order) is put)
+  security valid answered = claimed (λ is put. IsSecure (machine p) (levels p) (IsInputOf p.order) is put) answered (λ is put fit text. secured (lawful p valid) is put fit text)
 
   pub precision : IsAssignment p → IsAnswered s → Claims Multi p before now (λ is put. IsPrecise (machine p) (levels p) is put)
   precision valid answered = claimed (λ is put. IsPrecise (machine p) (levels p) is put) answered (λ is put fit text. precised (lawful p valid) is put fit text)

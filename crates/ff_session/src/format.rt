@@ -39,6 +39,8 @@ impl Taker for Formatting<'_> {
 
     ghost is_at = { λ taker state inputs. ⊤ };
 
+    ghost copies_none = { λ taker. ⊤ };
+
     #[tactic(auto, using(crate::proofs::Texts::formatted))]
     fn take<C: Ledger, L: Ledger>(
         &self,
@@ -65,7 +67,7 @@ pub(crate) fn walk_format<P: Port, C: Ledger, L: Ledger>(
     ensures streams { Streams (Gives lattice.now) (format_entry lattice.now) no_turns (λ is. ⊤)
         (P.log port.old) (P.log port.new) (P.rest port.old) (P.rest port.new) turns.old turns.new result }
     ensures later { turns.old ≤ turns.new }
-    ensures later_copies { copies.old ≤ copies.new }
+    ensures uncopied { copies.new ≡ copies.old }
     ensures read_fault { result ≡ End.ReadFault → Rose (P.read_faults port.old) (P.read_faults port.new) }
     ensures write_fault { result ≡ End.WriteFault → Rose (P.write_faults port.old) (P.write_faults port.new) }
 {

@@ -3,7 +3,7 @@ ghost use Rattle.ff_io.specs.Counts.{Rose};
 ghost use Rattle.ff_lattice.specs.Order.{size};
 ghost use Rattle.ff_value.specs.declared.input.Input.{Input};
 ghost use Rattle.ff_pool.specs.Pooled as pooled;
-ghost use Rattle.ff_levels.specs.Levels.{IsInput};
+ghost use Rattle.ff_trace.specs.Lines.{IsInputOf};
 ghost use Rattle.ff_stream.specs.Owed.{Streams};
 ghost use Rattle.ff_session.specs.Giving.{Gives};
 ghost use Rattle.ff_session.specs.Multi.{AreCopiesAt, AreTakenBelow, copies_entry, copies_turns};
@@ -33,14 +33,14 @@ pub struct Copies<'a> {
 
 impl Taker for Copies<'_> {
     ghost use Rattle.std.specs.Prelude.{◌<◌};
-    ghost use Rattle.ff_levels.specs.Levels.{IsInput};
+    ghost use Rattle.ff_trace.specs.Lines.{IsInputOf};
     ghost use Rattle.ff_session.specs.Multi.{copies_entry, copies_turns, AreCopiesAt};
 
     type Item = Input;
 
     type State = Pool;
 
-    ghost accepts = { λ taker input. IsInput taker.policy.now.order input };
+    ghost accepts = { λ taker input. IsInputOf taker.policy.now.order input };
 
     ghost entry = { λ taker. copies_entry taker.policy.now };
 
@@ -73,7 +73,7 @@ fn give<C: Ledger, L: Ledger>(
     turns: &mut Steps<L>,
 ) -> Result<(), AllocError>
     requires slice { 0 < slice }
-    requires input { IsInput policy.now.order input.now }
+    requires input { IsInputOf policy.now.order input.now }
     requires at { (is : List Input) × AreCopiesAt policy.now pool.old is }
     ensures given { OnOk result ((is : List Input) → AreCopiesAt policy.now pool.old is → AreTakenBelow policy.now pool.new is input.now 0) }
     ensures levels { OnOk result (pooled.size pool.new ≡ size policy.now.order) }
@@ -111,7 +111,7 @@ pub fn new_pool(alloc: Global, policy: &Policy) -> Result<Pool, AllocError>
 
 /// Multi-executes the trace that the port gives. A class makes up to `slice` steps before the next
 /// one has its turn.
-#[tactic(auto, using(crate::proofs::Giving::is_input))]
+#[tactic(auto, using(crate::proofs::Giving::is_given))]
 pub(crate) fn walk_multi<P: Port, C: Ledger, L: Ledger>(
     alloc: Global,
     policy: &Policy,

@@ -2,7 +2,8 @@ ghost use Rattle.std.specs.Prelude.{◌≡◌, ◌≤◌, ◌<◌};
 ghost use Rattle.ff_io.specs.Counts.{Rose};
 ghost use Rattle.ff_reactive.specs.Laws.{IsProjection, IsSecure, IsPrecise};
 ghost use Rattle.ff_policy.specs.Assignment.{IsAssignment};
-ghost use Rattle.ff_levels.specs.Levels.{levels, machine, IsInput};
+ghost use Rattle.ff_levels.specs.Levels.{levels, machine};
+ghost use Rattle.ff_trace.specs.Lines.{IsInputOf};
 ghost use Rattle.ff_session.specs.Works.{Exchanged, Claims, IsAnswered, status_as, fault_as};
 
 use crate::format::walk_format;
@@ -43,7 +44,7 @@ pub fn walk<P: Port, C: Ledger, L: Ledger>(
     requires { 0 < slice }
     ensures exchanged { Exchanged work policy.now (P.told port.old) (P.told port.new) turns.old turns.new result }
     ensures projected { work ≡ Work.Multi → IsAnswered result → Claims Work.Multi policy.now (P.told port.old) (P.told port.new) (λ is put. IsProjection (machine policy.now) (levels policy.now) is put) }
-    ensures secure { work ≡ Work.Multi → IsAnswered result → Claims Work.Multi policy.now (P.told port.old) (P.told port.new) (λ is put. IsSecure (machine policy.now) (levels policy.now) (IsInput policy.now.order) is put) }
+    ensures secure { work ≡ Work.Multi → IsAnswered result → Claims Work.Multi policy.now (P.told port.old) (P.told port.new) (λ is put. IsSecure (machine policy.now) (levels policy.now) (IsInputOf policy.now.order) is put) }
     ensures precise { work ≡ Work.Multi → IsAnswered result → Claims Work.Multi policy.now (P.told port.old) (P.told port.new) (λ is put. IsPrecise (machine policy.now) (levels policy.now) is put) }
     ensures valid { IsAssignment policy.now }
     ensures later_copies { copies.old ≤ copies.new }

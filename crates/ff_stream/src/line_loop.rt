@@ -37,6 +37,7 @@ pub fn stream<R: Reader, T: Taker<Item = R::Item>, P: Port, C: Ledger, L: Ledger
         (P.rest port.new) steps.old steps.new result }
     ensures later { steps.old ≤ steps.new }
     ensures later_copies { copies.old ≤ copies.new }
+    ensures uncopied { T.copies_none taker.now → copies.new ≡ copies.old }
     ensures read_fault { result ≡ End.ReadFault
         → Rose (P.read_faults port.old) (P.read_faults port.new) }
     ensures write_fault { result ≡ End.WriteFault
@@ -129,6 +130,7 @@ fn take_item<F, T: Taker, P: Port, C: Ledger, L: Ledger>(
     ensures later { P.write_faults port.old ≤ P.write_faults port.new }
     ensures later_turns { steps.old ≤ steps.new }
     ensures later_copies { copies.old ≤ copies.new }
+    ensures uncopied { T.copies_none taker.now → copies.new ≡ copies.old }
     ensures no_read { result ≢ Err End.ReadFault }
     ensures cause { result ≡ Err End.WriteFault
         → Rose (P.write_faults port.old) (P.write_faults port.new) }

@@ -1,4 +1,4 @@
-use Rattle.std.proofs.Common.{refl, arith, rules}
+use Rattle.std.proofs.Common.{◌∙◌, refl, arith, rules}
 use Rattle.ff_stream.proofs.Onwards.{streaming_start, streams_read, streaming_taken, streams_taken}
 use Rattle.ff_stream.proofs.line_loop.stream.Goals as goal
 
@@ -8,6 +8,7 @@ loop-item-init g c = record {
   later = omega arith;
   later_turns = omega arith;
   later_copies = omega arith;
+  uncopied = λ none. refl;
   later_writes = omega arith;
 }
 
@@ -20,6 +21,7 @@ loop-item-preserved g c = record {
   later = search rules;
   later_turns = search rules;
   later_copies = search rules;
+  uncopied = λ none. c.in-Ok-take_item.ensures.uncopied none ∙ c.loop-item.invariant.uncopied none;
   later_writes = search rules;
 }
 

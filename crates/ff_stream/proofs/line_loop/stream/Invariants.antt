@@ -1,4 +1,4 @@
-use Rattle.std.proofs.Common.{◌+◌, ◌-◌, ◌≤◌}
+use Rattle.std.proofs.Common.{◌≡◌, ◌+◌, ◌-◌, ◌≤◌}
 use Rattle.ff_io.specs.declared.lines.TheConstants.{MOST_TRACE_BYTES}
 use Rattle.ff_stream.proofs.Onwards.{IsStreaming}
 use Rattle.ff_stream.proofs.line_loop.stream.Given as goal
@@ -9,6 +9,7 @@ invariant-loop-item g l = record {
   later : g.P.Port.read_faults l.fn.port ≤ g.P.Port.read_faults l.port;
   later_turns : l.fn.steps ≤ l.steps;
   later_copies : l.fn.copies ≤ l.copies;
+  uncopied : g.T.Taker.copies_none l.taker → l.copies ≡ l.fn.copies;
   later_writes : g.P.Port.write_faults l.fn.port ≤ g.P.Port.write_faults l.port;
 }
 
