@@ -1,5 +1,5 @@
 -- What a run does, by its command and its status.
-use Rattle.std.specs.Prelude.{◌≡◌, ◌≢◌, ◌⊎◌, ℕ, ◌+◌, Option, List, String}
+use Rattle.std.specs.Prelude.{◌≡◌, ◌≢◌, ◌⊎◌, ⊤, ℕ, ◌+◌, Option, List, String}
 use Rattle.std.proofs.Common.{Global}
 use Rattle.ff_io.specs.Counts.{Rose}
 use Rattle.ff_io.specs.Pieces.{Piece}
@@ -10,7 +10,7 @@ use Rattle.ff_policy.specs.Assignment.{Assignment}
 use Rattle.ff_stream.specs.declared.end.BadLine.{BadLine}
 use Rattle.ff_session.specs.Works.{AreInputsGot, turns_for, Exchanged, Claims}
 use Rattle.ff_session.specs.declared.work.Work.{Work}
-use Rattle.ff_session.specs.declared.work.Work.TheVariants.{Multi}
+use Rattle.ff_session.specs.declared.work.Work.TheVariants.{Multi, Format}
 use Rattle.ff_status.specs.Putting.{Reported}
 use Rattle.ff_status.specs.declared.status.Status.{Status}
 use Rattle.ff_status.specs.declared.status.Status.TheVariants.{Done, Usage, Policy, Trace, ReadFault, WriteFault, ShelfFault, NoMemory}
@@ -34,6 +34,13 @@ Performs command.Check p before now turns_before turns_now status = Checks p.ord
 Performs (command.Generate start inputs) p before now turns_before turns_now status = Generates p start inputs before now turns_before turns_now status
 Performs command.Upgrade p before now turns_before turns_now status = Upgrades p before now turns_before turns_now status
 Performs (command.Trace work) p before now turns_before turns_now status = Exchanged work p before now turns_before turns_now status
+
+-- a command that runs no browser
+abbrev pub RunsNone : Command → Type 0
+RunsNone command.Check = ⊤
+RunsNone command.Upgrade = ⊤
+RunsNone (command.Trace Format) = ⊤
+RunsNone other = ⊥
 
 -- Nothing was got or put, no call failed, and no turn was made.
 pub record IsUntouched (before now : Told) (turns_before turns_now : ℕ) : Type 0 where

@@ -10,7 +10,7 @@ ghost use Rattle.ff_status.specs.Words.{error_line};
 ghost use Rattle.ff_run.specs.Words.{Asks, dash, multi};
 ghost use Rattle.ff_run.specs.Policies.{NamesPolicy, NamesFault, IsKnown, FetchFailed, Under};
 ghost use Rattle.ff_run.specs.Status.{IsEarly, IsUnfailing};
-ghost use Rattle.ff_run.specs.Run.{Suits, Performs, Obeys, ClaimsUnder, Counts, NothingFailed, Reports};
+ghost use Rattle.ff_run.specs.Run.{Suits, Performs, Obeys, ClaimsUnder, Counts, NothingFailed, Reports, RunsNone};
 ghost use Rattle.ff_run.specs.declared.words.Command.{Command};
 
 use crate::check::check;
@@ -83,11 +83,12 @@ pub fn run<S: Shelf, P: Port, E: Sink, C: Ledger, L: Ledger>(
         → IsKnown (S.told shelf.old) name → NamesPolicy (S.told shelf.old) name p → ¬ FetchFailed name (S.told shelf.old) (S.told shelf.new)
         → ¬ IsEarly result }
 
-    // What isn't touched.
+    // What isn't touched. Where no browser runs, no cell is copied.
     ensures untouched { IsEarly result → (port.new ≡ port.old) × (turns.new ≡ turns.old) }
     ensures no_shelf { result ≡ Status.Usage → shelf.new ≡ shelf.old }
     ensures no_fetch { (command : Command) → Asks words.now command dash → shelf.new ≡ shelf.old }
     ensures no_copies { IsEarly result → copies.new ≡ copies.old }
+    ensures uncopied { (command : Command) (name : List ℕ) → Asks words.now command name → RunsNone command → copies.new ≡ copies.old }
     ensures copies { copies.old ≤ copies.new }
 
     // The line on the error sink.
@@ -121,6 +122,7 @@ fn answer<S: Shelf, P: Port, C: Ledger, L: Ledger>(
     ensures no_shelf { result ≡ Status.Usage → shelf.new ≡ shelf.old }
     ensures no_fetch { (command : Command) → Asks words.now command dash → shelf.new ≡ shelf.old }
     ensures no_copies { IsEarly result → copies.new ≡ copies.old }
+    ensures uncopied { (command : Command) (name : List ℕ) → Asks words.now command name → RunsNone command → copies.new ≡ copies.old }
     ensures copies { copies.old ≤ copies.new }
 {
     match asked_by(words) {
@@ -158,6 +160,7 @@ fn obey<S: Shelf, P: Port, C: Ledger, L: Ledger>(
     ensures untouched { IsEarly result → (port.new ≡ port.old) × (turns.new ≡ turns.old) }
     ensures no_fetch { name.now ≡ dash → shelf.new ≡ shelf.old }
     ensures no_copies { IsEarly result → copies.new ≡ copies.old }
+    ensures uncopied { RunsNone command → copies.new ≡ copies.old }
     ensures copies { copies.old ≤ copies.new }
 {
     match find_policy(alloc, shelf, name) {
@@ -179,6 +182,7 @@ fn perform<P: Port, C: Ledger, L: Ledger>(
     requires { 0 < slice }
     ensures performs { Performs command policy.now (P.told port.old) (P.told port.new) turns.old turns.new result }
     ensures valid { IsAssignment policy.now }
+    ensures uncopied { RunsNone command → copies.new ≡ copies.old }
     ensures copies { copies.old ≤ copies.new }
 {
     let lattice = policy.lattice();

@@ -37,7 +37,6 @@ is_given order line item gives = from (Ok (Some item)) refl gives
     from answer is (Gives.an_input i reads well) = subst (IsInputOf order) (same_Some i item (ap input_of is)) well
     from answer is (Gives.a_fault which reads) = absurd (none-some item (ap input_of is))
 
-
 -- the bytes of a trace give one list of inputs, and have one first bad line
 pub trace_read_once : (p : Assignment) (ended : Bool) (bytes : List ℕ) (is js : List Input) (bad other : Option (BadLine TraceFault)) → IsTraceFor p ended bytes is bad → IsTraceFor p ended bytes js other → (is ≡ js) × (bad ≡ other)
 trace_read_once p ended bytes is js bad other first second = trace_once (gives_once p.order) ended bytes is js bad other first second

@@ -48,6 +48,8 @@ impl Taker for Copies<'_> {
 
     ghost is_at = { λ taker pool inputs. AreCopiesAt taker.policy.now pool inputs × (0 < taker.slice) };
 
+    ghost copies_none = { λ taker. ⊥ };
+
     fn take<C: Ledger, L: Ledger>(
         &self,
         alloc: Global,

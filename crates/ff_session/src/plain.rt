@@ -43,6 +43,8 @@ impl Taker for Plain<'_> {
 
     ghost is_at = { λ taker. IsPlainAt taker.policy.now };
 
+    ghost copies_none = { λ taker. ⊥ };
+
     fn take<C: Ledger, L: Ledger>(
         &self,
         alloc: Global,

@@ -48,6 +48,7 @@ pub fn walk<P: Port, C: Ledger, L: Ledger>(
     ensures precise { work ≡ Work.Multi → IsAnswered result → Claims Work.Multi policy.now (P.told port.old) (P.told port.new) (λ is put. IsPrecise (machine policy.now) (levels policy.now) is put) }
     ensures valid { IsAssignment policy.now }
     ensures later_copies { copies.old ≤ copies.new }
+    ensures uncopied { work ≡ Work.Format → copies.new ≡ copies.old }
 {
     let lattice = policy.lattice();
     match work {
