@@ -16,7 +16,7 @@ use Rattle.ff_value.specs.declared.input.Input.{Input}
 use Rattle.ff_value.specs.declared.output.Out.{Out}
 use Rattle.ff_value.specs.declared.output.Out.TheVariants.{Opened, Closed, Loaded, Updated, Error, Stopped, Send}
 use Rattle.ff_lattice.specs.Order.{Order, size, leq, join, two, IsOrder}
-use Rattle.ff_value.specs.declared.kind.TheConstants.{ALL}
+use Rattle.ff_policy.specs.declared.kinds.TheConstants.{KINDS}
 use Rattle.ff_policy.specs.declared.limits.TheConstants.{MOST_FUEL, USUAL_FUEL}
 
 -- the levels of a kind of input: from which level on it is known that there was one, and from which
@@ -165,7 +165,7 @@ is_ordered policy kind = leq policy.order (levels_of policy.kinds kind).presence
 
 -- the first kind whose presence isn't at or below its content
 abbrev pub first_unordered : Assignment → Option Kind
-first_unordered policy = find (λ kind. not (is_ordered policy kind)) ALL
+first_unordered policy = find (λ kind. not (is_ordered policy kind)) KINDS
 
 -- keys that rise in byte order, with levels below n
 pub record AreKeys (n : ℕ) (keys : List Key) : Type 0 where

@@ -10,8 +10,7 @@ use Rattle.ff_value.specs.Kinds.{word_of}
 use Rattle.ff_value.specs.declared.kind.Kind.{Kind}
 use Rattle.ff_policy.specs.declared.fault.PolicyFault.{PolicyFault}
 use Rattle.ff_policy.specs.declared.fault.PolicyFault.TheVariants.{BadVersion, UnknownField, BadShape}
-use Rattle.ff_policy.specs.declared.kinds.TheConstants.{USER_KINDS}
-use Rattle.ff_value.specs.declared.kind.TheConstants.{ALL}
+use Rattle.ff_policy.specs.declared.kinds.TheConstants.{KINDS, USER_KINDS}
 use Rattle.ff_policy.specs.declared.limits.TheConstants.{USUAL_FUEL}
 use Rattle.ff_policy.specs.declared.version.Version.{Version}
 use Rattle.ff_policy.specs.declared.version.Version.TheVariants.{One, Two}
@@ -54,7 +53,7 @@ member_names = codes "version" ∷ codes "levels" ∷ codes "below" ∷ codes "u
 -- and then replies too
 abbrev pub kinds_in : Version → List Kind
 kinds_in One = USER_KINDS
-kinds_in Two = ALL
+kinds_in Two = KINDS
 
 -- their words
 abbrev pub kind_names : Version → List (List ℕ)
@@ -172,7 +171,7 @@ other_side kinds kind = option_and_then (first_other side_names) (get (word_of k
 
 -- the first kind whose object has such a member
 abbrev pub odd_kind : Data → Option Kind
-odd_kind kinds = find (λ kind. is_some (other_side kinds kind)) ALL
+odd_kind kinds = find (λ kind. is_some (other_side kinds kind)) KINDS
 
 -- the kind's word, a dot, and that member
 abbrev pub side_place : Data → Kind → Option (List ℕ)

@@ -5,10 +5,10 @@ ghost use Rattle.ff_policy.specs.Reading.{IsKeyFault};
 use crate::PolicyFault;
 use crate::checks::check_keys;
 use crate::key::Key;
-use crate::kinds::Kinds;
+use crate::kinds::{KINDS, Kinds};
 use crate::limits::MOST_FUEL;
 use ff_lattice::Lattice;
-use ff_name::{Level, Worded};
+use ff_name::Level;
 use ff_value::Kind;
 use std::marker::Model;
 
@@ -52,10 +52,7 @@ impl Draft {
         requires { IsDraft self.now }
         ensures { result ≡ first_unordered self.now }
     {
-        Kind::all()
-            .iter()
-            .copied()
-            .find(|kind| !self.is_ordered(*kind))
+        KINDS.iter().copied().find(|kind| !self.is_ordered(*kind))
     }
 
     /// Whether the kind's presence is at or below its content.

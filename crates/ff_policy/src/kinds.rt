@@ -6,6 +6,17 @@ use ff_name::Level;
 use ff_value::Kind;
 use std::marker::Model;
 
+/// The kinds of input.
+pub(crate) const KINDS: [Kind; 7] = [
+    Kind::Open,
+    Kind::Go,
+    Kind::Link,
+    Kind::Close,
+    Kind::Type,
+    Kind::Click,
+    Kind::Reply,
+];
+
 /// The kinds of input that a user makes: all but replies.
 pub(crate) const USER_KINDS: [Kind; 6] = [
     Kind::Open,

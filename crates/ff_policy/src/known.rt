@@ -7,7 +7,7 @@ ghost use Rattle.ff_value.specs.Kinds.{word_of};
 ghost use Rattle.ff_policy.specs.Members as spec;
 ghost use Rattle.ff_policy.specs.Members.{is_among, keys_of, first_other, other_kind, other_side, odd_kind, side_place, first_side, unknown_side, unknown_field, member_names, side_names, kind_names, version_in, numbered, known};
 
-use crate::kinds::USER_KINDS;
+use crate::kinds::{KINDS, USER_KINDS};
 use crate::members::joined;
 use crate::version::Version;
 use crate::{NoMemory, PolicyFault};
@@ -119,7 +119,7 @@ fn side_place(alloc: Global, kinds: &Value, kind: Kind) -> Result<Option<Text>, 
 fn odd_kind(kinds: &Value) -> Option<Kind>
     ensures { result ≡ odd_kind (view kinds.now) }
 {
-    Kind::all()
+    KINDS
         .iter()
         .copied()
         .find(|kind| other_side(kinds, *kind).is_some())
@@ -236,7 +236,7 @@ fn is_kind(version: Version, name: &str) -> bool
 {
     match version {
         Version::One => has_word(&USER_KINDS, name),
-        Version::Two => has_word(Kind::all(), name),
+        Version::Two => has_word(&KINDS, name),
     }
 }
 
