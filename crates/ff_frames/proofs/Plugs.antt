@@ -67,12 +67,16 @@ module _ (x : Running) (h : is_value x ≡ false) where
   pub wrap_redex : (f : Frame) (a : ActId) → redex (wrap f a x) ≡ redex x
   wrap_redex (frame.Part e vs) a = around_redex (out-Expr e) vs
   wrap_redex (frame.Do es n) a = rw h
+  wrap_redex (frame.Loop e) a = rw h
+  wrap_redex frame.Last a = rw h
   wrap_redex (frame.Inside b) a = rw h
 
   -- it is rewritten in its frame
   pub wrap_rewritten : (g : Running → Running) (f : Frame) (a : ActId) → rewritten g (wrap f a x) ≡ wrap f a (rewritten g x)
   wrap_rewritten g (frame.Part e vs) a = around_rewritten g (out-Expr e) vs
   wrap_rewritten g (frame.Do es n) a = rw h
+  wrap_rewritten g (frame.Loop e) a = rw h
+  wrap_rewritten g frame.Last a = rw h
   wrap_rewritten g (frame.Inside b) a = rw h
 
 around_value : (e : Expr-F Doc Expr Handler) (vs : List Val) (x : Running) → is_value (around e vs x) ≡ false
@@ -84,12 +88,17 @@ around_value _ vs x = refl
 pub wrap_value : (f : Frame) (a : ActId) (x : Running) → is_value (wrap f a x) ≡ false
 wrap_value (frame.Part e vs) a x = around_value (out-Expr e) vs x
 wrap_value (frame.Do es n) a x = refl
+wrap_value (frame.Loop e) a x = refl
+wrap_value frame.Last a x = refl
 wrap_value (frame.Inside b) a x = refl
 
 around_innermost : (e : Expr-F Doc Expr Handler) (vs : List Val) (a : ActId) (x : Running) → innermost a (around e vs x) ≡ innermost a x
 around_innermost (Expr-F.Let n e) vs a x = refl
 around_innermost (Expr-F.Set n e) vs a x = refl
 around_innermost (Expr-F.If e f g) vs a x = refl
+around_innermost (Expr-F.While e f) vs a x = refl
+around_innermost (Expr-F.And e f) vs a x = refl
+around_innermost (Expr-F.Or e f) vs a x = refl
 around_innermost (Expr-F.Apply e es) [] a (Done v) = (sources_of es).innermost a
 around_innermost (Expr-F.Apply e es) [] a x = refl
 around_innermost (Expr-F.Apply e es) (v ∷ vs) a x = after_innermost a vs x (drop (suc (length vs)) es)
@@ -102,12 +111,20 @@ pub wrap_innermost : (f : Frame) (a : ActId) (x : Running) → innermost (outsid
 wrap_innermost (frame.Part e vs) a x = around_innermost (out-Expr e) vs a x
 wrap_innermost (frame.Do es n) a (Done v) = refl
 wrap_innermost (frame.Do es n) a x = refl
+wrap_innermost (frame.Loop e) a (Done v) = refl
+wrap_innermost (frame.Loop e) a x = refl
+wrap_innermost frame.Last a (Done v) = refl
+wrap_innermost frame.Last a x = refl
 wrap_innermost (frame.Inside b) a x = refl
 
 around_insides : (e : Expr-F Doc Expr Handler) (vs : List Val) (x : Running) → insides (around e vs x) ≡ insides x
 around_insides (Expr-F.Let n e) vs x = refl
 around_insides (Expr-F.Set n e) vs x = refl
 around_insides (Expr-F.If e f g) vs x = let p = (source f).insides in let q = (source g).insides in omega arith
+around_insides (Expr-F.While e f) vs x = let p = (source e).insides in let q = (source f).insides in omega arith
+around_insides (Expr-F.And e f) vs x = let p = (source f).insides in omega arith
+around_insides (Expr-F.Or e f) vs x = let p = (source f).insides in omega arith
+around_insides (Expr-F.Do es) vs x = let p = (sources_of (drop 1 es)).insides in omega arith
 around_insides (Expr-F.Apply e es) [] x = let p = (sources_of es).insides in omega arith
 around_insides (Expr-F.Apply e es) (v ∷ vs) x = let p = after_insides vs x (drop (suc (length vs)) es) in omega arith
 around_insides (Expr-F.Prim op es) vs x = after_insides vs x (drop (suc (length vs)) es)
@@ -117,6 +134,8 @@ around_insides _ vs x = omega arith
 pub wrap_insides : (f : Frame) (a : ActId) (x : Running) → insides (wrap f a x) ≡ is_call f + insides x
 wrap_insides (frame.Part e vs) a x = let p = around_insides (out-Expr e) vs x in omega arith
 wrap_insides (frame.Do es n) a x = let p = (sources_of (drop n es)).insides in omega arith
+wrap_insides (frame.Loop e) a x = let p = (source e).insides in omega arith
+wrap_insides frame.Last a x = omega arith
 wrap_insides (frame.Inside b) a x = refl
 
 after_around : (vs : List Val) (x : Running) (es : List Expr) → calls_around_among (after vs x (wholes es)) ≡ calls_around x
@@ -128,6 +147,9 @@ around_around : (e : Expr-F Doc Expr Handler) (vs : List Val) (x : Running) → 
 around_around (Expr-F.Let n e) vs x = refl
 around_around (Expr-F.Set n e) vs x = refl
 around_around (Expr-F.If e f g) vs x = refl
+around_around (Expr-F.While e f) vs x = refl
+around_around (Expr-F.And e f) vs x = refl
+around_around (Expr-F.Or e f) vs x = refl
 around_around (Expr-F.Apply e es) [] (Done v) = wholes-around es
 around_around (Expr-F.Apply e es) [] x = refl
 around_around (Expr-F.Apply e es) (v ∷ vs) x = after_around vs x (drop (suc (length vs)) es)
@@ -139,6 +161,10 @@ wrap_around : (f : Frame) (a : ActId) (x : Running) → calls_around (wrap f a x
 wrap_around (frame.Part e vs) a x = let p = around_around (out-Expr e) vs x in omega arith
 wrap_around (frame.Do es n) a (Done v) = refl
 wrap_around (frame.Do es n) a x = omega arith
+wrap_around (frame.Loop e) a (Done v) = refl
+wrap_around (frame.Loop e) a x = omega arith
+wrap_around frame.Last a (Done v) = refl
+wrap_around frame.Last a x = omega arith
 wrap_around (frame.Inside b) a x = refl
 
 -- ---- all frames around x

@@ -1,14 +1,18 @@
 -- A stack with its redex rewritten.
-use Rattle.std.proofs.Common.{◌≡◌, ◌≤◌, ◌<◌, ◌+◌, ◌++◌, ◌∷◌, List, [], Result, Ok, Err, OnOk, false, refl, sym, ap, ◌∙◌, arith}
+use Rattle.std.proofs.Common.{◌≡◌, ◌≤◌, ◌<◌, ◌+◌, ◌++◌, ◌∷◌, List, [], Option, Result, Ok, Err, OnOk, false, refl, sym, ap, ◌∙◌, arith}
 use Rattle.ff_tree.specs.declared.tree.Expr.{Expr, out-Expr}
 use Rattle.ff_tree.specs.declared.tree.Doc.{Doc}
 use Rattle.ff_tree.specs.declared.tree.Handler.{Handler}
 use Rattle.ff_tree.specs.declared.tree.Doc.TheOpen.{Expr-F}
-use Rattle.ff_frames.specs.Rewrites.{IsIf, IsIfFrame}
+use Rattle.ff_frames.specs.Rewrites.{IsDo, IsIf, IsCallFrame, IsLocalOut, IsPut, IsRedex, IsTested, taken, within}
+use Rattle.ff_frames.specs.declared.frame.Taken.{Taken}
+use Rattle.ff_frames.specs.declared.frame.Taken.TheVariants as taken_out
 use Rattle.ff_value.specs.declared.ids.ActId.{ActId}
+use Rattle.ff_value.specs.declared.value.Code.{Code}
 use Rattle.ff_value.specs.declared.value.Val.{Val}
+use Rattle.ff_value.specs.declared.value.Val.TheVariants as val
 use Rattle.ff_term.specs.declared.TheConstants.{MOST_CALLS}
-use Rattle.ff_term.specs.Running.{Running, Done, Inside, Evaluation, insides, innermost, is_value, redex, rewritten_in}
+use Rattle.ff_term.specs.Running.{Running, Apply, Done, Inside, none, more, Evaluation, insides, innermost, is_value, redex, rewritten_in}
 use Rattle.ff_term.specs.Whole.{whole, layer}
 use Rattle.ff_term.specs.Rows.{IsLocal, IsTest}
 use Rattle.ff_term.proofs.Forms.{whole-layer}
@@ -18,8 +22,8 @@ use Rattle.ff_frames.specs.declared.frame.Focus.{Focus}
 use Rattle.ff_frames.specs.declared.frame.Focus.TheVariants as focus
 use Rattle.ff_frames.specs.declared.stack.Stack.{Stack}
 use Rattle.ff_frames.specs.Frames.{around, wrap, outside, base_of, plug, shown, is_call, calls}
-use Rattle.ff_frames.specs.Seeking.{IsFull, IsRow, IsTopFull, IsSettled}
-use Rattle.ff_frames.specs.Stacks.{with_part, evaluation, out_of, IsCounted, IsValid, IsReady, IsWithoutRedex}
+use Rattle.ff_frames.specs.Seeking.{IsFull, IsRow, IsTopFull}
+use Rattle.ff_frames.specs.Stacks.{with_part, evaluation, out_of, IsCounted, IsValid, IsWithoutRedex}
 use Rattle.ff_frames.proofs.Plugs.{plug_value, base-snoc, plug-snoc, calls-snoc, plug_insides, plug_innermost, plug_around}
 use Rattle.ff_term.specs.Calls.{calls_around}
 use Rattle.ff_term.proofs.Calls.{whole-around}
@@ -37,11 +41,11 @@ full-of : (s : Stack) (v : Val) → s.focus ≡ focus.Value v → IsValid s → 
 full-of s v h valid = rw h at valid.at
 
 -- a form that is the redex is taken out as it stands
-pub form-gone : (s : Stack) (e : Expr) → s.focus ≡ focus.Part e → IsValid s → IsWithoutRedex s s
-form-gone s e h v = record {
-  rewrites = λ x. rw h (both _ _ _ _ refl (sym (form-rewritten (λ _. x) s.frames.items s.act e (row-of s e h v))));
-  counted = v.counted;
-  no_deeper = omega arith;
+pub form-gone : (s t : Stack) (e : Expr) → s.focus ≡ focus.Part e → t.frames ≡ s.frames → t.act ≡ s.act → t.depth ≡ s.depth → IsValid s → IsWithoutRedex s t
+form-gone s t e h frames act depth v = record {
+  rewrites = λ x. rw (h, frames, act) (both _ _ _ _ refl (sym (form-rewritten (λ _. x) s.frames.items s.act e (row-of s e h v))));
+  counted = record { depth = rw (frames, depth) v.counted.depth; small = rw depth v.counted.small };
+  no_deeper = rw depth (omega arith);
 }
 
 -- a call that is left was counted
@@ -102,53 +106,63 @@ active s = sym (plug_innermost s.frames.items s.act (shown s.focus) ∙ shown-in
 -- ---- a frame around what is put for the redex
 
 -- what is put stands in a frame more
-pub pushed : (s t u : Stack) (f : Frame) (x : Running) → IsWithoutRedex s t → u.frames.items ≡ t.frames.items ++ f ∷ [] → outside f u.act ≡ t.act
-    → with_part u x ≡ rewritten_in (λ _. wrap f u.act x) (evaluation s)
-pushed s t u f x o is act =
+pub pushed : (t u : Stack) (f : Frame) (x : Running) → u.frames.items ≡ t.frames.items ++ f ∷ [] → outside f u.act ≡ t.act
+    → with_part u x ≡ with_part t (wrap f u.act x)
+pushed t u f x is act =
     both _ _ _ _
     (rw is (base-snoc t.frames.items f u.act) ∙ ap (base_of t.frames.items) act)
     (rw is (plug-snoc t.frames.items f u.act x) ∙ ap (λ a. plug t.frames.items a (wrap f u.act x)) act)
-    ∙ o.rewrites (wrap f u.act x)
 
 -- whose call is counted
 pub pushed-calls : (t u : Stack) (f : Frame) → IsCounted t → u.frames.items ≡ t.frames.items ++ f ∷ [] → calls u.frames.items ≡ t.depth + is_call f
 pushed-calls t u f c is = let p = calls-snoc t.frames.items f in let q = c.depth in rw is (omega arith)
 
 outside-none : (f : Frame) (a : ActId) → is_call f ≡ 0 → outside f a ≡ a
-outside-none (frame.Part e vs) a h = refl
-outside-none (frame.Do es n) a h = refl
 outside-none (frame.Inside b) a h = absurd (omega arith)
+outside-none _ a h = refl
 
 wrap-none : (f : Frame) (a b : ActId) (x : Running) → is_call f ≡ 0 → wrap f a x ≡ wrap f b x
+wrap-none (frame.Inside c) a b x h = absurd (omega arith)
 wrap-none (frame.Part e vs) a b x h = refl
 wrap-none (frame.Do es n) a b x h = refl
-wrap-none (frame.Inside c) a b x h = absurd (omega arith)
+wrap-none (frame.Loop e) a b x h = refl
+wrap-none frame.Last a b x h = refl
 
 -- a frame that is no call
-pub framed-ready : (t u : Stack) (f : Frame) → is_call f ≡ 0 → IsCounted t → u.frames.items ≡ t.frames.items ++ f ∷ [] → u.depth ≡ t.depth
-    → IsSettled u.focus → IsReady u
-framed-ready t u f none c is depth settled =
-    let p = pushed-calls t u f c is in let q = c.small in
-    record { settled = settled; counted = record { depth = omega arith; small = omega arith } }
+pub framed-counted : (t u : Stack) (f : Frame) → is_call f ≡ 0 → IsCounted t → u.frames.items ≡ t.frames.items ++ f ∷ [] → u.depth ≡ t.depth → IsCounted u
+framed-counted t u f p c is depth =
+    let q = pushed-calls t u f c is in let r = c.small in record { depth = omega arith; small = omega arith }
 
 -- what is put, in a frame that is no call
-pub framed : (s t u v : Stack) (f : Frame) (x : Running) (a : ActId) → is_call f ≡ 0 → IsWithoutRedex s t → u.frames.items ≡ t.frames.items ++ f ∷ []
-    → u.act ≡ t.act → x ≡ shown u.focus → evaluation v ≡ evaluation u → evaluation v ≡ rewritten_in (λ _. wrap f a x) (evaluation s)
-framed s t u v f x a none o is act same e =
-    e ∙ ap (with_part u) (sym same) ∙ pushed s t u f x o is (outside-none f u.act none ∙ act)
-    ∙ ap (λ y. rewritten_in (λ _. y) (evaluation s)) (wrap-none f u.act a x none)
+pub framed : (t u v : Stack) (f : Frame) (x : Running) (a : ActId) → is_call f ≡ 0 → u.frames.items ≡ t.frames.items ++ f ∷ []
+    → u.act ≡ t.act → evaluation v ≡ with_part u x → evaluation v ≡ with_part t (wrap f a x)
+framed t u v f x a p is act e =
+    e ∙ pushed t u f x is (outside-none f u.act p ∙ act) ∙ ap (with_part t) (wrap-none f u.act a x p)
 
 -- a call
-pub called-ready : (s t u : Stack) (b : ActId) → IsValid s → IsWithoutRedex s t → insides (evaluation s).expr < MOST_CALLS
-    → u.frames.items ≡ t.frames.items ++ frame.Inside b ∷ [] → u.depth ≡ t.depth + 1 → IsSettled u.focus → IsReady u
-called-ready s t u b v o less is depth settled =
+pub called-counted : (s t u : Stack) (b : ActId) → IsValid s → IsWithoutRedex s t → insides (evaluation s).expr < MOST_CALLS
+    → u.frames.items ≡ t.frames.items ++ frame.Inside b ∷ [] → u.depth ≡ t.depth + 1 → IsCounted u
+called-counted s t u b v o less is depth =
     let p = pushed-calls t u (frame.Inside b) o.counted is in let q = o.no_deeper in let r = deep s v in
-    record { settled = settled; counted = record { depth = omega arith; small = omega arith } }
+    record { depth = omega arith; small = omega arith }
 
 -- what is put, in a call
-pub called : (s t u v : Stack) (x : Running) → IsWithoutRedex s t → u.frames.items ≡ t.frames.items ++ frame.Inside t.act ∷ []
-    → shown u.focus ≡ x → evaluation v ≡ evaluation u → evaluation v ≡ rewritten_in (λ _. Inside u.act x) (evaluation s)
-called s t u v x o is same e = e ∙ ap (with_part u) same ∙ pushed s t u (frame.Inside t.act) x o is refl
+pub called : (s t u v : Stack) (x y : Running) → IsWithoutRedex s t → u.frames.items ≡ t.frames.items ++ frame.Inside t.act ∷ []
+    → x ≡ y → evaluation v ≡ with_part u x → evaluation v ≡ rewritten_in (λ _. Inside u.act y) (evaluation s)
+called s t u v x y o is same e = e ∙ ap (with_part u) same ∙ pushed t u (frame.Inside t.act) y is refl ∙ o.rewrites (Inside u.act y)
+
+-- a call with its one argument
+pub one-call : (s t : Stack) (f : Frame) (code : Code) (v : Val) → IsCallFrame code f → t.frames.items ≡ []
+    → ((a : ActId) → evaluation s ≡ with_part t (wrap f a (Done v)))
+    → evaluation s ≡ record { base = t.act; expr = Apply (Done (val.Code code)) (more (Done v) none) }
+one-call s t f code v call empty e = e t.act ∙ rw empty (both _ _ _ _ refl (call.expr t.act (Done v)))
+
+-- what is put for the redex that was taken out
+pub rewrote : (g : Running → Running) (s t u : Stack) (r : Taken) (p : Option Frame × Focus) → IsWithoutRedex s t → redex (evaluation s).expr ≡ taken r s.act
+    → IsPut (λ a. g (taken r a)) p → ((a : ActId) → evaluation u ≡ with_part t (within p.0 a (shown p.1)))
+    → evaluation u ≡ rewritten_in (λ _. g (redex (evaluation s).expr)) (evaluation s)
+rewrote g s t u r p o is put e =
+    e s.act ∙ ap (with_part t) (put.same s.act) ∙ o.rewrites (g (taken r s.act)) ∙ ap (λ y. rewritten_in (λ _. g y) (evaluation s)) (sym is)
 
 -- ---- the redex read off the stack
 
@@ -162,33 +176,39 @@ full-frame s rest f v h was valid = frame-full s.frames.items rest f was (full-o
 
 test-if : (l : Expr-F Doc Expr Handler) (vs : List Val) (v : Val) → IsTest (around l vs (Done v)) → IsIf l
 test-if (Expr-F.If e f g) vs v h = tt
+test-if (Expr-F.While e f) vs v h = tt
+test-if (Expr-F.And e f) vs v h = tt
+test-if (Expr-F.Or e f) vs v h = tt
 test-if (Expr-F.Apply e es) [] v h = absurd h
 test-if (Expr-F.Apply e es) (w ∷ vs) v h = absurd h
 test-if _ vs v h = absurd h
-
--- a test stands in an `if`
-pub test-frame : (f : Frame) (a : ActId) (v : Val) → IsTest (wrap f a (Done v)) → IsIfFrame f
-test-frame (frame.Part e vs) a v h = test-if (out-Expr e) vs v h
-test-frame (frame.Do es n) a v h = absurd h
-test-frame (frame.Inside b) a v h = absurd h
 
 row-test : (l : Expr-F Doc Expr Handler) → IsRow l → IsTest (layer l) → ⊥
 row-test (Expr-F.If e f g) r h = r
 row-test _ r h = h
 
--- a form at hand is no test
-pub no-test : (s : Stack) (e : Expr) → s.focus ≡ focus.Part e → IsValid s → IsTest (redex (evaluation s).expr) → ⊥
-no-test s e h v t = row-test (out-Expr e) (row-of s e h v) (rw (form-layer s e e h refl v) at t)
+-- a test stands in an `if`
+pub tested : (r : Taken) (a : ActId) → IsRedex r → IsTest (taken r a) → IsTested r
+tested (taken_out.Form e) a row h = row-test (out-Expr e) row h
+tested (taken_out.Full (frame.Part e vs) v) a row h = test-if (out-Expr e) vs v h
+tested (taken_out.Full _ v) a row h = absurd h
 
-local-any : (f : Frame) (a b : ActId) (x : Running) → IsLocal (wrap f a x) → IsLocal (wrap f b x)
-local-any (frame.Part e vs) a b x h = h
-local-any (frame.Do es n) a b x h = h
-local-any (frame.Inside c) a b x h = tt
+-- a form around a value that is no store's is a `do`
+local-do : (l : Expr-F Doc Expr Handler) (vs : List Val) (v : Val) → IsLocal (around l vs (Done v)) → IsDo l
+local-do (Expr-F.Apply e es) [] v h = absurd h
+local-do (Expr-F.Apply e es) (w ∷ vs) v h = absurd h
+local-do (Expr-F.Lit l) vs v h = tt
+local-do (Expr-F.Var x) vs v h = tt
+local-do (Expr-F.Do es) vs v h = tt
+local-do (Expr-F.Make xs e) vs v h = tt
+local-do (Expr-F.Tree d) vs v h = tt
+local-do _ vs v h = absurd h
 
--- whether a redex is local does not depend on the activation
-pub local-frame : (s : Stack) (rest : List Frame) (f : Frame) (v : Val) → s.focus ≡ focus.Value v → s.frames.items ≡ rest ++ f ∷ [] → IsValid s
-    → IsLocal (redex (evaluation s).expr) → (a : ActId) → IsLocal (wrap f a (Done v))
-local-frame s rest f v h was valid l a = local-any f s.act a (Done v) (rw (frame-is s rest f v h was valid) at l)
+-- the same of a redex
+pub local-out : (r : Taken) (a : ActId) → IsLocal (taken r a) → IsLocalOut r
+local-out (taken_out.Form e) a h = h
+local-out (taken_out.Full (frame.Part e vs) v) a h = local-do (out-Expr e) vs v h
+local-out (taken_out.Full _ v) a h = tt
 
 -- a form at hand is no value
 pub value-form : (s : Stack) (e : Expr) → s.focus ≡ focus.Part e → IsValid s → is_value (evaluation s).expr ≡ false

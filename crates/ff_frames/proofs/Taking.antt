@@ -83,11 +83,15 @@ around-redex _ vs v h = refl
 wrap-rewritten : (g : Running → Running) (f : Frame) (a : ActId) (v : Val) → IsFull f → rewritten g (wrap f a (Done v)) ≡ g (wrap f a (Done v))
 wrap-rewritten g (frame.Part e vs) a v h = around-rewritten g (out-Expr e) vs v h
 wrap-rewritten g (frame.Do es n) a v h = refl
+wrap-rewritten g (frame.Loop e) a v h = refl
+wrap-rewritten g frame.Last a v h = refl
 wrap-rewritten g (frame.Inside b) a v h = refl
 
 wrap-redex : (f : Frame) (a : ActId) (v : Val) → IsFull f → redex (wrap f a (Done v)) ≡ wrap f a (Done v)
 wrap-redex (frame.Part e vs) a v h = around-redex (out-Expr e) vs v h
 wrap-redex (frame.Do es n) a v h = refl
+wrap-redex (frame.Loop e) a v h = refl
+wrap-redex frame.Last a v h = refl
 wrap-redex (frame.Inside b) a v h = refl
 
 module _ (fs rest : List Frame) (f : Frame) (was : fs ≡ rest ++ f ∷ []) where

@@ -1,14 +1,17 @@
 -- The walk to the redex, step by step.
-use Rattle.std.proofs.Common.{◌≡◌, ◌+◌, ◌<◌, ◌++◌, ◌∷◌, List, [], refl, ap, ◌∙◌, arith}
+use Rattle.std.proofs.Common.{◌≡◌, ◌+◌, ◌<◌, ◌++◌, ◌∷◌, List, [], refl, sym, ap, ◌∙◌, arith}
 use Rattle.ff_tree.specs.declared.tree.Expr.{Expr, out-Expr}
 use Rattle.ff_value.specs.declared.value.Val.{Val}
 use Rattle.ff_term.specs.Running.{Running, Done}
 use Rattle.ff_term.specs.Whole.{whole}
 use Rattle.ff_frames.specs.declared.frame.Frame.{Frame}
 use Rattle.ff_frames.specs.declared.frame.Focus.{Focus}
+use Rattle.ff_frames.specs.declared.frame.Focus.TheVariants as focus
+use Rattle.ff_frames.specs.declared.frame.Step.{Step}
+use Rattle.ff_frames.specs.declared.frame.Step.TheVariants as step
 use Rattle.ff_frames.specs.Frames.{outside, base_of, plug, shown}
 use Rattle.ff_frames.specs.Loads.{inner, load, frame_load, loads}
-use Rattle.ff_frames.specs.Seeking.{Alike, Opens, Feeds, IsFull, IsTopFull}
+use Rattle.ff_frames.specs.Seeking.{Alike, Opens, Feeds, IsFull, IsTopFull, IsFeeding, IsNearer, IsStep}
 use Rattle.ff_frames.proofs.Plugs.{base-snoc, plug-snoc, calls-snoc, full-snoc}
 
 loads-snoc : (fs : List Frame) (f : Frame) → loads (fs ++ f ∷ []) ≡ loads fs + frame_load f
@@ -18,11 +21,6 @@ loads-snoc (g ∷ fs) f = let p = loads-snoc fs f in omega arith
 -- a stack stands for what it does
 pub alike : (fs : List Frame) (x : Running) → Alike fs x fs x
 alike fs x = record { base = λ a. refl; expr = λ a. refl; calls = refl }
-
--- one step after another
-pub alike-then : (fs : List Frame) (x : Running) (gs : List Frame) (y : Running) (hs : List Frame) (z : Running)
-    → Alike fs x gs y → Alike gs y hs z → Alike fs x hs z
-alike-then fs x gs y hs z p q = record { base = λ a. q.base a ∙ p.base a; expr = λ a. q.expr a ∙ p.expr a; calls = q.calls ∙ p.calls }
 
 -- an operand is entered
 pub alike-opened : (fs gs : List Frame) (f : Frame) (e : Expr) (x : Focus) → gs ≡ fs ++ f ∷ [] → Opens e f x → Alike fs (whole e) gs (shown x)
@@ -51,3 +49,16 @@ module _ (fs gs rest : List Frame) (f g : Frame) (v : Val) (x : Focus) (was : fs
 -- the innermost frame is the last
 pub full-last : (gs rest : List Frame) (g : Frame) → gs ≡ rest ++ g ∷ [] → IsFull g → IsTopFull gs
 full-last gs rest g is h = rw (is, full-snoc rest g) h
+
+-- a step that enters the first operand
+pub step-opened : (fs gs : List Frame) (f : Frame) (e : Expr) (x : Focus) → gs ≡ fs ++ f ∷ [] → Opens e f x → IsNearer fs (focus.Part e) gs x
+step-opened fs gs f e x g o = record { alike = alike-opened fs gs f e x g o; settled = o.settled; less = less-opened fs gs f e x g o }
+
+-- what is done with the value at hand, of the innermost frame
+pub step-fed : (fs gs rest : List Frame) (f g : Frame) (v : Val) (s : Step) → fs ≡ rest ++ f ∷ [] → gs ≡ rest ++ g ∷ []
+    → IsFeeding f v g s → IsStep fs (focus.Value v) gs s
+step-fed fs gs rest f g v (step.On x) was is o =
+    record { alike = alike-fed fs gs rest f g v x was is o; settled = o.settled; less = less-fed fs gs rest f g v x was is o }
+step-fed fs gs rest f g v (step.There x) was is o =
+    let p : gs ≡ fs = is ∙ ap (λ h. rest ++ h ∷ []) o.0 ∙ sym was in
+    rw (o.1, p) (record { alike = alike fs (Done v); at = full-last fs rest f was o.2 })

@@ -1,32 +1,92 @@
 -- What is put for a redex.
-use Rattle.std.specs.Prelude.{◌≡◌, ℕ, List, drop, Option, Some, None}
+use Rattle.std.specs.Prelude.{◌≡◌, ◌+◌, ℕ, List, drop, Option, Some, None}
 use Rattle.ff_tree.specs.declared.tree.Doc.{Doc}
 use Rattle.ff_tree.specs.declared.tree.Expr.{Expr, out-Expr}
 use Rattle.ff_tree.specs.declared.tree.Handler.{Handler}
 use Rattle.ff_tree.specs.declared.tree.Doc.TheOpen.{Expr-F}
 use Rattle.ff_frames.specs.declared.frame.Frame.{Frame}
 use Rattle.ff_frames.specs.declared.frame.Frame.TheVariants as frame
+use Rattle.ff_frames.specs.declared.frame.Focus.{Focus}
+use Rattle.ff_frames.specs.declared.frame.Taken.{Taken}
+use Rattle.ff_frames.specs.declared.frame.Taken.TheVariants as taken_out
 use Rattle.ff_value.specs.declared.ids.ActId.{ActId}
 use Rattle.ff_value.specs.declared.value.Code.{Code}
 use Rattle.ff_value.specs.declared.value.Val.TheVariants as val
 use Rattle.ff_term.specs.Running.{Running, Apply, Do, Done, none, more}
-use Rattle.ff_frames.specs.Frames.{wrap, outside, is_call}
-use Rattle.ff_term.specs.Whole.{wholes}
+use Rattle.ff_frames.specs.Frames.{wrap, outside, is_call, shown}
+use Rattle.ff_frames.specs.Seeking.{IsRow, IsSettled}
+use Rattle.ff_term.specs.Rows.{IsLocal}
+use Rattle.ff_term.specs.Whole.{layer, wholes}
 
--- x as the first part of a `do`, with the parts from a place on after it
-abbrev pub in_do : Option (List Expr × ℕ) → Running → Running
-in_do None x = x
-in_do (Some p) x = Do (more x (wholes (drop p.1 p.0)))
+-- the redex that was taken out of an activation
+abbrev pub taken : Taken → ActId → Running
+taken (taken_out.Form e) a = layer (out-Expr e)
+taken (taken_out.Full f v) a = wrap f a (Done v)
 
--- an `if`
+-- a form is a redex as it stands
+abbrev pub IsRedex : Taken → Type 0
+IsRedex (taken_out.Form e) = IsRow (out-Expr e)
+IsRedex (taken_out.Full f v) = Unit {0}
+
+-- x with the frame around it, if there is one
+abbrev pub within : Option Frame → ActId → Running → Running
+within None a x = x
+within (Some f) a x = wrap f a x
+
+-- if there is one, it is no call
+abbrev pub IsNoCall : Option Frame → Type 0
+IsNoCall None = Unit {0}
+IsNoCall (Some f) = is_call f ≡ 0
+
+-- a part at hand, perhaps with a frame around it, that stands for t
+pub record IsPut (t : ActId → Running) (p : Option Frame × Focus) : Type 0 where
+  pub same : (a : ActId) → within p.0 a (shown p.1) ≡ t a
+  pub settled : IsSettled p.1
+  pub no_call : IsNoCall p.0
+
+-- the parts of a `do` after a place stand after the part at hand
+pub record IsRest (es : List Expr) (n : ℕ) (f : Frame) : Type 0 where
+  pub same : (a : ActId) (x : Running) → wrap f a x ≡ Do (more x (wholes (drop (n + 1) es)))
+  pub no_call : is_call f ≡ 0
+
+-- the test that is evaluated before a branch is taken, of a form that becomes an `if`
+abbrev pub test_of : Expr-F Doc Expr Handler → Option Expr
+test_of (Expr-F.While e f) = Some e
+test_of (Expr-F.And e f) = Some e
+test_of (Expr-F.Or e f) = Some e
+test_of _ = None
+
+-- an `if`, or a form that becomes one
 abbrev pub IsIf : Expr-F Doc Expr Handler → Type 0
 IsIf (Expr-F.If e f g) = Unit {0}
+IsIf (Expr-F.While e f) = Unit {0}
+IsIf (Expr-F.And e f) = Unit {0}
+IsIf (Expr-F.Or e f) = Unit {0}
 IsIf _ = ⊥
 
--- around the test of an `if`
-abbrev pub IsIfFrame : Frame → Type 0
-IsIfFrame (frame.Part e vs) = IsIf (out-Expr e)
-IsIfFrame _ = ⊥
+-- a value in its place around a test
+abbrev pub IsTested : Taken → Type 0
+IsTested (taken_out.Full (frame.Part e vs) v) = IsIf (out-Expr e)
+IsTested _ = ⊥
+
+-- a form that stands for a `do` around the part at hand
+abbrev pub IsDo : Expr-F Doc Expr Handler → Type 0
+IsDo (Expr-F.Lit l) = Unit {0}
+IsDo (Expr-F.Var x) = Unit {0}
+IsDo (Expr-F.Do es) = Unit {0}
+IsDo (Expr-F.Make xs e) = Unit {0}
+IsDo (Expr-F.Tree d) = Unit {0}
+IsDo _ = ⊥
+
+-- a frame whose form has no other operand, and which goes once the part at hand is a value
+abbrev pub IsEnding : Frame → Type 0
+IsEnding (frame.Part e vs) = IsDo (out-Expr e)
+IsEnding _ = Unit {0}
+
+-- a redex that no store decides
+abbrev pub IsLocalOut : Taken → Type 0
+IsLocalOut (taken_out.Form e) = IsLocal (layer (out-Expr e))
+IsLocalOut (taken_out.Full f v) = IsEnding f
 
 -- around the one argument of a function
 pub record IsCallFrame (code : Code) (f : Frame) : Type 0 where

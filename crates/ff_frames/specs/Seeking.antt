@@ -3,19 +3,20 @@ use Rattle.std.specs.Prelude.{◌≡◌, ◌+◌, ◌<◌, List, [], ◌∷◌, 
 use Rattle.std.proofs.Common.{suc}
 use Rattle.ff_tree.specs.declared.tree.Doc.{Doc}
 use Rattle.ff_tree.specs.declared.tree.Expr.{Expr, out-Expr}
-use Rattle.ff_tree.specs.declared.tree.Expr.TheVariants as expr
 use Rattle.ff_tree.specs.declared.tree.Handler.{Handler}
 use Rattle.ff_tree.specs.declared.tree.Doc.TheOpen.{Expr-F}
 use Rattle.ff_value.specs.declared.ids.ActId.{ActId}
 use Rattle.ff_term.specs.Running.{Running, Done}
 use Rattle.ff_frames.specs.Frames.{operands, plug, base_of, calls, shown, wrap, outside, is_call}
-use Rattle.ff_frames.specs.Loads.{frame_load, load, inner}
+use Rattle.ff_frames.specs.Loads.{frame_load, load, loads, inner}
 use Rattle.ff_term.specs.Whole.{whole}
 use Rattle.ff_value.specs.declared.value.Val.{Val}
 use Rattle.ff_frames.specs.declared.frame.Frame.{Frame}
 use Rattle.ff_frames.specs.declared.frame.Frame.TheVariants as frame
 use Rattle.ff_frames.specs.declared.frame.Focus.{Focus}
 use Rattle.ff_frames.specs.declared.frame.Focus.TheVariants as focus
+use Rattle.ff_frames.specs.declared.frame.Step.{Step}
+use Rattle.ff_frames.specs.declared.frame.Step.TheVariants as step
 
 -- no part
 abbrev pub IsEmpty : List Expr → Type 0
@@ -74,6 +75,18 @@ pub record Alike (fs : List Frame) (x : Running) (gs : List Frame) (y : Running)
   pub expr : (a : ActId) → plug gs a y ≡ plug fs a x
   pub calls : calls gs ≡ calls fs
 
+-- the expression is the part at hand
+pub record Shows (e : Expr) (x : Focus) : Type 0 where
+  pub same : shown x ≡ whole e
+  pub settled : IsSettled x
+  pub load : load x ≡ inner (out-Expr e)
+
+-- the same where there may be none
+abbrev pub AreShown : Option Expr → Option Focus → Type 0
+AreShown None None = Unit {0}
+AreShown (Some e) (Some x) = Shows e x
+AreShown _ _ = ⊥
+
 -- the first part of an expression that is evaluated, with the frame that it leaves around it
 pub record Opens (e : Expr) (f : Frame) (x : Focus) : Type 0 where
   pub expr : (a : ActId) → wrap f a (shown x) ≡ whole e
@@ -90,17 +103,23 @@ pub record Feeds (f : Frame) (v : Val) (g : Frame) (x : Focus) : Type 0 where
   pub settled : IsSettled x
   pub less : frame_load g + load x < frame_load f
 
--- the answer for an expression: what is evaluated first, or none where it is a redex
-abbrev pub IsOpening : Expr → Option (Frame × Focus) → Type 0
-IsOpening e None = IsRow (out-Expr e)
-IsOpening e (Some p) = Opens e p.0 p.1
+-- the answer for a value: the next operand, or the value again where the frame has all
+abbrev pub IsFeeding : Frame → Val → Frame → Step → Type 0
+IsFeeding f v g (step.There x) = (g ≡ f) × (x ≡ focus.Value v) × IsFull f
+IsFeeding f v g (step.On x) = Feeds f v g x
 
--- the same for the parts of a `do`
-abbrev pub IsOpeningDo : List Expr → Option (Frame × Focus) → Type 0
-IsOpeningDo es None = IsEmpty es
-IsOpeningDo es (Some p) = Opens (expr.Do es) p.0 p.1
+-- a step towards the redex
+pub record IsNearer (fs : List Frame) (x : Focus) (gs : List Frame) (y : Focus) : Type 0 where
+  pub alike : Alike fs (shown x) gs (shown y)
+  pub settled : IsSettled y
+  pub less : loads gs + load y < loads fs + load x
 
--- the answer for a value: the next operand, or none where the frame has all
-abbrev pub IsFeeding : Frame → Val → Frame → Option Focus → Type 0
-IsFeeding f v g None = (g ≡ f) × IsFull f
-IsFeeding f v g (Some x) = Feeds f v g x
+-- the redex is reached
+pub record IsThere (fs : List Frame) (x : Running) (gs : List Frame) (y : Focus) : Type 0 where
+  pub alike : Alike fs x gs (shown y)
+  pub at : IsAtRedex gs y
+
+-- a step, or none where the redex is reached
+abbrev pub IsStep : List Frame → Focus → List Frame → Step → Type 0
+IsStep fs x gs (step.There y) = IsThere fs (shown x) gs y
+IsStep fs x gs (step.On y) = IsNearer fs x gs y

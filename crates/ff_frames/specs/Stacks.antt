@@ -4,7 +4,7 @@ use Rattle.ff_term.specs.declared.TheConstants.{MOST_CALLS}
 use Rattle.ff_term.specs.Running.{Running, Evaluation, rewritten_in}
 use Rattle.ff_frames.specs.declared.frame.Frame.{Frame}
 use Rattle.ff_frames.specs.Frames.{plug, base_of, calls, shown, outside, is_call}
-use Rattle.ff_frames.specs.Seeking.{IsAtRedex, IsSettled}
+use Rattle.ff_frames.specs.Seeking.{IsAtRedex}
 use Rattle.ff_frames.specs.declared.stack.Stack.{Stack}
 
 -- the evaluation with x at the part at hand
@@ -27,11 +27,6 @@ pub record IsCounted (s : Stack) : Type 0 where
 -- a stack whose part at hand is or completes the redex
 pub record IsValid (s : Stack) : Type 0 where
   pub at : IsAtRedex s.frames.items s.focus
-  pub counted : IsCounted s
-
--- a stack in which only the walk to the redex is to be made
-pub record IsReady (s : Stack) : Type 0 where
-  pub settled : IsSettled s.focus
   pub counted : IsCounted s
 
 -- the redex is taken out of s: whatever is put there stands in its place

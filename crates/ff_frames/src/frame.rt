@@ -1,81 +1,45 @@
-ghost use Rattle.std.specs.Prelude.{◌≡◌, ◌∷◌, [], IfOk, slice_get};
-ghost use Rattle.ff_tree.specs.declared.tree.Expr.{out-Expr};
-ghost use Rattle.ff_term.specs.Whole.{whole, literal as the_literal};
-ghost use Rattle.ff_frames.specs.Frames.{operands, shown};
-ghost use Rattle.ff_frames.specs.Seeking.{IsSettled};
+ghost use Rattle.std.specs.Prelude.{◌≡◌, IfOk};
 
 use crate::source::Source;
 use ff_term::Operands;
-use ff_tree::{Body, Expr, Exprs, Lit};
+use ff_tree::Exprs;
 use ff_value::{ActId, NoMemory, Val};
 
 /// What stands around the part at hand.
 #[derive(Drop)]
 pub enum Frame {
-    /// A form with the values of its first operands.
+    /// A form with the values of its first operands. A `while`, `and` or `or` stands for the `if`
+    /// that it becomes, with the part at hand for its test.
     Part(Source, Operands),
     /// A `do`: its parts, and the place of the next.
     Do(Exprs, usize),
+    /// A turn of a loop: a `do` of the part at hand and of the loop.
+    Loop(Source),
+    /// A `do` of the part at hand alone.
+    Last,
     /// A call, and the activation outside of it.
     Inside(ActId),
 }
 
 /// The part at hand.
+#[derive(Drop)]
 pub enum Focus {
     Value(Val),
     Part(Source),
 }
 
-// Written out, so that the proof of a caller sees one call and not a case for each variant.
-impl Drop for Focus {
-    fn drop(self) {
-        match self {
-            Focus::Value(_value) => (),
-            Focus::Part(_form) => (),
-        }
-    }
+/// A redex that is taken out of a stack: a form, or a value with the frame that it completes.
+#[derive(Drop)]
+pub enum Taken {
+    Form(Source),
+    Full(Frame, Val),
 }
 
-/// The value of a literal.
-pub fn literal(lit: &Lit) -> Result<Val, NoMemory>
-    ensures { IfOk result (λ v. v ≡ the_literal lit.now) }
-{
-    match lit {
-        Lit::Null => Ok(Val::Null),
-        Lit::Bool(b) => Ok(Val::Bool(*b)),
-        Lit::Num(n) => Ok(Val::Num(*n)),
-        Lit::Str(text) => Ok(Val::Str(text.copy()?)),
-    }
-}
-
-/// The operand at a place, or `None` past the last. Its one refusal is a count of owners that is
-/// full.
-pub fn operand(expr: &Expr, at: usize) -> Result<Option<Source>, NoMemory>
-    ensures { IfOk result (λ s. s ≡ slice_get (operands (out-Expr expr.now)) at) }
-{
-    match expr {
-        Expr::Let(_, part) | Expr::Set(_, part) | Expr::If(part, _, _) => only(part, at),
-        Expr::Apply(function, args) => {
-            if at == 0 {
-                only(function, at)
-            } else {
-                Source::item(args, at - 1)
-            }
-        }
-        Expr::Prim(_, args) => Source::item(args, at),
-        _ => Ok(None),
-    }
-}
-
-/// The first operand.
-fn only(part: &Body, at: usize) -> Result<Option<Source>, NoMemory>
-    ensures { IfOk result (λ s. s ≡ slice_get (part.now ∷ []) at) }
-{
-    if at == 0 {
-        Ok(Some(Source::of(part)?))
-    } else {
-        Ok(None)
-    }
+/// Where a step of the walk to the redex leads: to a part from which to go on, or to the redex.
+#[derive(Drop)]
+pub enum Step {
+    On(Focus),
+    There(Focus),
 }
 
 /// Puts another part at hand.
@@ -105,6 +69,8 @@ impl Frame {
         match self {
             Frame::Part(form, values) => Ok(Frame::Part(form.copy()?, values.copy()?)),
             Frame::Do(parts, at) => Ok(Frame::Do(parts.copy()?, *at)),
+            Frame::Loop(again) => Ok(Frame::Loop(again.copy()?)),
+            Frame::Last => Ok(Frame::Last),
             Frame::Inside(outer) => Ok(Frame::Inside(*outer)),
         }
     }

@@ -7,20 +7,23 @@
 //!
 //! - `next` copies what the redex holds, each value by a counted reference at most. Up to two
 //!   operands or arguments take no memory, and three and more one allocation.
-//! - `give`, `choose`, `local` and `enter` take off one frame at most, put one part, and walk to
-//!   the next redex. The walk goes from an operand to the one after it and down the leftmost parts
-//!   of what was put, at most as deep as a body nests. An operand is entered by a copy of a counted
-//!   reference. A frame keeps the values of up to two operands in itself, and takes one allocation for
-//!   three and more.
-//! - A `while` makes the `if` of its turn, in five allocations, and an `and` or `or` its `if`, in
-//!   two. As the reduction says, a turn of a `while` leaves a `do` around the next: one frame, and
-//!   the list of the turn's two parts, until the loop ends.
+//! - `give`, `choose`, `local` and `enter` take off one frame at most, put one part, with one frame
+//!   around it at most, and walk to the next redex. The walk goes from an operand to the one after
+//!   it and down the leftmost parts of what was put, at most as deep as a body nests. A form that is
+//!   entered moves into its frame, a value into the frame that waits for it, and a part of a form is
+//!   a counted reference more.
+//! - A frame keeps the values of up to two operands in itself, and takes one allocation for three and
+//!   more. Nothing else that is put takes memory: a `while`, `and` or `or` whose test is at hand is a
+//!   frame that stands for the `if` that it becomes, and a turn of a loop one that stands for the `do`
+//!   of the body and the loop. As the reduction says, each turn leaves a `do` around the next: one
+//!   frame without content, until the loop ends.
 //! - The vector of frames doubles when it is full. `fork` copies each frame, and shares what the
 //!   frames hold.
 #![tactic(auto)]
 
 mod control;
 mod frame;
+mod operand;
 mod redex;
 mod row;
 mod seek;

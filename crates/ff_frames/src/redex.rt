@@ -47,7 +47,9 @@ fn read_part(alloc: Global, form: &Expr, values: &[Val], value: &Val) -> Result<
     match form {
         Expr::Let(name, _) => Ok(Redex::Let(name.copy()?, value.copy()?)),
         Expr::Set(name, _) => Ok(Redex::Set(name.copy()?, value.copy()?)),
-        Expr::If(_, _, _) => Ok(Redex::Test(value.copy()?)),
+        Expr::If(_, _, _) | Expr::While(_, _) | Expr::And(_, _) | Expr::Or(_, _) => {
+            Ok(Redex::Test(value.copy()?))
+        }
         Expr::Apply(_, _) => read_call(alloc, values, value),
         Expr::Prim(op, _) => {
             let all = with_last(alloc, values, value)?;

@@ -1,119 +1,155 @@
-ghost use Rattle.std.specs.Prelude.{◌≡◌, ◌∷◌, [], List, IfOk, None};
+ghost use Rattle.std.specs.Prelude.{◌≡◌, ◌<◌, List, IfOk, drop, length};
 ghost use Rattle.ff_tree.specs.declared.tree.Expr.{out-Expr};
-ghost use Rattle.ff_tree.specs.declared.tree.Expr.TheVariants as expr;
-ghost use Rattle.ff_tree.specs.declared.tree.Lit.TheVariants as lit;
 ghost use Rattle.ff_value.specs.declared.ids.ActId.{ActId};
 ghost use Rattle.ff_value.specs.declared.value.Val.{Val};
-ghost use Rattle.ff_term.specs.Running.{Done};
+ghost use Rattle.ff_term.specs.Running.{Do, Done, more};
 ghost use Rattle.ff_term.specs.Rows.{IsLocal, branch, local_row};
-ghost use Rattle.ff_term.specs.Whole.{layer};
-ghost use Rattle.ff_frames.specs.Frames.{around, shown, wrap};
-ghost use Rattle.ff_frames.specs.Seeking.{IsSettled, IsRow};
-ghost use Rattle.ff_frames.specs.Rewrites.{in_do, IsIf, IsIfFrame};
+ghost use Rattle.ff_term.specs.Whole.{layer, wholes};
+ghost use Rattle.ff_frames.specs.Frames.{around, wrap};
+ghost use Rattle.ff_frames.specs.Seeking.{AreShown, IsRow};
+ghost use Rattle.ff_frames.specs.Rewrites.{IsDo, IsEnding, IsIf, IsLocalOut, IsPut, IsRedex, IsRest, IsTested, taken, test_of};
 
-use crate::frame::{Focus, Frame};
-use crate::seek::focus_on;
+use crate::frame::{Focus, Frame, Taken};
+use crate::operand::{focus_on, focus_on_body, focus_on_item};
 use crate::source::Source;
-use ff_shared::{Shared, SharedList};
-use ff_tree::{Body, Expr, Exprs, Lit};
+use ff_term::Operands;
+use ff_tree::{Expr, Exprs};
 use ff_value::{NoMemory, Val};
 use std::alloc::Global;
 
-/// A list of two parts.
-fn two(alloc: Global, left: &Expr, right: &Expr) -> Result<Exprs, NoMemory>
-    ensures { IfOk result (λ es. es ≡ left.now ∷ right.now ∷ []) }
+/// What is put for a redex that no store decides: the part at hand, and perhaps a frame around it.
+pub fn local_of(alloc: Global, redex: Taken) -> Result<(Option<Frame>, Focus), NoMemory>
+    requires redex { IsRedex redex }
+    requires local { IsLocalOut redex }
+    ensures { IfOk result (IsPut (λ a. local_row (taken redex a))) }
 {
-    let mut parts = Vec::new(alloc);
-    parts.push(left.copy()?)?;
-    parts.push(right.copy()?)?;
-    SharedList::from_vec(alloc, parts)
+    match redex {
+        Taken::Form(form) => local_form(alloc, form),
+        Taken::Full(frame, value) => local_frame(frame, value),
+    }
 }
 
-/// `(if e (do f (while e f)) null)`, of the whole `while` and its two parts.
-fn turn_of(alloc: Global, form: &Expr, test: &Body, body: &Body) -> Result<Expr, NoMemory>
-    ensures { IfOk result (λ e. e ≡ expr.If test.now (expr.Do (body.now ∷ form.now ∷ [])) (expr.Lit lit.Null)) }
+/// The same for a form.
+fn local_form(alloc: Global, form: Source) -> Result<(Option<Frame>, Focus), NoMemory>
+    requires row { IsRow (out-Expr form) }
+    requires local { IsLocal (layer (out-Expr form)) }
+    ensures { IfOk result (IsPut (λ a. local_row (layer (out-Expr form)))) }
 {
-    let parts = two(alloc, body.get(), form)?;
-    let again = Shared::new(alloc, Expr::Do(parts))?;
-    let null = Shared::new(alloc, Expr::Lit(Lit::Null))?;
-    Ok(Expr::If(test.copy()?, again, null))
+    match test(form.get())? {
+        None => Ok((None, Focus::Value(Val::Null))),
+        Some(part) => Ok((Some(Frame::Part(form, Operands::new(alloc))), part)),
+    }
 }
 
-/// What a form becomes that no store decides.
-fn local_expr(alloc: Global, form: &Expr) -> Result<Expr, NoMemory>
-    requires row { IsRow (out-Expr form.now) }
-    requires local { IsLocal (layer (out-Expr form.now)) }
-    ensures { IfOk result (λ e. layer (out-Expr e) ≡ local_row (layer (out-Expr form.now))) }
+/// The test of a form that becomes an `if`, as the part at hand.
+fn test(form: &Expr) -> Result<Option<Focus>, NoMemory>
+    ensures { IfOk result (AreShown (test_of (out-Expr form.now))) }
 {
     match form {
-        Expr::While(test, body) => turn_of(alloc, form, test, body),
-        Expr::And(left, right) => {
-            let test = left.copy()?;
-            let yes = right.copy()?;
-            let no = Shared::new(alloc, Expr::Lit(Lit::Bool(false)))?;
-            Ok(Expr::If(test, yes, no))
+        Expr::While(test, _) | Expr::And(test, _) | Expr::Or(test, _) => {
+            Ok(Some(focus_on_body(test)?))
         }
-        Expr::Or(left, right) => {
-            let test = left.copy()?;
-            let no = right.copy()?;
-            let yes = Shared::new(alloc, Expr::Lit(Lit::Bool(true)))?;
-            Ok(Expr::If(test, yes, no))
-        }
-        _ => Ok(Expr::Lit(Lit::Null)),
+        _ => Ok(None),
     }
 }
 
-/// What is put for a form that is a redex which no store decides.
-pub fn local_form(alloc: Global, form: &Expr) -> Result<Focus, NoMemory>
-    requires row { IsRow (out-Expr form.now) }
-    requires local { IsLocal (layer (out-Expr form.now)) }
-    ensures same { IfOk result (λ x. shown x ≡ local_row (layer (out-Expr form.now))) }
-    ensures settled { IfOk result IsSettled }
-{
-    let next = local_expr(alloc, form)?;
-    focus_on(Source::made(alloc, next)?)
-}
-
-/// What is put for a value and the frame around it, where no store decides: the part at hand, and
-/// the parts of a `do` that come after it, with the place of the next.
-pub fn local_frame(frame: &Frame, value: &Val) -> Result<(Option<(Exprs, usize)>, Focus), NoMemory>
-    requires { (a : ActId) → IsLocal (wrap frame.now a (Done value.now)) }
-    ensures same { IfOk result (λ p. (a : ActId) → in_do p.0 (shown p.1) ≡ local_row (wrap frame.now a (Done value.now))) }
-    ensures settled { IfOk result (λ p. IsSettled p.1) }
+/// What is put for a value and the frame around it.
+fn local_frame(frame: Frame, value: Val) -> Result<(Option<Frame>, Focus), NoMemory>
+    requires { IsEnding frame }
+    ensures { IfOk result (IsPut (λ a. local_row (wrap frame a (Done value)))) }
 {
     match frame {
-        Frame::Do(parts, at) => match Source::item(parts, *at)? {
-            None => Ok((None, Focus::Value(value.copy()?))),
-            Some(part) => {
-                let next = focus_on(part)?;
-                Ok((Some((parts.copy()?, *at + 1)), next))
-            }
+        Frame::Part(form, _) => after_first(form.get(), value),
+        Frame::Do(parts, at) => after_part(&parts, at, value),
+        Frame::Loop(again) => Ok((Some(Frame::Last), focus_on(again)?)),
+        Frame::Last => Ok((None, Focus::Value(value))),
+        Frame::Inside(_) => Ok((None, Focus::Value(value))),
+    }
+}
+
+/// What is put for the value of the first part of a form.
+fn after_first(form: &Expr, value: Val) -> Result<(Option<Frame>, Focus), NoMemory>
+    requires { IsDo (out-Expr form.now) }
+    ensures { IfOk result (λ p. (vs : List Val) → IsPut (λ a. local_row (around (out-Expr form.now) vs (Done value))) p) }
+{
+    match form {
+        Expr::Do(parts) => after_part(parts, 1, value),
+        _ => Ok((None, Focus::Value(value))),
+    }
+}
+
+/// What is put for the value of a part of a `do`, where the next is at a place.
+fn after_part(parts: &Exprs, at: usize, value: Val) -> Result<(Option<Frame>, Focus), NoMemory>
+    ensures { IfOk result (IsPut (λ a. local_row (Do (more (Done value) (wholes (drop at parts.now)))))) }
+{
+    match focus_on_item(parts, at)? {
+        None => Ok((None, Focus::Value(value))),
+        Some(next) => {
+            let frame = rest_of(parts, at)?;
+            Ok((Some(frame), next))
+        }
+    }
+}
+
+/// The frame of a `do` around its part at a place.
+fn rest_of(parts: &Exprs, at: usize) -> Result<Frame, NoMemory>
+    requires { at < length parts.now }
+    ensures { IfOk result (IsRest parts.now at) }
+{
+    let len = parts.len();
+    if at + 1 < len {
+        Ok(Frame::Do(parts.copy()?, at + 1))
+    } else {
+        Ok(Frame::Last)
+    }
+}
+
+/// What is put for an `if` whose test is evaluated.
+pub fn branch_of(redex: Taken, yes: bool) -> Result<(Option<Frame>, Focus), NoMemory>
+    requires { IsTested redex }
+    ensures { IfOk result (IsPut (λ a. branch yes (taken redex a))) }
+{
+    match redex {
+        Taken::Form(_) => unreachable!(),
+        Taken::Full(frame, _) => match frame {
+            Frame::Part(form, _) => branch_in(form, yes),
+            _ => unreachable!(),
         },
-        Frame::Part(_, _) => Ok((None, Focus::Value(value.copy()?))),
-        Frame::Inside(_) => Ok((None, Focus::Value(value.copy()?))),
-    }
-}
-
-/// The branch of an `if` whose test is evaluated.
-pub fn branch_of(frame: &Frame, yes: bool) -> Result<Focus, NoMemory>
-    requires { IsIfFrame frame.now }
-    ensures same { IfOk result (λ x. (a : ActId) (v : Val) → shown x ≡ branch yes (wrap frame.now a (Done v))) }
-    ensures settled { IfOk result IsSettled }
-{
-    match frame {
-        Frame::Part(form, _) => branch_in(form.get(), yes),
-        _ => unreachable!(),
     }
 }
 
 /// The same of the form.
-fn branch_in(form: &Expr, yes: bool) -> Result<Focus, NoMemory>
-    requires { IsIf (out-Expr form.now) }
-    ensures same { IfOk result (λ x. (vs : List Val) (v : Val) → shown x ≡ branch yes (around (out-Expr form.now) vs (Done v))) }
-    ensures settled { IfOk result IsSettled }
+fn branch_in(form: Source, yes: bool) -> Result<(Option<Frame>, Focus), NoMemory>
+    requires { IsIf (out-Expr form) }
+    ensures { IfOk result (λ p. (vs : List Val) (v : Val) → IsPut (λ a. branch yes (around (out-Expr form) vs (Done v))) p) }
 {
-    match form {
-        Expr::If(_, left, right) => focus_on(Source::of(if yes { left } else { right })?),
+    match form.get() {
+        Expr::If(_, left, right) => {
+            let part = focus_on_body(if yes { left } else { right })?;
+            Ok((None, part))
+        }
+        Expr::While(_, body) => {
+            if yes {
+                let part = focus_on_body(body)?;
+                Ok((Some(Frame::Loop(form)), part))
+            } else {
+                Ok((None, Focus::Value(Val::Null)))
+            }
+        }
+        Expr::And(_, right) => {
+            if yes {
+                Ok((None, focus_on_body(right)?))
+            } else {
+                Ok((None, Focus::Value(Val::Bool(false))))
+            }
+        }
+        Expr::Or(_, right) => {
+            if yes {
+                Ok((None, Focus::Value(Val::Bool(true))))
+            } else {
+                Ok((None, focus_on_body(right)?))
+            }
+        }
         _ => unreachable!(),
     }
 }

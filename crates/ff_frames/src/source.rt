@@ -1,5 +1,4 @@
-ghost use Rattle.std.specs.Prelude.{◌≡◌, IfOk, slice_get};
-ghost use Rattle.ff_frames.specs.Places.{at_place};
+ghost use Rattle.std.specs.Prelude.{◌≡◌, ◌<◌, IfOk, Some, length, slice_get};
 
 use ff_shared::Shared;
 use ff_tree::{Body, Expr, Exprs};
@@ -53,18 +52,13 @@ impl Source {
         })
     }
 
-    /// The expression at a place of a list, or `None` past the last. Its one refusal is a count of
-    /// owners that is full.
-    pub fn item(list: &Exprs, at: usize) -> Result<Option<Source>, NoMemory>
-        ensures { IfOk result (λ s. s ≡ slice_get list.now at) }
+    /// The expression at a place of a list. Its one refusal is a count of owners that is full.
+    pub fn at(list: &Exprs, at: usize) -> Result<Source, NoMemory>
+        requires { at < length list.now }
+        ensures { IfOk result (λ s. slice_get list.now at ≡ Some s) }
     {
-        match list.get(at) {
-            None => Ok(None),
-            Some(_) => {
-                let place = Place::Item(list.copy()?, at);
-                Ok(Some(Source { place }))
-            }
-        }
+        let place = Place::Item(list.copy()?, at);
+        Ok(Source { place })
     }
 
     /// An expression that stands nowhere yet.

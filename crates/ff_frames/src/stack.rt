@@ -2,25 +2,28 @@ ghost use Rattle.std.specs.Prelude.{◌≡◌, ◌≤◌, ◌<◌, ◌++◌, ◌
 ghost use Rattle.ff_term.specs.Rows.{IsLocal, IsTest, branch, local_row};
 ghost use Rattle.ff_frames.specs.declared.frame.Frame.{Frame};
 ghost use Rattle.ff_term.specs.Redexes.{IsRedexOf};
-ghost use Rattle.ff_frames.specs.Rewrites.{in_do, IsCallFrame};
+ghost use Rattle.ff_frames.specs.declared.frame.Focus.TheVariants as focus;
+ghost use Rattle.ff_frames.specs.Rewrites.{IsCallFrame, IsNoCall, IsRedex, taken, within};
 ghost use Rattle.ff_term.specs.Running.{Apply, none, more, Done, Inside, Running, insides, is_value, redex, rewritten, rewritten_in};
 ghost use Rattle.ff_frames.specs.Frames.{is_call, shown, wrap};
 ghost use Rattle.ff_term.specs.Whole.{whole};
 ghost use Rattle.ff_value.specs.declared.value.Val.TheVariants as val;
 ghost use Rattle.ff_value.specs.declared.ids.ActId.{ActId};
 ghost use Rattle.ff_frames.specs.Seeking.{IsSettled};
-ghost use Rattle.ff_frames.specs.Stacks.{evaluation, with_part, out_of, IsCounted, IsReady, IsValid, IsWithoutRedex};
+ghost use Rattle.ff_frames.specs.Stacks.{evaluation, with_part, out_of, IsCounted, IsValid, IsWithoutRedex};
 
-use crate::frame::{Focus, Frame, put};
+use crate::frame::{Focus, Frame, Taken, put};
+use crate::operand::focus_on_body;
 use crate::redex::{read_form, read_frame};
-use crate::row::{branch_of, local_form, local_frame};
-use crate::seek::{focus_on, seek};
+use crate::row::{branch_of, local_of};
+use crate::seek::seek;
 use crate::source::Source;
 use ff_shared::SharedList;
 use ff_term::{MOST_CALLS, Operands, Redex};
-use ff_tree::{Body, Expr, Exprs};
+use ff_tree::{Body, Expr};
 use ff_value::{ActId, Code, NoMemory, Val};
 use std::alloc::Global;
+use std::mem;
 
 /// A runtime expression as what stands around the part at hand, that part, the innermost
 /// activation, and how many calls stand around.
@@ -50,10 +53,20 @@ impl Stack {
         ensures valid { IsValid result }
         ensures null { (evaluation result).expr ≡ Done val.Null }
     {
+        Stack::bare(alloc, ActId(0))
+    }
+
+    /// The stack of `null` in an activation.
+    fn bare(alloc: Global, act: ActId) -> Stack
+        ensures frames { result.frames.items ≡ [] }
+        ensures focus { result.focus ≡ focus.Value val.Null }
+        ensures act { result.act ≡ act }
+        ensures depth { result.depth ≡ 0 }
+    {
         Stack {
             frames: Vec::new(alloc),
             focus: Focus::Value(Val::Null),
-            act: ActId(0),
+            act,
             depth: 0,
         }
     }
@@ -63,14 +76,9 @@ impl Stack {
         ensures is { IfOk result (λ s. evaluation s ≡ record { base = act; expr = whole body.now }) }
         ensures valid { IfOk result IsValid }
     {
-        let focus = focus_on(Source::of(body)?)?;
-        let mut stack = Stack {
-            frames: Vec::new(alloc),
-            focus,
-            act,
-            depth: 0,
-        };
-        stack.seek(alloc)?;
+        let part = focus_on_body(body)?;
+        let mut stack = Stack::bare(alloc, act);
+        stack.walk_from(alloc, part)?;
         Ok(stack)
     }
 
@@ -79,16 +87,10 @@ impl Stack {
         ensures is { IfOk result (λ s. evaluation s ≡ record { base = act; expr = Apply (Done (val.Code code.now)) (more (Done arg.now) none) }) }
         ensures valid { IfOk result IsValid }
     {
+        let part = Focus::Value(arg.copy()?);
         let frame = call_frame(alloc, code)?;
-        let mut frames = Vec::new(alloc);
-        frames.push(frame)?;
-        let mut stack = Stack {
-            frames,
-            focus: Focus::Value(arg.copy()?),
-            act,
-            depth: 0,
-        };
-        stack.seek(alloc)?;
+        let mut stack = Stack::bare(alloc, act);
+        stack.put(alloc, Some(frame), part)?;
         Ok(stack)
     }
 
@@ -110,67 +112,64 @@ impl Stack {
         })
     }
 
-    /// Walks to the redex.
-    fn seek(&mut self, alloc: Global) -> Result<(), NoMemory>
-        requires { IsReady self.old }
-        ensures same { OnOk result (evaluation self.new ≡ evaluation self.old) }
-        ensures valid { OnOk result (IsValid self.new) }
-    {
-        seek(alloc, &mut self.frames, &mut self.focus)
-    }
-
     /// Goes out of a frame that is taken off.
-    fn go_out_of(&mut self, frame: Frame)
-        requires { is_call frame ≤ self.old.depth }
-        ensures { self.new ≡ out_of frame self.old }
+    fn go_out_of(&mut self, frame: &Frame)
+        requires { is_call frame.now ≤ self.old.depth }
+        ensures { self.new ≡ out_of frame.now self.old }
     {
         if let Frame::Inside(outer) = frame {
-            self.act = outer;
+            self.act = *outer;
             self.depth -= 1;
         }
     }
 
     /// Takes the redex out.
-    fn take_redex(&mut self)
+    fn take_redex(&mut self) -> Taken
         requires valid { IsValid self.old }
         requires open { is_value (evaluation self.old).expr ≡ false }
-        ensures { IsWithoutRedex self.old self.new }
+        ensures out { IsWithoutRedex self.old self.new }
+        ensures is { redex (evaluation self.old).expr ≡ taken result self.old.act }
+        ensures redex { IsRedex result }
     {
-        match &self.focus {
-            Focus::Part(_) => (),
-            Focus::Value(_) => match self.frames.pop() {
-                None => (),
-                Some(frame) => self.go_out_of(frame),
+        match mem::replace(&mut self.focus, Focus::Value(Val::Null)) {
+            Focus::Part(form) => Taken::Form(form),
+            Focus::Value(value) => match self.frames.pop() {
+                None => unreachable!(),
+                Some(frame) => {
+                    self.go_out_of(&frame);
+                    Taken::Full(frame, value)
+                }
             },
         }
     }
 
-    /// Puts another part for the redex.
-    fn replace(&mut self, alloc: Global, part: Focus) -> Result<(), NoMemory>
-        requires valid { IsValid self.old }
-        requires open { is_value (evaluation self.old).expr ≡ false }
+    /// Puts a part at hand, and walks to the redex from there.
+    fn walk_from(&mut self, alloc: Global, part: Focus) -> Result<(), NoMemory>
+        requires counted { IsCounted self.old }
         requires settled { IsSettled part }
-        ensures rewrites { OnOk result (evaluation self.new ≡ rewritten_in (λ _. shown part) (evaluation self.old)) }
+        ensures same { OnOk result (evaluation self.new ≡ with_part self.old (shown part)) }
         ensures valid { OnOk result (IsValid self.new) }
     {
-        self.take_redex();
-        put(&mut self.focus, part);
-        self.seek(alloc)
+        let redex = seek(alloc, &mut self.frames, part)?;
+        put(&mut self.focus, redex);
+        Ok(())
     }
 
-    /// Puts another part for the redex, with a frame around it that is no call.
-    fn replace_in(&mut self, alloc: Global, frame: Frame, part: Focus) -> Result<(), NoMemory>
-        requires valid { IsValid self.old }
-        requires open { is_value (evaluation self.old).expr ≡ false }
+    /// The same, perhaps with a frame around the part that is no call.
+    fn put(&mut self, alloc: Global, frame: Option<Frame>, part: Focus) -> Result<(), NoMemory>
+        requires counted { IsCounted self.old }
         requires settled { IsSettled part }
-        requires no_call { is_call frame ≡ 0 }
-        ensures rewrites { OnOk result ((a : ActId) → evaluation self.new ≡ rewritten_in (λ _. wrap frame a (shown part)) (evaluation self.old)) }
+        requires no_call { IsNoCall frame }
+        ensures same { OnOk result ((a : ActId) → evaluation self.new ≡ with_part self.old (within frame a (shown part))) }
         ensures valid { OnOk result (IsValid self.new) }
     {
-        self.take_redex();
-        self.frames.push(frame)?;
-        put(&mut self.focus, part);
-        self.seek(alloc)
+        match frame {
+            None => self.walk_from(alloc, part),
+            Some(frame) => {
+                self.frames.push(frame)?;
+                self.walk_from(alloc, part)
+            }
+        }
     }
 
     /// Puts a call that runs in an activation of its own for the redex.
@@ -181,13 +180,12 @@ impl Stack {
         ensures rewrites { OnOk result (evaluation self.new ≡ rewritten_in (λ _. Inside act (whole body.now)) (evaluation self.old)) }
         ensures valid { OnOk result (IsValid self.new) }
     {
-        let part = focus_on(Source::of(body)?)?;
+        let part = focus_on_body(body)?;
         self.take_redex();
         self.frames.push(Frame::Inside(self.act))?;
         self.act = act;
         self.depth += 1;
-        put(&mut self.focus, part);
-        self.seek(alloc)
+        self.walk_from(alloc, part)
     }
 
     /// Puts a value for the redex.
@@ -197,7 +195,34 @@ impl Stack {
         ensures rewrites { OnOk result (evaluation self.new ≡ rewritten_in (λ _. Done value) (evaluation self.old)) }
         ensures valid { OnOk result (IsValid self.new) }
     {
-        self.replace(alloc, Focus::Value(value))
+        self.take_redex();
+        self.walk_from(alloc, Focus::Value(value))
+    }
+
+    /// Reduces a redex that no store decides.
+    pub fn reduce(&mut self, alloc: Global) -> Result<(), NoMemory>
+        requires valid { IsValid self.old }
+        requires open { is_value (evaluation self.old).expr ≡ false }
+        requires local { IsLocal (redex (evaluation self.old).expr) }
+        ensures rewrites { OnOk result (evaluation self.new ≡ rewritten_in (λ _. local_row (redex (evaluation self.old).expr)) (evaluation self.old)) }
+        ensures valid { OnOk result (IsValid self.new) }
+    {
+        let redex = self.take_redex();
+        let (frame, part) = local_of(alloc, redex)?;
+        self.put(alloc, frame, part)
+    }
+
+    /// Takes a branch of an `if` whose test is evaluated.
+    pub fn choose(&mut self, alloc: Global, yes: bool) -> Result<(), NoMemory>
+        requires valid { IsValid self.old }
+        requires open { is_value (evaluation self.old).expr ≡ false }
+        requires test { IsTest (redex (evaluation self.old).expr) }
+        ensures rewrites { OnOk result (evaluation self.new ≡ rewritten_in (λ _. branch yes (redex (evaluation self.old).expr)) (evaluation self.old)) }
+        ensures valid { OnOk result (IsValid self.new) }
+    {
+        let redex = self.take_redex();
+        let (frame, part) = branch_of(redex, yes)?;
+        self.put(alloc, frame, part)
     }
 
     /// The innermost frame, or `None` where nothing stands around the part at hand.
@@ -232,71 +257,6 @@ impl Stack {
             Focus::Value(value) => match self.top() {
                 None => unreachable!(),
                 Some(frame) => read_frame(alloc, frame, value),
-            },
-        }
-    }
-
-    /// Reduces a redex that no store decides.
-    pub fn reduce(&mut self, alloc: Global) -> Result<(), NoMemory>
-        requires valid { IsValid self.old }
-        requires open { is_value (evaluation self.old).expr ≡ false }
-        requires local { IsLocal (redex (evaluation self.old).expr) }
-        ensures rewrites { OnOk result (evaluation self.new ≡ rewritten_in (λ _. local_row (redex (evaluation self.old).expr)) (evaluation self.old)) }
-        ensures valid { OnOk result (IsValid self.new) }
-    {
-        let (rest, part) = self.local_part(alloc)?;
-        match rest {
-            None => self.replace(alloc, part),
-            Some((parts, at)) => self.replace_in(alloc, Frame::Do(parts, at), part),
-        }
-    }
-
-    /// What is put for a redex that no store decides: the part at hand, and the parts of a `do`
-    /// that come after it.
-    fn local_part(&self, alloc: Global) -> Result<(Option<(Exprs, usize)>, Focus), NoMemory>
-        requires valid { IsValid self.now }
-        requires open { is_value (evaluation self.now).expr ≡ false }
-        requires local { IsLocal (redex (evaluation self.now).expr) }
-        ensures same { IfOk result (λ p. in_do p.0 (shown p.1) ≡ local_row (redex (evaluation self.now).expr)) }
-        ensures settled { IfOk result (λ p. IsSettled p.1) }
-    {
-        match &self.focus {
-            Focus::Part(form) => {
-                let part = local_form(alloc, form.get())?;
-                Ok((None, part))
-            }
-            Focus::Value(value) => match self.top() {
-                None => unreachable!(),
-                Some(frame) => local_frame(frame, value),
-            },
-        }
-    }
-
-    /// Takes a branch of an `if` whose test is evaluated.
-    pub fn choose(&mut self, alloc: Global, yes: bool) -> Result<(), NoMemory>
-        requires valid { IsValid self.old }
-        requires open { is_value (evaluation self.old).expr ≡ false }
-        requires test { IsTest (redex (evaluation self.old).expr) }
-        ensures rewrites { OnOk result (evaluation self.new ≡ rewritten_in (λ _. branch yes (redex (evaluation self.old).expr)) (evaluation self.old)) }
-        ensures valid { OnOk result (IsValid self.new) }
-    {
-        let part = self.branch(yes)?;
-        self.replace(alloc, part)
-    }
-
-    /// The branch.
-    fn branch(&self, yes: bool) -> Result<Focus, NoMemory>
-        requires valid { IsValid self.now }
-        requires open { is_value (evaluation self.now).expr ≡ false }
-        requires test { IsTest (redex (evaluation self.now).expr) }
-        ensures same { IfOk result (λ x. shown x ≡ branch yes (redex (evaluation self.now).expr)) }
-        ensures settled { IfOk result IsSettled }
-    {
-        match &self.focus {
-            Focus::Part(_) => unreachable!(),
-            Focus::Value(_) => match self.top() {
-                None => unreachable!(),
-                Some(frame) => branch_of(frame, yes),
             },
         }
     }
