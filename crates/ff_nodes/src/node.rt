@@ -2,6 +2,7 @@
 ghost use Rattle.std.specs.Prelude.{◌≡◌, ◌++◌, ◌∷◌, [], IfOk};
 ghost use Rattle.std.specs.Str.{IsUtf8, bytes_eq};
 ghost use Rattle.std.specs.Option.{option_copied};
+ghost use Rattle.ff_machine.specs.Kinds.{kind_word};
 ghost use Rattle.ff_machine.specs.Nodes.{is_name};
 ghost use Rattle.ff_machine.specs.Shapes as shapes;
 
@@ -228,7 +229,7 @@ impl Node {
     }
 
     pub(crate) fn is_of_kind(&self, kind: Kind) -> bool
-        ensures { result ≡ bytes_eq (shapes.kind_word (shapes.kind_of self.now.shape)) (shapes.kind_word kind) }
+        ensures { result ≡ bytes_eq (kind_word (shapes.kind_of self.now.shape)) (kind_word kind) }
     {
         self.kind() == kind
     }
