@@ -9,6 +9,7 @@ ghost use Rattle.ff_policy.specs.Printing as spec;
 ghost use Rattle.ff_policy.specs.Printing.{data_of, printed, is_under, pair_if, pair_data, pairs_data, pairs_in, pairs_from, strings, keys_data};
 ghost use Rattle.ff_policy.specs.Reading.{IsPolicyOf};
 ghost use Rattle.ff_policy.specs.declared.limits.TheConstants.{MOST_POLICY_BYTES};
+ghost use Rattle.ff_value.specs.Kinds.{word_of};
 
 use crate::NoMemory;
 use crate::key::Key;
@@ -190,31 +191,13 @@ fn kinds_value(alloc: Global, lattice: &Lattice, kinds: &Kinds) -> Result<Value,
     ensures { IfOk result (λ value. view value ≡ spec.kinds_data lattice.now kinds.now) }
 {
     let mut members = Map::new(alloc);
-    put_kind(
-        alloc,
-        lattice,
-        Kind::Click.word(),
-        kinds.clicks,
-        &mut members,
-    )?;
-    put_kind(
-        alloc,
-        lattice,
-        Kind::Close.word(),
-        kinds.closes,
-        &mut members,
-    )?;
-    put_kind(alloc, lattice, Kind::Go.word(), kinds.goes, &mut members)?;
-    put_kind(alloc, lattice, Kind::Link.word(), kinds.links, &mut members)?;
-    put_kind(alloc, lattice, Kind::Open.word(), kinds.opens, &mut members)?;
-    put_kind(
-        alloc,
-        lattice,
-        Kind::Reply.word(),
-        kinds.replies,
-        &mut members,
-    )?;
-    put_kind(alloc, lattice, Kind::Type.word(), kinds.types, &mut members)?;
+    put_kind(alloc, lattice, Kind::Click, kinds.clicks, &mut members)?;
+    put_kind(alloc, lattice, Kind::Close, kinds.closes, &mut members)?;
+    put_kind(alloc, lattice, Kind::Go, kinds.goes, &mut members)?;
+    put_kind(alloc, lattice, Kind::Link, kinds.links, &mut members)?;
+    put_kind(alloc, lattice, Kind::Open, kinds.opens, &mut members)?;
+    put_kind(alloc, lattice, Kind::Reply, kinds.replies, &mut members)?;
+    put_kind(alloc, lattice, Kind::Type, kinds.types, &mut members)?;
     Ok(Value::Object(members))
 }
 
@@ -222,15 +205,15 @@ fn kinds_value(alloc: Global, lattice: &Lattice, kinds: &Kinds) -> Result<Value,
 fn put_kind(
     alloc: Global,
     lattice: &Lattice,
-    word: &str,
+    kind: Kind,
     levels: KindLevels,
     members: &mut Map<String, Value>,
 ) -> Result<(), NoMemory>
     requires { IsWithin (size lattice.now) levels }
-    ensures { OnOk result (members_view members.new.entries ≡ put word.now (spec.kind_data lattice.now levels) (members_view members.old.entries)) }
+    ensures { OnOk result (members_view members.new.entries ≡ put (word_of kind) (spec.kind_data lattice.now levels) (members_view members.old.entries)) }
 {
     let value = kind_value(alloc, lattice, levels)?;
-    serde_json::put(members, alloc, word, value)
+    serde_json::put(members, alloc, kind.word(), value)
 }
 
 /// The names of a kind's levels.
