@@ -98,7 +98,7 @@ fn rewrite<C: Ledger>(
         Redex::Test(v) => reduce_test(alloc, control, stores, &v),
         Redex::Apply(f, args) => {
             reduce_call(alloc, control, stores, &f, args.as_slice(), copies)
-        },
+        }
         Redex::Var(x) => {
             let got = variable(stores, a, &x);
             finish(alloc, control, got)

@@ -40,4 +40,4 @@ pub returns-in-Prim-clause-reduces : goal.returns-in-Prim-clause-reduces
 returns-in-Prim-clause-reduces g c =
     rw c.in-Prim.is
     (finished c.args.stores.now c.operate-got.new.stores c.args.control.now c.finish-in-Prim.new.control c.args.outs.now.items c.operate-got.new.outs.items _ c.operate-got.result c.finish-in-Prim.result
-    c.operate-got.ensures.does c.finish-in-Prim.ensures)
+    (rw c.as_slice-in-Prim.ensures at c.operate-got.ensures.does) c.finish-in-Prim.ensures)
