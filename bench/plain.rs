@@ -1,5 +1,5 @@
 // What crates/ff_bench times, in plain Rust: for each word the same names, with the nanoseconds that
-// one takes. For the word `loop` it times one of the things of `steps` alone.
+// one takes. For `script` and a name of `steps`, as `loop`, it times that script alone.
 mod frames;
 mod searches;
 mod steps;
@@ -82,7 +82,7 @@ fn main() {
         Some("searches") => searches::measure(),
         Some("variables") => variables::measure(),
         Some("steps") => steps::measure(),
-        Some("loop") => steps::measure_loop(),
-        _ => eprintln!("usage: plain list | text | operators | frames | searches | variables | steps | loop"),
+        Some("script") => steps::measure_one(&std::env::args().nth(2).unwrap_or_default()),
+        _ => eprintln!("usage: plain list | text | operators | frames | searches | variables | steps | script NAME"),
     }
 }

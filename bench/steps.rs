@@ -319,15 +319,26 @@ fn report(name: &str, body: &Body) {
     println!("{name} {nanoseconds:.1}");
 }
 
-pub fn measure_loop() {
-    report("loop", &page_loop());
+const SCRIPTS: [(&str, fn() -> Body); 4] = [
+    ("arithmetic", arithmetic),
+    ("variables", variables),
+    ("set-text", set_text),
+    ("loop", page_loop),
+];
+
+/// Times the script of this name alone.
+pub fn measure_one(name: &str) {
+    for (known, body) in SCRIPTS {
+        if known == name {
+            report(known, &body());
+        }
+    }
 }
 
 pub fn measure() {
-    report("arithmetic", &arithmetic());
-    report("variables", &variables());
-    report("set-text", &set_text());
-    measure_loop();
+    for (name, body) in SCRIPTS {
+        report(name, &body());
+    }
     let stores = Stores::full();
     timed("fork", 3, || {
         black_box(black_box(&stores).clone());

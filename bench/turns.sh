@@ -1,9 +1,9 @@
 #!/bin/sh
-# Prints what a turn of the built program takes on a page whose handler never ends: under `plain -` and under `multi -`, in
-# nanoseconds of the processor and in instructions as callgrind counts them, beside a reduction of the same expression by the
-# same machine in plain Rust. The instructions are those of a tenth of the trace; what it takes without its clicks is taken off.
-# Of three runs each the fastest counts. Then it prints the most memory that a trace of 10,000 lines holds, beside one of 100
-# lines. It wants rustc and valgrind.
+# Prints what a turn of the built program takes on pages whose handler never ends (of arithmetic, of variables, of `set-text`,
+# and of a test of a text, the last under `plain -` and `multi -`), in nanoseconds of the processor and in instructions as
+# callgrind counts them, beside a reduction of the same expression by the same machine in plain Rust. The instructions are
+# those of a tenth of the trace; what it takes without its clicks is taken off. Of three runs each the fastest counts. Then it
+# prints the most memory that a trace of 10,000 lines holds, beside one of 100 lines. It wants rustc and valgrind.
 cd "$(dirname "$0")/.." || exit 1
 if [ ! -f crates/ffox/out/stamp ] || [ "$(scripts/stamp)" != "$(cat crates/ffox/out/stamp)" ]; then
     echo "turns: ./build has not built these sources" >&2
@@ -18,17 +18,20 @@ rustc -O -o "$work/plain" bench/plain.rs 2>"$work/errors" || { cat "$work/errors
 clicks=100
 turns=$((clicks * 10001))
 tenth=$((turns / 10))
-handler='(fn (n) (while (= (text (find (page (self)) "b")) "pin") null))'
-{
-    echo 'open http://a.com/'
-    echo "reply a.com 0 (doc () (box b \"\") (button g \"go\" $handler))"
-    echo 'type 0 0 "pin"'
-} >"$work/page"
-{
-    cat "$work/page"
-    yes 'click 0 0' | head -n "$clicks"
-} >"$work/loop"
-head -n $((3 + clicks / 10)) "$work/loop" >"$work/tenth"
+
+# The lines of a page whose button has a handler, as the file page; and those with all clicks, and with a tenth of them.
+write_traces() {
+    {
+        echo 'open http://a.com/'
+        echo "reply a.com 0 (doc () (box b \"\") (text t \"\") (button g \"go\" (fn (n) $1)))"
+        echo 'type 0 0 "pin"'
+    } >"$work/page"
+    {
+        cat "$work/page"
+        yes 'click 0 0' | head -n "$clicks"
+    } >"$work/loop"
+    head -n $((3 + clicks / 10)) "$work/loop" >"$work/tenth"
+}
 
 # A trace of so many lines, each of which changes the page.
 lines() {
@@ -55,20 +58,31 @@ instructions() {
     valgrind --tool=callgrind --callgrind-out-file=/dev/null "$@" 2>&1 >/dev/null | sed -n 's/.*Collected : //p'
 }
 
-theirs=$(fastest /dev/null "$work/plain" loop)
-reduction=$(($(instructions "$work/plain" loop) / 2000000))
-for command in plain multi; do
-    spent=$(fastest "$work/loop" "$program" $command -)
-    count=$(instructions "$program" $command - <"$work/tenth")
-    base=$(instructions "$program" $command - <"$work/page")
+# Prints what a turn takes of the handler that a name stands for, under a command.
+report() {
+    theirs=$(fastest /dev/null "$work/plain" script "$1")
+    reduction=$(($(instructions "$work/plain" script "$1") / 2000000))
+    spent=$(fastest "$work/loop" "$program" "$2" -)
+    count=$(instructions "$program" "$2" - <"$work/tenth")
+    base=$(instructions "$program" "$2" - <"$work/page")
     echo "$spent $turns $theirs $(((count - base) / tenth)) $reduction" |
-        awk -v command=$command '{
+        awk -v name="$1" -v command="$2" '{
             turn = $1 * 1e9 / $2
             reduction = $3 * 1e9 / 2000000
-            printf "%s -  %.0f ns a turn (%.0f a second), plain Rust %.0f ns, ratio %.1f; ", command, turn, 1e9 / turn, reduction, turn / reduction
+            printf "%s, %s -  %.0f ns a turn (%.0f a second), plain Rust %.0f ns, ratio %.1f; ", name, command, turn, 1e9 / turn, reduction, turn / reduction
             printf "%d instructions, plain Rust %d, ratio %.1f\n", $4, $5, $4 / $5
         }'
-done
+}
+
+write_traces '(while (< (% 7 5) (* 3 4)) (+ (- 5 6) (/ 8 2)))'
+report arithmetic plain
+write_traces '(do (let a 1) (let b 2) (while true (do (set a b) (set b a))))'
+report variables plain
+write_traces '(do (let n (find (page (self)) "t")) (while true (set-text n "ab")))'
+report set-text plain
+write_traces '(while (= (text (find (page (self)) "b")) "pin") null)'
+report loop plain
+report loop multi
 for command in plain multi; do
     for trace in short long; do
         /usr/bin/time -f "$command -, $(wc -l <"$work/$trace") lines  %M kB" "$program" $command - <"$work/$trace" 2>&1 >/dev/null
