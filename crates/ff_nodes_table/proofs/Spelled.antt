@@ -3,7 +3,7 @@ use Rattle.std.proofs.Common.{ℕ, List, arith, subst}
 use Rattle.ff_tree.specs.Spelled.{IsWellSpelledExpr}
 use Rattle.ff_tree.specs.declared.tree.Expr.{Expr}
 use Rattle.ff_tree.specs.declared.tree.Expr.TheVariants as expr
-use Rattle.ff_tree.proofs.Levels.{IsSpelledExpr-Make}
+use Rattle.ff_tree.proofs.Layers.{IsSpelledExpr-Make}
 use Rattle.ff_forms.proofs.Depths.{expr_depth-Make}
 use Rattle.ff_value.specs.Spelled.{IsWellSpelledCode}
 use Rattle.ff_value.specs.declared.ids.ActId.{ActId}
