@@ -1,9 +1,9 @@
 //! Values, replies, inputs with their kinds, and outputs.
 
 use ff_value::{
-    Act, ActId, Code, CookieOp, Domain, Expr, Fault, Input, Kind, Level, Lit, NoMemory, NodeId,
-    Offers, Out, Pair, Resp, Shared, SharedList, ShownPart, Text, Url, Val, WinId, Worded, by_word,
-    weight_resp,
+    Act, ActId, Code, CookieOp, Doc, Domain, Expr, Fault, Input, Kind, Level, Lit, Name, NoMemory,
+    NodeId, Offers, Out, Pair, Resp, Shared, SharedList, Shown, ShownPart, Text, Url, Val, WinId,
+    Worded, by_word, weight_resp,
 };
 use std::alloc::{AllocError, Global};
 use std::io;
@@ -15,6 +15,13 @@ fn text(alloc: Global, text: &str) -> Result<Text, NoMemory> {
 fn domain(alloc: Global) -> Result<Domain, NoMemory> {
     match Domain::of(alloc, b"a.com")? {
         Some(domain) => Ok(domain),
+        None => Err(AllocError),
+    }
+}
+
+fn name(alloc: Global) -> Result<Name, NoMemory> {
+    match Name::of(alloc, b"s")? {
+        Some(name) => Ok(name),
         None => Err(AllocError),
     }
 }
@@ -46,12 +53,30 @@ fn nested(alloc: Global, lists: usize) -> Result<ShownPart, NoMemory> {
     Ok(part)
 }
 
-fn sent(alloc: Global) -> Result<Out, NoMemory> {
-    let mut cookies = Vec::new(alloc);
-    cookies.push(Pair {
+/// `http://a.com/p`
+fn address(alloc: Global) -> Result<Url, NoMemory> {
+    Ok(Url::At(domain(alloc)?, text(alloc, "/p")?))
+}
+
+/// `("k" "v")`
+fn pair(alloc: Global) -> Result<Pair, NoMemory> {
+    Ok(Pair {
         key: text(alloc, "k")?,
         value: text(alloc, "v")?,
-    })?;
+    })
+}
+
+/// What the user is shown of a page of two parts.
+fn shown(alloc: Global) -> Result<Shown, NoMemory> {
+    let mut parts = Vec::new(alloc);
+    parts.push(shown_part(alloc, 0)?)?;
+    parts.push(shown_part(alloc, 1)?)?;
+    SharedList::from_vec(alloc, parts)
+}
+
+fn sent(alloc: Global) -> Result<Out, NoMemory> {
+    let mut cookies = Vec::new(alloc);
+    cookies.push(pair(alloc)?)?;
     Ok(Out::Send(
         domain(alloc)?,
         text(alloc, "/")?,
@@ -61,12 +86,12 @@ fn sent(alloc: Global) -> Result<Out, NoMemory> {
 }
 
 /// A function without parameters.
-fn thunk(alloc: Global, env: u32) -> Result<Val, NoMemory> {
-    Ok(Val::Code(Code {
+fn thunk(alloc: Global, env: u32) -> Result<Code, NoMemory> {
+    Ok(Code {
         params: SharedList::from_vec(alloc, Vec::new(alloc))?,
         body: Shared::new(alloc, Expr::Lit(Lit::Null))?,
         env: ActId(env),
-    }))
+    })
 }
 
 /// A cookie entry of each sort.
@@ -82,7 +107,9 @@ fn resp(alloc: Global, place: usize) -> Result<Resp, NoMemory> {
     match place {
         0 => {
             let cookies = SharedList::from_vec(alloc, Vec::new(alloc))?;
-            Ok(Resp::Page(cookies, SharedList::from_vec(alloc, Vec::new(alloc))?))
+            let mut docs = Vec::new(alloc);
+            docs.push(Doc::Src(name(alloc)?, address(alloc)?))?;
+            Ok(Resp::Page(cookies, SharedList::from_vec(alloc, docs)?))
         }
         1 => {
             let cookies = SharedList::from_vec(alloc, Vec::new(alloc))?;
@@ -96,7 +123,7 @@ fn resp(alloc: Global, place: usize) -> Result<Resp, NoMemory> {
 fn act(alloc: Global, place: usize) -> Result<Act, NoMemory> {
     match place {
         0 => Ok(Act::Opens(Url::Blank)),
-        1 => Ok(Act::Goes(1, Url::Blank)),
+        1 => Ok(Act::Goes(1, address(alloc)?)),
         2 => Ok(Act::Links(1, 2)),
         3 => Ok(Act::Closes(1)),
         4 => Ok(Act::Types(1, 2, text(alloc, "hi")?)),
@@ -109,7 +136,7 @@ fn act(alloc: Global, place: usize) -> Result<Act, NoMemory> {
 fn shown_part(alloc: Global, place: usize) -> Result<ShownPart, NoMemory> {
     match place {
         0 => Ok(ShownPart::Text(text(alloc, "hi")?)),
-        1 => Ok(ShownPart::Link(Url::Blank, text(alloc, "hi")?)),
+        1 => Ok(ShownPart::Link(address(alloc)?, text(alloc, "hi")?)),
         2 => Ok(ShownPart::TextBox(text(alloc, "hi")?)),
         3 => Ok(ShownPart::Button(text(alloc, "hi")?)),
         _ => nested(alloc, 2),
@@ -121,8 +148,8 @@ fn out(alloc: Global, place: usize) -> Result<Out, NoMemory> {
     match place {
         0 => Ok(Out::Opened),
         1 => Ok(Out::Closed(1)),
-        2 => Ok(Out::Loaded(1, Url::Blank, SharedList::from_vec(alloc, Vec::new(alloc))?)),
-        3 => Ok(Out::Updated(1, SharedList::from_vec(alloc, Vec::new(alloc))?)),
+        2 => Ok(Out::Loaded(1, address(alloc)?, shown(alloc)?)),
+        3 => Ok(Out::Updated(1, shown(alloc)?)),
         4 => Ok(Out::Error(1, Fault::Dead)),
         5 => Ok(Out::Stopped),
         _ => sent(alloc),
@@ -138,7 +165,7 @@ fn val(alloc: Global, place: usize) -> Result<Val, NoMemory> {
         3 => Ok(Val::Str(text(alloc, "hi")?)),
         4 => Ok(Val::Win(WinId(1))),
         5 => Ok(Val::Node(NodeId(1))),
-        _ => thunk(alloc, 3),
+        _ => Ok(Val::Code(thunk(alloc, 3)?)),
     }
 }
 
@@ -182,6 +209,11 @@ fn shown_part_at_is_copied(alloc: Global, place: usize) -> Result<bool, NoMemory
     shown_part_is_copied(&part)
 }
 
+fn pair_is_copied(pair: &Pair) -> Result<bool, NoMemory> {
+    let copy = pair.copy()?;
+    Ok(copy == *pair)
+}
+
 fn out_is_copied(out: &Out) -> Result<bool, NoMemory> {
     let copy = out.copy()?;
     Ok(copy == *out)
@@ -190,6 +222,11 @@ fn out_is_copied(out: &Out) -> Result<bool, NoMemory> {
 fn out_at_is_copied(alloc: Global, place: usize) -> Result<bool, NoMemory> {
     let out = out(alloc, place)?;
     out_is_copied(&out)
+}
+
+fn code_is_copied(code: &Code) -> Result<bool, NoMemory> {
+    let copy = code.copy()?;
+    Ok(copy == *code)
 }
 
 fn val_is_copied(val: &Val) -> Result<bool, NoMemory> {
@@ -254,6 +291,23 @@ fn show_outs(rt: &HostRuntime) -> io::Result<()> {
     Ok(())
 }
 
+fn show_pair(rt: &HostRuntime) -> io::Result<()> {
+    let pair = pair(rt.alloc())?;
+    let same = pair_is_copied(&pair)?;
+    println!(rt; "pair: {same}")
+}
+
+fn show_code(rt: &HostRuntime) -> io::Result<()> {
+    let code = thunk(rt.alloc(), 3)?;
+    let same = code_is_copied(&code)?;
+    println!(rt; "code: {same}")?;
+    let other = thunk(rt.alloc(), 4)?;
+    println!(rt;
+        "the one of another activation equals it: {}",
+        other == code
+    )
+}
+
 fn show_vals(rt: &HostRuntime) -> io::Result<()> {
     let sorts = [
         "null",
@@ -275,6 +329,11 @@ fn show_vals(rt: &HostRuntime) -> io::Result<()> {
 fn is_reply(alloc: Global, request: u32, input: &Input) -> Result<bool, NoMemory> {
     let other = reply(alloc, request)?;
     Ok(other == *input)
+}
+
+fn show_untagged(rt: &HostRuntime) -> io::Result<()> {
+    let same = input_is_copied(&opening())?;
+    println!(rt; "untagged input that opens a window: {same}")
 }
 
 fn show_reply(rt: &HostRuntime) -> io::Result<()> {
@@ -360,8 +419,11 @@ pub fn show(rt: &HostRuntime) -> io::Result<()> {
     show_resps(rt)?;
     show_acts(rt)?;
     show_shown_part(rt)?;
+    show_pair(rt)?;
     show_outs(rt)?;
+    show_code(rt)?;
     show_vals(rt)?;
+    show_untagged(rt)?;
     show_reply(rt)?;
     show_deepest(rt)?;
     println!(rt; "## Offers are kept in their order")?;
