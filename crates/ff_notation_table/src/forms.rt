@@ -1,21 +1,21 @@
-//! Documents, expressions and responses: what each is, and its canonical spelling.
+//! Documents, expressions and responses: what each is, what it weighs, and the canonical spelling of
+//! its copy.
 
 use crate::spelling::{address, text_of};
 use anyhow::{Result, bail};
 use ff_printing::{print_doc, print_expr, print_resp};
 use ff_reading::{read_doc, read_expr, read_resp};
 use ff_text::{MOST_BYTES, Sexp, read};
-use ff_value::{Doc, Expr, Lit, Resp, Worded};
+use ff_tree::weight_expr;
+use ff_value::{
+    CookieOp, Doc, Expr, Handler, Lit, NoMemory, Resp, Worded, weight_doc, weight_resp,
+};
 use std::alloc::Global;
 
 /// The document that the bytes spell, or why they spell none.
 pub fn document(alloc: Global, bytes: &[u8]) -> Result<String> {
     match read_doc(alloc, &item(alloc, bytes)?) {
-        Ok(doc) => {
-            let mut out = Vec::new(alloc);
-            print_doc(&doc, &mut out)?;
-            with_spelling(alloc, doc_words(alloc, &doc)?, out)
-        }
+        Ok(doc) => copied_doc(alloc, &doc),
         Err(fault) => Ok(format!(in alloc; "{fault}")?),
     }
 }
@@ -23,11 +23,7 @@ pub fn document(alloc: Global, bytes: &[u8]) -> Result<String> {
 /// The expression that the bytes spell, or why they spell none.
 pub fn expression(alloc: Global, bytes: &[u8]) -> Result<String> {
     match read_expr(alloc, &item(alloc, bytes)?) {
-        Ok(expr) => {
-            let mut out = Vec::new(alloc);
-            print_expr(&expr, &mut out)?;
-            with_spelling(alloc, expr_words(alloc, &expr)?, out)
-        }
+        Ok(expr) => copied_expr(alloc, &expr),
         Err(fault) => Ok(format!(in alloc; "{fault}")?),
     }
 }
@@ -35,11 +31,7 @@ pub fn expression(alloc: Global, bytes: &[u8]) -> Result<String> {
 /// The response that the bytes spell, or why they spell none.
 pub fn response(alloc: Global, bytes: &[u8]) -> Result<String> {
     match read_resp(alloc, &item(alloc, bytes)?) {
-        Ok(resp) => {
-            let mut out = Vec::new(alloc);
-            print_resp(&resp, &mut out)?;
-            with_spelling(alloc, resp_words(alloc, &resp)?, out)
-        }
+        Ok(resp) => copied_resp(alloc, &resp),
         Err(fault) => Ok(format!(in alloc; "{fault}")?),
     }
 }
@@ -51,10 +43,73 @@ fn item(alloc: Global, bytes: &[u8]) -> Result<Sexp> {
     Ok(read(alloc, bytes)?)
 }
 
-/// What a value is, and below it how it is spelled.
-fn with_spelling(alloc: Global, words: String, spelling: Vec<u8>) -> Result<String> {
+fn copied_doc(alloc: Global, doc: &Doc) -> Result<String> {
+    let copy = doc.copy()?;
+    if copy != *doc || !are_handlers_copied(handlers_of(doc))? {
+        bail!("a document isn't its copy");
+    }
+    let mut out = Vec::new(alloc);
+    print_doc(&copy, &mut out)?;
+    with_spelling(alloc, doc_words(alloc, doc)?, weight_doc(doc), out)
+}
+
+fn handlers_of(doc: &Doc) -> &[Handler] {
+    match doc {
+        Doc::TextBox(_, _, handlers) | Doc::Button(_, _, handlers) => handlers.as_slice(),
+        _ => &[],
+    }
+}
+
+fn are_handlers_copied(handlers: &[Handler]) -> Result<bool, NoMemory> {
+    for handler in handlers {
+        if handler.copy()? != *handler {
+            return Ok(false);
+        }
+    }
+    Ok(true)
+}
+
+fn copied_expr(alloc: Global, expr: &Expr) -> Result<String> {
+    let copy = expr.copy()?;
+    if copy != *expr {
+        bail!("an expression isn't its copy");
+    }
+    let mut out = Vec::new(alloc);
+    print_expr(&copy, &mut out)?;
+    with_spelling(alloc, expr_words(alloc, expr)?, weight_expr(expr), out)
+}
+
+fn copied_resp(alloc: Global, resp: &Resp) -> Result<String> {
+    let copy = resp.copy()?;
+    if copy != *resp || !are_cookies_copied(cookies_of(resp))? {
+        bail!("a response isn't its copy");
+    }
+    let mut out = Vec::new(alloc);
+    print_resp(&copy, &mut out)?;
+    with_spelling(alloc, resp_words(alloc, resp)?, weight_resp(resp), out)
+}
+
+fn cookies_of(resp: &Resp) -> &[CookieOp] {
+    match resp {
+        Resp::Page(cookies, _) | Resp::Script(cookies, _) | Resp::Data(cookies, _) => {
+            cookies.as_slice()
+        }
+    }
+}
+
+fn are_cookies_copied(cookies: &[CookieOp]) -> Result<bool, NoMemory> {
+    for cookie in cookies {
+        if cookie.copy()? != *cookie {
+            return Ok(false);
+        }
+    }
+    Ok(true)
+}
+
+/// What a value is and weighs, and below it how it is spelled.
+fn with_spelling(alloc: Global, words: String, weight: u64, spelling: Vec<u8>) -> Result<String> {
     let spelling = text_of(alloc, spelling)?;
-    Ok(format!(in alloc; "{words}\n{spelling}")?)
+    Ok(format!(in alloc; "{words}, weighs {weight}\n{spelling}")?)
 }
 
 fn doc_words(alloc: Global, doc: &Doc) -> Result<String> {

@@ -1,8 +1,8 @@
-//! Outputs that are printed at the level L.
+//! Outputs, of which copies are printed at the level L.
 
 use crate::shown::pairs_of;
 use crate::spelling::{text, whole_lines};
-use anyhow::{Context, Result};
+use anyhow::{Context, Result, bail};
 use ff_lattice::Lattice;
 use ff_trace::print_out;
 use ff_value::{Domain, Fault, Level, NoMemory, Out, Shown, ShownPart, Url};
@@ -13,7 +13,7 @@ pub fn show<R: Print>(rt: &R, alloc: Global) -> Result<()> {
     println!(rt; "# Each output, printed at the level L")?;
     show_out(rt, alloc, &Out::Opened)?;
     show_out(rt, alloc, &Out::Closed(7))?;
-    show_out(rt, alloc, &Out::Loaded(1, Url::Blank, page(alloc)?))?;
+    show_out(rt, alloc, &Out::Loaded(1, url(alloc)?, page(alloc)?))?;
     show_out(
         rt,
         alloc,
@@ -27,8 +27,12 @@ pub fn show<R: Print>(rt: &R, alloc: Global) -> Result<()> {
 
 fn show_out<R: Print>(rt: &R, alloc: Global, one: &Out) -> Result<()> {
     let lattice = Lattice::two(alloc)?;
+    let copy = one.copy()?;
+    if copy != *one {
+        bail!("an output isn't its copy");
+    }
     let mut out = Vec::new(alloc);
-    print_out(Level(0), &lattice, one, &mut out)?;
+    print_out(Level(0), &lattice, &copy, &mut out)?;
     print!(rt; "  {}", whole_lines(alloc, out)?)?;
     Ok(())
 }
@@ -46,6 +50,10 @@ fn show_faults<R: Print>(rt: &R, alloc: Global) -> Result<()> {
         show_out(rt, alloc, &Out::Error(win, fault))?;
     }
     Ok(())
+}
+
+fn url(alloc: Global) -> Result<Url> {
+    Ok(Url::read(alloc, b"http://a.com/p")?)
 }
 
 /// A link, a button, and a division of a text and a text box.

@@ -1,14 +1,14 @@
 //! Prints what the crates of words answer: for each line of the input how a text is read as an
-//! address, a name, a domain or a number, and then shared values, documents, expressions, values,
-//! inputs and outputs, with their copies, weights and words.
+//! address, a name, a domain or a number, and then shared values, operators, the values of scripts,
+//! offers, kinds and faults.
 //!
 //! A line is a sort, a blank and a text; `lines.rt` has the sorts. A line that begins with `#` is
 //! a heading, and printed as it is.
 #![tactic(auto)]
 
 mod lines;
+mod operators;
 mod shared;
-mod trees;
 mod values;
 
 use anyhow::Result;
@@ -21,7 +21,7 @@ fn main(rt: HostRuntime) -> Result<()> {
     }
     lines::show_bytes(&rt)?;
     shared::show(&rt)?;
-    trees::show(&rt)?;
+    operators::show(&rt)?;
     values::show(&rt)?;
     Ok(())
 }
