@@ -1,5 +1,5 @@
-//! Documents, expressions and responses: what each is, what it weighs, and the canonical spelling of
-//! its copy.
+//! Documents, expressions and responses: what each is, what it weighs, and its canonical spelling, where
+//! it equals its copy.
 
 use crate::spelling::{address, text_of};
 use anyhow::{Result, bail};
@@ -15,7 +15,7 @@ use std::alloc::Global;
 /// The document that the bytes spell, or why they spell none.
 pub fn document(alloc: Global, bytes: &[u8]) -> Result<String> {
     match read_doc(alloc, &item(alloc, bytes)?) {
-        Ok(doc) => copied_doc(alloc, &doc),
+        Ok(doc) => spelled_doc(alloc, &doc),
         Err(fault) => Ok(format!(in alloc; "{fault}")?),
     }
 }
@@ -23,7 +23,7 @@ pub fn document(alloc: Global, bytes: &[u8]) -> Result<String> {
 /// The expression that the bytes spell, or why they spell none.
 pub fn expression(alloc: Global, bytes: &[u8]) -> Result<String> {
     match read_expr(alloc, &item(alloc, bytes)?) {
-        Ok(expr) => copied_expr(alloc, &expr),
+        Ok(expr) => spelled_expr(alloc, &expr),
         Err(fault) => Ok(format!(in alloc; "{fault}")?),
     }
 }
@@ -31,7 +31,7 @@ pub fn expression(alloc: Global, bytes: &[u8]) -> Result<String> {
 /// The response that the bytes spell, or why they spell none.
 pub fn response(alloc: Global, bytes: &[u8]) -> Result<String> {
     match read_resp(alloc, &item(alloc, bytes)?) {
-        Ok(resp) => copied_resp(alloc, &resp),
+        Ok(resp) => spelled_resp(alloc, &resp),
         Err(fault) => Ok(format!(in alloc; "{fault}")?),
     }
 }
@@ -43,14 +43,18 @@ fn item(alloc: Global, bytes: &[u8]) -> Result<Sexp> {
     Ok(read(alloc, bytes)?)
 }
 
-fn copied_doc(alloc: Global, doc: &Doc) -> Result<String> {
-    let copy = doc.copy()?;
-    if copy != *doc || !are_handlers_copied(handlers_of(doc))? {
+fn spelled_doc(alloc: Global, doc: &Doc) -> Result<String> {
+    if !is_doc_copied(doc)? || !are_handlers_copied(handlers_of(doc))? {
         bail!("a document isn't its copy");
     }
     let mut out = Vec::new(alloc);
-    print_doc(&copy, &mut out)?;
+    print_doc(doc, &mut out)?;
     with_spelling(alloc, doc_words(alloc, doc)?, weight_doc(doc), out)
+}
+
+fn is_doc_copied(doc: &Doc) -> Result<bool, NoMemory> {
+    let copy = doc.copy()?;
+    Ok(copy == *doc)
 }
 
 fn handlers_of(doc: &Doc) -> &[Handler] {
@@ -62,31 +66,44 @@ fn handlers_of(doc: &Doc) -> &[Handler] {
 
 fn are_handlers_copied(handlers: &[Handler]) -> Result<bool, NoMemory> {
     for handler in handlers {
-        if handler.copy()? != *handler {
+        if !is_handler_copied(handler)? {
             return Ok(false);
         }
     }
     Ok(true)
 }
 
-fn copied_expr(alloc: Global, expr: &Expr) -> Result<String> {
-    let copy = expr.copy()?;
-    if copy != *expr {
+fn is_handler_copied(handler: &Handler) -> Result<bool, NoMemory> {
+    let copy = handler.copy()?;
+    Ok(copy == *handler)
+}
+
+fn spelled_expr(alloc: Global, expr: &Expr) -> Result<String> {
+    if !is_expr_copied(expr)? {
         bail!("an expression isn't its copy");
     }
     let mut out = Vec::new(alloc);
-    print_expr(&copy, &mut out)?;
+    print_expr(expr, &mut out)?;
     with_spelling(alloc, expr_words(alloc, expr)?, weight_expr(expr), out)
 }
 
-fn copied_resp(alloc: Global, resp: &Resp) -> Result<String> {
-    let copy = resp.copy()?;
-    if copy != *resp || !are_cookies_copied(cookies_of(resp))? {
+fn is_expr_copied(expr: &Expr) -> Result<bool, NoMemory> {
+    let copy = expr.copy()?;
+    Ok(copy == *expr)
+}
+
+fn spelled_resp(alloc: Global, resp: &Resp) -> Result<String> {
+    if !is_resp_copied(resp)? || !are_cookies_copied(cookies_of(resp))? {
         bail!("a response isn't its copy");
     }
     let mut out = Vec::new(alloc);
-    print_resp(&copy, &mut out)?;
+    print_resp(resp, &mut out)?;
     with_spelling(alloc, resp_words(alloc, resp)?, weight_resp(resp), out)
+}
+
+fn is_resp_copied(resp: &Resp) -> Result<bool, NoMemory> {
+    let copy = resp.copy()?;
+    Ok(copy == *resp)
 }
 
 fn cookies_of(resp: &Resp) -> &[CookieOp] {
@@ -99,11 +116,16 @@ fn cookies_of(resp: &Resp) -> &[CookieOp] {
 
 fn are_cookies_copied(cookies: &[CookieOp]) -> Result<bool, NoMemory> {
     for cookie in cookies {
-        if cookie.copy()? != *cookie {
+        if !is_cookie_copied(cookie)? {
             return Ok(false);
         }
     }
     Ok(true)
+}
+
+fn is_cookie_copied(cookie: &CookieOp) -> Result<bool, NoMemory> {
+    let copy = cookie.copy()?;
+    Ok(copy == *cookie)
 }
 
 /// What a value is and weighs, and below it how it is spelled.

@@ -1,5 +1,5 @@
-//! Prints each line of its input and what a call of the notation makes of it. Of each value that was
-//! read or made it prints a copy, and it ends with an error where that isn't equal.
+//! Prints each line of its input and what a call of the notation makes of it. Each value that is read or
+//! made is compared with its copy, and the table ends with an error where the two aren't equal.
 //!
 //! A line is the word of a call, a blank, and what the call is given, in which `%HH` stands for the
 //! byte of that value. A line that begins with `#` is a heading. Rows follow whose values no line

@@ -1,4 +1,4 @@
-//! Outputs, of which copies are printed at the level L.
+//! Outputs, which equal their copies, printed at the level L.
 
 use crate::shown::pairs_of;
 use crate::spelling::{text, whole_lines};
@@ -26,15 +26,19 @@ pub fn show<R: Print>(rt: &R, alloc: Global) -> Result<()> {
 }
 
 fn show_out<R: Print>(rt: &R, alloc: Global, one: &Out) -> Result<()> {
-    let lattice = Lattice::two(alloc)?;
-    let copy = one.copy()?;
-    if copy != *one {
+    if !is_copied(one)? {
         bail!("an output isn't its copy");
     }
+    let lattice = Lattice::two(alloc)?;
     let mut out = Vec::new(alloc);
-    print_out(Level(0), &lattice, &copy, &mut out)?;
+    print_out(Level(0), &lattice, one, &mut out)?;
     print!(rt; "  {}", whole_lines(alloc, out)?)?;
     Ok(())
+}
+
+fn is_copied(one: &Out) -> Result<bool, NoMemory> {
+    let copy = one.copy()?;
+    Ok(copy == *one)
 }
 
 fn show_faults<R: Print>(rt: &R, alloc: Global) -> Result<()> {

@@ -29,11 +29,16 @@ fn show_page<R: Print>(rt: &R, alloc: Global, page: &Shown) -> Result<()> {
 
 fn are_parts_copied(parts: &[ShownPart]) -> Result<bool, NoMemory> {
     for part in parts {
-        if part.copy()? != *part {
+        if !is_part_copied(part)? {
             return Ok(false);
         }
     }
     Ok(true)
+}
+
+fn is_part_copied(part: &ShownPart) -> Result<bool, NoMemory> {
+    let copy = part.copy()?;
+    Ok(copy == *part)
 }
 
 /// A link, a division of a text box and a button, a text, a text box and a button.
@@ -64,11 +69,16 @@ fn show_pairs<R: Print>(rt: &R, alloc: Global, pairs: &[(&str, &str)]) -> Result
 
 fn are_pairs_copied(pairs: &[Pair]) -> Result<bool, NoMemory> {
     for pair in pairs {
-        if pair.copy()? != *pair {
+        if !is_pair_copied(pair)? {
             return Ok(false);
         }
     }
     Ok(true)
+}
+
+fn is_pair_copied(pair: &Pair) -> Result<bool, NoMemory> {
+    let copy = pair.copy()?;
+    Ok(copy == *pair)
 }
 
 /// Keys and values.
