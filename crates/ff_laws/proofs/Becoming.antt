@@ -14,8 +14,8 @@ use Rattle.ff_term.specs.Running.{Running, Evaluation, redex, innermost, is_valu
 use Rattle.ff_term.specs.Calls.{calls_around}
 use Rattle.ff_term.specs.Redexes.{read_redex}
 use Rattle.ff_term.specs.declared.TheConstants.{MOST_CALLS}
-use Rattle.ff_term.specs.declared.redex.Redex.{Redex}
-use Rattle.ff_term.specs.declared.redex.Redex.TheVariants as read
+use Rattle.ff_term.specs.Redex.{Redex}
+use Rattle.ff_term.specs.Redex as read
 use Rattle.ff_term.proofs.Keeping.{branch-meets, redex-meets}
 use Rattle.ff_term.proofs.Redexes.{redex-is-read}
 use Rattle.ff_machine.specs.Windows as windows

@@ -25,8 +25,8 @@ use Rattle.ff_value.specs.declared.value.Val.TheVariants as val
 use Rattle.ff_term.specs.Running.{Running, Evaluation, redex, innermost, is_value}
 use Rattle.ff_term.specs.Calls.{calls_around}
 use Rattle.ff_term.specs.Redexes.{read_redex}
-use Rattle.ff_term.specs.declared.redex.Redex.{Redex}
-use Rattle.ff_term.specs.declared.redex.Redex.TheVariants as read
+use Rattle.ff_term.specs.Redex.{Redex}
+use Rattle.ff_term.specs.Redex as read
 use Rattle.ff_term.proofs.Redexes.{redex-is-read}
 use Rattle.ff_operators.specs.declared.answer.Applied.{Applied}
 use Rattle.ff_operators.specs.Operands.{with_operands, no_operands, one_str, two_strs, one_win, win_str, one_node, node_str, node_num, node_str_num, nodes_num, node_code, strs_code}

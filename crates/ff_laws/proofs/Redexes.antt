@@ -9,7 +9,7 @@ use Rattle.ff_term.specs.Running.{Running, redex, rewritten, innermost}
 use Rattle.ff_term.specs.Rows.{local_row}
 use Rattle.ff_term.specs.Whole.{whole, literal}
 use Rattle.ff_term.specs.Redexes.{IsRedexOf}
-use Rattle.ff_term.specs.declared.redex.Redex.{Redex}
+use Rattle.ff_term.specs.Redex.{Redex}
 use Rattle.ff_term.proofs.Keeping.{rewritten-meets, local-meets, innermost-meets}
 use Rattle.ff_term.proofs.Sound.{gives-sound}
 use Rattle.ff_term.specs.Sources.{TakesSources}

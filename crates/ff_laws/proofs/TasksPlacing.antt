@@ -13,8 +13,8 @@ use Rattle.ff_term.specs.Running.{Running, Evaluation, redex, innermost, insides
 use Rattle.ff_term.specs.Calls.{calls_around, CallsStandAround}
 use Rattle.ff_term.specs.Redexes.{read_redex}
 use Rattle.ff_term.specs.declared.TheConstants.{MOST_CALLS}
-use Rattle.ff_term.specs.declared.redex.Redex.{Redex}
-use Rattle.ff_term.specs.declared.redex.Redex.TheVariants as read
+use Rattle.ff_term.specs.Redex.{Redex}
+use Rattle.ff_term.specs.Redex as read
 use Rattle.ff_term.proofs.Calls.{at_most_all, redex-around, rewritten-around, local-around, branch-around, entered-around}
 use Rattle.ff_term.proofs.Sources.{source}
 use Rattle.ff_machine.specs.Windows as windows

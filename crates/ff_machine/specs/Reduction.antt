@@ -23,8 +23,8 @@ use Rattle.ff_term.specs.Calls.{calls_around}
 use Rattle.ff_term.specs.Whole.{whole}
 use Rattle.ff_term.specs.Redexes.{read_redex}
 use Rattle.ff_term.specs.Rows.{local_row, branch}
-use Rattle.ff_term.specs.declared.redex.Redex.{Redex}
-use Rattle.ff_term.specs.declared.redex.Redex.TheVariants as redex
+use Rattle.ff_term.specs.Redex.{Redex}
+use Rattle.ff_term.specs.Redex as redex
 use Rattle.ff_machine.specs.declared.reduced.Reduced.{Reduced}
 use Rattle.ff_machine.specs.declared.reduced.Reduced.TheVariants as answer
 use Rattle.ff_machine.specs.Operators.{Outcome, operate, unless, gives, does}

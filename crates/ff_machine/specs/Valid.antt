@@ -10,7 +10,7 @@ use Rattle.ff_value.specs.declared.ids.PageId.{PageId}
 use Rattle.ff_value.specs.declared.value.Code.{Code}
 use Rattle.ff_value.specs.declared.value.Val.{Val}
 use Rattle.ff_value.specs.declared.value.Val.TheVariants as val
-use Rattle.ff_term.specs.declared.redex.Redex.{Redex}
+use Rattle.ff_term.specs.Redex.{Redex}
 use Rattle.ff_term.specs.Running.{Running}
 use Rattle.ff_term.specs.declared.TheConstants.{MOST_CALLS}
 use Rattle.ff_term.specs.Calls.{CallsStandAround, calls_around}

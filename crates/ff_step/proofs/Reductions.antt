@@ -2,7 +2,7 @@
 use Rattle.std.proofs.Common.{◌≡◌, false, Option, Some, sym, ap, ◌∙◌}
 use Rattle.ff_value.specs.declared.ids.PageId.{PageId}
 use Rattle.ff_value.specs.declared.value.Val.{Val}
-use Rattle.ff_term.specs.declared.redex.Redex.{Redex}
+use Rattle.ff_term.specs.Redex.{Redex}
 use Rattle.ff_term.specs.Running as term
 use Rattle.ff_term.specs.Running.{Running, Evaluation, Done, innermost, is_value, value_of}
 use Rattle.ff_term.specs.Calls.{calls_around}

@@ -3,8 +3,8 @@ use Rattle.std.specs.Prelude.{ℕ, ◌+◌, ◌*◌, length}
 use Rattle.ff_value.specs.declared.ids.ActId.{ActId}
 use Rattle.ff_value.specs.declared.value.Val.{Val}
 use Rattle.ff_value.specs.declared.value.Val.TheVariants as val
-use Rattle.ff_term.specs.declared.redex.Redex.{Redex}
-use Rattle.ff_term.specs.declared.redex.Redex.TheVariants as redex
+use Rattle.ff_term.specs.Redex.{Redex}
+use Rattle.ff_term.specs.Redex as redex
 use Rattle.ff_term.specs.Redexes.{read_redex}
 use Rattle.ff_term.specs.Running as term
 use Rattle.ff_term.specs.Running.{Evaluation, innermost}

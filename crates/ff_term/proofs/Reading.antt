@@ -4,8 +4,8 @@ use Rattle.ff_value.specs.declared.value.Val.{Val}
 use Rattle.ff_term.specs.Running.{Running, Done, Var, Let, Set, If, While, Do, And, Or, Make, Apply, Tree, Prim, Inside, is_value, value_of}
 use Rattle.ff_term.specs.Rows.{IsLocal}
 use Rattle.ff_term.specs.Redexes.{IsRedexOf, read_redex}
-use Rattle.ff_term.specs.declared.redex.Redex.{Redex}
-use Rattle.ff_term.specs.declared.redex.Redex.TheVariants as read
+use Rattle.ff_term.specs.Redex.{Redex}
+use Rattle.ff_term.specs.Redex as read
 use Rattle.ff_term.proofs.Keeping.{vals_of_values}
 
 local-read : (e : Running) → IsLocal e → read.Local ≡ read_redex e

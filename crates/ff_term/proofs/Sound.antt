@@ -9,8 +9,8 @@ use Rattle.ff_value.specs.declared.value.Val.{Val}
 use Rattle.ff_term.specs.Running.{Running, Runnings, Done, Var, Let, Set, If, While, Do, And, Or, Make, Apply, Tree, Prim, Inside, none, more, redex, values}
 use Rattle.ff_term.specs.Meets.{Conditions, Meets, MeetAll, how_many}
 use Rattle.ff_term.specs.Redexes.{IsRedexOf, GivesSound}
-use Rattle.ff_term.specs.declared.redex.Redex.{Redex}
-use Rattle.ff_term.specs.declared.redex.Redex.TheVariants as read
+use Rattle.ff_term.specs.Redex.{Redex}
+use Rattle.ff_term.specs.Redex as read
 use Rattle.ff_term.proofs.Keeping.{redex-meets, many-values}
 
 -- each of the first conditions gives the second one

@@ -5,5 +5,5 @@ pub mod Whole
 pub mod Rows
 pub mod Meets
 pub mod Sources
+pub mod Redex
 pub mod Redexes
-pub mod Few

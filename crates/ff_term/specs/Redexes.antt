@@ -5,8 +5,8 @@ use Rattle.ff_value.specs.declared.value.Val.TheVariants as val
 use Rattle.ff_term.specs.Running.{Running, Done, Var, Let, Set, If, Make, Apply, Tree, Prim, values, vals_of}
 use Rattle.ff_term.specs.Rows.{IsLocal}
 use Rattle.ff_term.specs.Meets.{Conditions}
-use Rattle.ff_term.specs.declared.redex.Redex.{Redex}
-use Rattle.ff_term.specs.declared.redex.Redex.TheVariants as redex
+use Rattle.ff_term.specs.Redex.{Redex}
+use Rattle.ff_term.specs.Redex as redex
 
 -- the redex that was read is the expression
 abbrev pub IsRedexOf : Redex → Running → Type 0
