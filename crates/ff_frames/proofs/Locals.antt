@@ -7,8 +7,8 @@ use Rattle.ff_term.specs.Running.{Running, Done, Do, more}
 use Rattle.ff_term.specs.Rows.{branch, local_row}
 use Rattle.ff_term.specs.Whole.{wholes}
 use Rattle.ff_term.proofs.Forms.{whole-While}
-use Rattle.ff_frames.specs.declared.frame.Frame.{Frame}
-use Rattle.ff_frames.specs.declared.frame.Frame.TheVariants as frame
+use Rattle.ff_frames.specs.Frame.{Frame}
+use Rattle.ff_frames.specs.Frame as frame
 use Rattle.ff_frames.specs.declared.frame.Focus.{Focus}
 use Rattle.ff_frames.specs.declared.frame.Focus.TheVariants as focus
 use Rattle.ff_frames.specs.Frames.{around, shown}

@@ -11,8 +11,8 @@ use Rattle.ff_term.specs.Whole.{wholes}
 use Rattle.ff_term.specs.Calls.{calls_around, calls_around_among}
 use Rattle.ff_term.proofs.Calls.{wholes-around}
 use Rattle.ff_term.proofs.Sources.{source, sources_of}
-use Rattle.ff_frames.specs.declared.frame.Frame.{Frame}
-use Rattle.ff_frames.specs.declared.frame.Frame.TheVariants as frame
+use Rattle.ff_frames.specs.Frame.{Frame}
+use Rattle.ff_frames.specs.Frame as frame
 use Rattle.ff_frames.specs.Frames.{after, around, wrap, outside, base_of, plug, is_call, calls}
 use Rattle.ff_frames.specs.Seeking.{IsFull, IsTopFull, top_or}
 

@@ -16,8 +16,8 @@ use Rattle.ff_term.specs.Running.{Running, Apply, Done, Inside, none, more, Eval
 use Rattle.ff_term.specs.Whole.{whole, layer}
 use Rattle.ff_term.specs.Rows.{IsLocal, IsTest}
 use Rattle.ff_term.proofs.Forms.{whole-layer}
-use Rattle.ff_frames.specs.declared.frame.Frame.{Frame}
-use Rattle.ff_frames.specs.declared.frame.Frame.TheVariants as frame
+use Rattle.ff_frames.specs.Frame.{Frame}
+use Rattle.ff_frames.specs.Frame as frame
 use Rattle.ff_frames.specs.declared.frame.Focus.{Focus}
 use Rattle.ff_frames.specs.declared.frame.Focus.TheVariants as focus
 use Rattle.ff_frames.specs.declared.stack.Stack.{Stack}

@@ -11,7 +11,7 @@ use Rattle.ff_value.specs.declared.value.Val.{Val}
 use Rattle.ff_term.specs.Running.{Running, Runnings, Done, Prim, more}
 use Rattle.ff_term.specs.Whole.{whole, wholes, literal, layer}
 use Rattle.ff_term.proofs.Forms.{whole-layer, whole-Lit}
-use Rattle.ff_frames.specs.declared.frame.Frame.TheVariants as frame
+use Rattle.ff_frames.specs.Frame as frame
 use Rattle.ff_frames.specs.declared.frame.Focus.{Focus}
 use Rattle.ff_frames.specs.declared.frame.Focus.TheVariants as focus
 use Rattle.ff_frames.specs.Frames.{operands, after, around}

@@ -9,8 +9,8 @@ use Rattle.ff_value.specs.declared.value.Val.{Val}
 use Rattle.ff_term.specs.Running.{Running, Done, Prim, none, is_value, are_values, redex, rewritten}
 use Rattle.ff_term.specs.Whole.{whole, layer}
 use Rattle.ff_term.proofs.Forms.{whole-layer}
-use Rattle.ff_frames.specs.declared.frame.Frame.{Frame}
-use Rattle.ff_frames.specs.declared.frame.Frame.TheVariants as frame
+use Rattle.ff_frames.specs.Frame.{Frame}
+use Rattle.ff_frames.specs.Frame as frame
 use Rattle.ff_frames.specs.Frames.{operands, after, around, wrap, outside, base_of, plug, is_call, calls}
 use Rattle.ff_frames.specs.Seeking.{IsFull, IsTopFull, IsRow}
 use Rattle.ff_frames.proofs.Plugs.{plug_rewritten, plug_redex, wrap_value, base-snoc, plug-snoc, calls-snoc, full-snoc}

@@ -4,7 +4,7 @@ use Rattle.ff_tree.specs.declared.tree.Expr.{Expr, out-Expr}
 use Rattle.ff_value.specs.declared.value.Val.{Val}
 use Rattle.ff_term.specs.Running.{Running, Done}
 use Rattle.ff_term.specs.Whole.{whole}
-use Rattle.ff_frames.specs.declared.frame.Frame.{Frame}
+use Rattle.ff_frames.specs.Frame.{Frame}
 use Rattle.ff_frames.specs.declared.frame.Focus.{Focus}
 use Rattle.ff_frames.specs.declared.frame.Focus.TheVariants as focus
 use Rattle.ff_frames.specs.declared.frame.Step.{Step}

@@ -10,8 +10,8 @@ use Rattle.ff_value.specs.declared.value.Val.{Val}
 use Rattle.ff_value.specs.declared.value.Val.TheVariants as val
 use Rattle.ff_term.specs.Running.{Running, Runnings, Done, Let, Set, If, While, Do, Apply, Prim, Inside, none, more}
 use Rattle.ff_term.specs.Whole.{whole, wholes}
-use Rattle.ff_frames.specs.declared.frame.Frame.{Frame}
-use Rattle.ff_frames.specs.declared.frame.Frame.TheVariants as frame
+use Rattle.ff_frames.specs.Frame.{Frame}
+use Rattle.ff_frames.specs.Frame as frame
 use Rattle.ff_frames.specs.declared.frame.Focus.{Focus}
 use Rattle.ff_frames.specs.declared.frame.Focus.TheVariants as focus
 

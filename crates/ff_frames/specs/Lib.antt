@@ -1,6 +1,9 @@
 pub mod Places
+pub mod Frame
+pub mod Heads
 pub mod Frames
 pub mod Loads
 pub mod Seeking
 pub mod Stacks
 pub mod Rewrites
+pub mod Lent

@@ -6,8 +6,8 @@ use Rattle.ff_tree.specs.declared.tree.Expr.{Expr, out-Expr}
 use Rattle.ff_tree.specs.declared.tree.Handler.{Handler}
 use Rattle.ff_tree.specs.declared.tree.Doc.TheOpen.{Expr-F}
 use Rattle.ff_tree.specs.declared.tree.Doc.TheFolds.{fold-Doc, fold-Expr, fold-Handler, map-Expr}
-use Rattle.ff_frames.specs.declared.frame.Frame.{Frame}
-use Rattle.ff_frames.specs.declared.frame.Frame.TheVariants as frame
+use Rattle.ff_frames.specs.Frame.{Frame}
+use Rattle.ff_frames.specs.Frame as frame
 use Rattle.ff_frames.specs.declared.frame.Focus.{Focus}
 use Rattle.ff_frames.specs.declared.frame.Focus.TheVariants as focus
 use Rattle.ff_frames.specs.Frames.{operands}

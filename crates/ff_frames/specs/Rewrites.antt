@@ -1,27 +1,29 @@
 -- What is put for a redex.
-use Rattle.std.specs.Prelude.{◌≡◌, ◌+◌, ℕ, List, drop, Option, Some, None}
+use Rattle.std.specs.Prelude.{◌≡◌, ◌+◌, ℕ, List, [], ◌∷◌, drop, Option, Some, None}
 use Rattle.ff_tree.specs.declared.tree.Doc.{Doc}
 use Rattle.ff_tree.specs.declared.tree.Expr.{Expr, out-Expr}
 use Rattle.ff_tree.specs.declared.tree.Handler.{Handler}
 use Rattle.ff_tree.specs.declared.tree.Doc.TheOpen.{Expr-F}
-use Rattle.ff_frames.specs.declared.frame.Frame.{Frame}
-use Rattle.ff_frames.specs.declared.frame.Frame.TheVariants as frame
+use Rattle.ff_frames.specs.declared.frame.Head.{Head}
+use Rattle.ff_frames.specs.declared.frame.Head.TheVariants as head
+use Rattle.ff_frames.specs.Heads.{held, with_values}
 use Rattle.ff_frames.specs.declared.frame.Focus.{Focus}
 use Rattle.ff_frames.specs.declared.frame.Taken.{Taken}
 use Rattle.ff_frames.specs.declared.frame.Taken.TheVariants as taken_out
 use Rattle.ff_value.specs.declared.ids.ActId.{ActId}
 use Rattle.ff_value.specs.declared.value.Code.{Code}
+use Rattle.ff_value.specs.declared.value.Val.{Val}
 use Rattle.ff_value.specs.declared.value.Val.TheVariants as val
 use Rattle.ff_term.specs.Running.{Running, Apply, Do, Done, none, more}
-use Rattle.ff_frames.specs.Frames.{wrap, outside, is_call, shown}
+use Rattle.ff_frames.specs.Frames.{wrap, is_call, shown}
 use Rattle.ff_frames.specs.Seeking.{IsRow, IsSettled}
 use Rattle.ff_term.specs.Rows.{IsLocal}
 use Rattle.ff_term.specs.Whole.{layer, wholes}
 
--- the redex that was taken out of an activation
-abbrev pub taken : Taken → ActId → Running
-taken (taken_out.Form e) a = layer (out-Expr e)
-taken (taken_out.Full f v) a = wrap f a (Done v)
+-- the redex that was taken out of an activation, where its frame had the values
+abbrev pub taken : List Val → Taken → ActId → Running
+taken vs (taken_out.Form e) a = layer (out-Expr e)
+taken vs (taken_out.Full h v) a = wrap (with_values h vs) a (Done v)
 
 -- a form is a redex as it stands
 abbrev pub IsRedex : Taken → Type 0
@@ -29,25 +31,25 @@ IsRedex (taken_out.Form e) = IsRow (out-Expr e)
 IsRedex (taken_out.Full f v) = Unit {0}
 
 -- x with the frame around it, if there is one
-abbrev pub within : Option Frame → ActId → Running → Running
+abbrev pub within : Option Head → ActId → Running → Running
 within None a x = x
-within (Some f) a x = wrap f a x
+within (Some h) a x = wrap (with_values h []) a x
 
--- if there is one, it is no call
-abbrev pub IsNoCall : Option Frame → Type 0
+-- if there is one, it is no call, and holds no value
+abbrev pub IsNoCall : Option Head → Type 0
 IsNoCall None = Unit {0}
-IsNoCall (Some f) = is_call f ≡ 0
+IsNoCall (Some h) = (is_call (with_values h []) ≡ 0) × (held h ≡ 0)
 
 -- a part at hand, perhaps with a frame around it, that stands for t
-pub record IsPut (t : ActId → Running) (p : Option Frame × Focus) : Type 0 where
+pub record IsPut (t : ActId → Running) (p : Option Head × Focus) : Type 0 where
   pub same : (a : ActId) → within p.0 a (shown p.1) ≡ t a
   pub settled : IsSettled p.1
   pub no_call : IsNoCall p.0
 
 -- the parts of a `do` after a place stand after the part at hand
-pub record IsRest (es : List Expr) (n : ℕ) (f : Frame) : Type 0 where
-  pub same : (a : ActId) (x : Running) → wrap f a x ≡ Do (more x (wholes (drop (n + 1) es)))
-  pub no_call : is_call f ≡ 0
+pub record IsRest (es : List Expr) (n : ℕ) (h : Head) : Type 0 where
+  pub same : (a : ActId) (x : Running) → wrap (with_values h []) a x ≡ Do (more x (wholes (drop (n + 1) es)))
+  pub no_call : (is_call (with_values h []) ≡ 0) × (held h ≡ 0)
 
 -- the test that is evaluated before a branch is taken, of a form that becomes an `if`
 abbrev pub test_of : Expr-F Doc Expr Handler → Option Expr
@@ -66,7 +68,7 @@ IsIf _ = ⊥
 
 -- a value in its place around a test
 abbrev pub IsTested : Taken → Type 0
-IsTested (taken_out.Full (frame.Part e vs) v) = IsIf (out-Expr e)
+IsTested (taken_out.Full (head.Part e n) v) = IsIf (out-Expr e)
 IsTested _ = ⊥
 
 -- a form that stands for a `do` around the part at hand
@@ -79,8 +81,8 @@ IsDo (Expr-F.Tree d) = Unit {0}
 IsDo _ = ⊥
 
 -- a frame whose form has no other operand, and which goes once the part at hand is a value
-abbrev pub IsEnding : Frame → Type 0
-IsEnding (frame.Part e vs) = IsDo (out-Expr e)
+abbrev pub IsEnding : Head → Type 0
+IsEnding (head.Part e n) = IsDo (out-Expr e)
 IsEnding _ = Unit {0}
 
 -- a redex that no store decides
@@ -89,7 +91,6 @@ IsLocalOut (taken_out.Form e) = IsLocal (layer (out-Expr e))
 IsLocalOut (taken_out.Full f v) = IsEnding f
 
 -- around the one argument of a function
-pub record IsCallFrame (code : Code) (f : Frame) : Type 0 where
-  pub expr : (a : ActId) (x : Running) → wrap f a x ≡ Apply (Done (val.Code code)) (more x none)
-  pub outside : (a : ActId) → outside f a ≡ a
-  pub call : is_call f ≡ 0
+pub record IsCallFrame (code : Code) (h : Head) : Type 0 where
+  pub expr : (a : ActId) (x : Running) → wrap (with_values h (val.Code code ∷ [])) a x ≡ Apply (Done (val.Code code)) (more x none)
+  pub one : held h ≡ 1

@@ -1,5 +1,5 @@
 -- Where the walk to the redex ends, and what it keeps.
-use Rattle.std.specs.Prelude.{◌≡◌, ◌+◌, ◌<◌, List, [], ◌∷◌, length, slice_get, Option, None, Some}
+use Rattle.std.specs.Prelude.{◌≡◌, ◌+◌, ◌<◌, Bool, true, false, cond, List, [], ◌∷◌, length, slice_get, Option, None, Some}
 use Rattle.std.proofs.Common.{suc}
 use Rattle.ff_tree.specs.declared.tree.Doc.{Doc}
 use Rattle.ff_tree.specs.declared.tree.Expr.{Expr, out-Expr}
@@ -11,12 +11,14 @@ use Rattle.ff_frames.specs.Frames.{operands, plug, base_of, calls, shown, wrap, 
 use Rattle.ff_frames.specs.Loads.{frame_load, load, loads, inner}
 use Rattle.ff_term.specs.Whole.{whole}
 use Rattle.ff_value.specs.declared.value.Val.{Val}
-use Rattle.ff_frames.specs.declared.frame.Frame.{Frame}
-use Rattle.ff_frames.specs.declared.frame.Frame.TheVariants as frame
+use Rattle.ff_frames.specs.Frame.{Frame}
+use Rattle.ff_frames.specs.Frame as frame
 use Rattle.ff_frames.specs.declared.frame.Focus.{Focus}
 use Rattle.ff_frames.specs.declared.frame.Focus.TheVariants as focus
-use Rattle.ff_frames.specs.declared.frame.Step.{Step}
-use Rattle.ff_frames.specs.declared.frame.Step.TheVariants as step
+use Rattle.ff_frames.specs.declared.frame.Head.{Head}
+use Rattle.ff_frames.specs.declared.frame.Head.TheVariants as head
+use Rattle.ff_frames.specs.declared.hand.Hand.{Hand}
+use Rattle.ff_frames.specs.Heads.{IsHolding}
 
 -- no part
 abbrev pub IsEmpty : List Expr → Type 0
@@ -103,10 +105,16 @@ pub record Feeds (f : Frame) (v : Val) (g : Frame) (x : Focus) : Type 0 where
   pub settled : IsSettled x
   pub less : frame_load g + load x < frame_load f
 
--- the answer for a value: the next operand, or the value again where the frame has all
-abbrev pub IsFeeding : Frame → Val → Frame → Step → Type 0
-IsFeeding f v g (step.There x) = (g ≡ f) × (x ≡ focus.Value v) × IsFull f
-IsFeeding f v g (step.On x) = Feeds f v g x
+-- an expression is put at hand, if there is one; else nothing changes
+abbrev pub IsHeld : Option Expr → Hand → Bool → Hand → Type 0
+IsHeld None h there k = (there ≡ false) × (k ≡ h)
+IsHeld (Some e) h there k = (there ≡ true) × ((x : Focus) × Shows e x × IsHolding h.values.items x k)
+
+-- the operand after the one whose value is at hand is put there, and the frame has that value; else
+-- nothing changes
+abbrev pub IsFed : Head → Hand → Bool → Head → Hand → Type 0
+IsFed (head.Part e n) h on g k = IsHeld (slice_get (operands (out-Expr e)) (suc n)) h on k × (g ≡ cond on (head.Part e (suc n)) (head.Part e n))
+IsFed f h on g k = (on ≡ false) × (g ≡ f) × (k ≡ h)
 
 -- a step towards the redex
 pub record IsNearer (fs : List Frame) (x : Focus) (gs : List Frame) (y : Focus) : Type 0 where
@@ -120,6 +128,6 @@ pub record IsThere (fs : List Frame) (x : Running) (gs : List Frame) (y : Focus)
   pub at : IsAtRedex gs y
 
 -- a step, or none where the redex is reached
-abbrev pub IsStep : List Frame → Focus → List Frame → Step → Type 0
-IsStep fs x gs (step.There y) = IsThere fs (shown x) gs y
-IsStep fs x gs (step.On y) = IsNearer fs x gs y
+abbrev pub IsStep : List Frame → Focus → Bool → List Frame → Focus → Type 0
+IsStep fs x true gs y = IsNearer fs x gs y
+IsStep fs x false gs y = IsThere fs (shown x) gs y

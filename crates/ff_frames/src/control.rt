@@ -5,10 +5,12 @@ ghost use Rattle.ff_term.specs.Rows.{IsLocal, IsTest, branch, local_row};
 ghost use Rattle.ff_term.specs.Whole.{whole};
 ghost use Rattle.ff_term.specs.Redexes.{IsRedexOf};
 ghost use Rattle.ff_term.specs.Calls.{calls_around};
+ghost use Rattle.ff_frames.specs.Lent.{named};
 ghost use Rattle.ff_frames.specs.Stacks.{IsValid};
 
+use crate::redex::Redex;
 use crate::stack::Stack;
-use ff_term::{MOST_CALLS, Redex};
+use ff_term::MOST_CALLS;
 use ff_tree::Body;
 use ff_value::{ActId, Code, NoMemory, Val};
 use std::alloc::Global;
@@ -116,13 +118,12 @@ impl Control {
         self.stack.act
     }
 
-    /// The redex.
-    pub fn next(&mut self, alloc: Global) -> Result<Redex, NoMemory>
-        requires { is_value self.old.expr ≡ false }
-        ensures same { self.new ≡ self.old }
-        ensures names { IfOk result (λ r. IsRedexOf r (redex self.old.expr)) }
+    /// The redex, lent.
+    pub fn next(&self) -> Redex<'_>
+        requires { is_value self.now.expr ≡ false }
+        ensures { IsRedexOf (named result) (redex self.now.expr) }
     {
-        self.stack.next(alloc)
+        self.stack.next()
     }
 
     /// Reduces a redex that no store decides.
@@ -131,7 +132,7 @@ impl Control {
         requires local { IsLocal (redex self.old.expr) }
         ensures { OnOk result (self.new ≡ rewritten_in local_row self.old) }
     {
-        let done = self.stack.reduce(alloc);
+        let done = self.stack.reduce();
         kept(alloc, &mut self.stack, done)
     }
 
@@ -141,7 +142,7 @@ impl Control {
         requires test { IsTest (redex self.old.expr) }
         ensures { OnOk result (self.new ≡ rewritten_in (branch yes) self.old) }
     {
-        let done = self.stack.choose(alloc, yes);
+        let done = self.stack.choose(yes);
         kept(alloc, &mut self.stack, done)
     }
 
@@ -150,7 +151,7 @@ impl Control {
         requires { is_value self.old.expr ≡ false }
         ensures { OnOk result (self.new ≡ rewritten_in (λ _. Done value) self.old) }
     {
-        let done = self.stack.give(alloc, value);
+        let done = self.stack.give(value);
         kept(alloc, &mut self.stack, done)
     }
 
@@ -160,7 +161,7 @@ impl Control {
         requires shallow { insides self.old.expr < MOST_CALLS }
         ensures { OnOk result (self.new ≡ rewritten_in (λ _. Inside act (whole body.now)) self.old) }
     {
-        let done = self.stack.enter(alloc, act, body);
+        let done = self.stack.enter(act, body);
         kept(alloc, &mut self.stack, done)
     }
 }

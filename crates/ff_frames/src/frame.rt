@@ -1,16 +1,15 @@
 ghost use Rattle.std.specs.Prelude.{◌≡◌, IfOk};
 
 use crate::source::Source;
-use ff_term::Operands;
 use ff_tree::Exprs;
 use ff_value::{ActId, NoMemory, Val};
 
-/// What stands around the part at hand.
+/// What stands around the part at hand. Its values lie in the [`Hand`](crate::hand::Hand).
 #[derive(Drop)]
-pub enum Frame {
-    /// A form with the values of its first operands. A `while`, `and` or `or` stands for the `if`
-    /// that it becomes, with the part at hand for its test.
-    Part(Source, Operands),
+pub enum Head {
+    /// A form, and how many of its first operands are values. A `while`, `and` or `or` stands for
+    /// the `if` that it becomes, with the part at hand for its test.
+    Part(Source, usize),
     /// A `do`: its parts, and the place of the next.
     Do(Exprs, usize),
     /// A turn of a loop: a `do` of the part at hand and of the loop.
@@ -32,46 +31,20 @@ pub enum Focus {
 #[derive(Drop)]
 pub enum Taken {
     Form(Source),
-    Full(Frame, Val),
+    Full(Head, Val),
 }
 
-/// Where a step of the walk to the redex leads: to a part from which to go on, or to the redex.
-#[derive(Drop)]
-pub enum Step {
-    On(Focus),
-    There(Focus),
-}
-
-/// Puts another part at hand.
-pub fn put(focus: &mut Focus, next: Focus)
-    ensures { focus.new ≡ next }
-{
-    *focus = next;
-}
-
-impl Focus {
-    /// An equal part. Its one refusal is a count of owners that is full.
-    pub fn copy(&self) -> Result<Focus, NoMemory>
-        ensures { IfOk result (λ x. x ≡ self.now) }
-    {
-        match self {
-            Focus::Value(value) => Ok(Focus::Value(value.copy()?)),
-            Focus::Part(form) => Ok(Focus::Part(form.copy()?)),
-        }
-    }
-}
-
-impl Frame {
+impl Head {
     /// An equal frame.
-    pub fn copy(&self) -> Result<Frame, NoMemory>
-        ensures { IfOk result (λ f. f ≡ self.now) }
+    pub fn copy(&self) -> Result<Head, NoMemory>
+        ensures { IfOk result (λ h. h ≡ self.now) }
     {
         match self {
-            Frame::Part(form, values) => Ok(Frame::Part(form.copy()?, values.copy()?)),
-            Frame::Do(parts, at) => Ok(Frame::Do(parts.copy()?, *at)),
-            Frame::Loop(again) => Ok(Frame::Loop(again.copy()?)),
-            Frame::Last => Ok(Frame::Last),
-            Frame::Inside(outer) => Ok(Frame::Inside(*outer)),
+            Head::Part(form, held) => Ok(Head::Part(form.copy()?, *held)),
+            Head::Do(parts, at) => Ok(Head::Do(parts.copy()?, *at)),
+            Head::Loop(again) => Ok(Head::Loop(again.copy()?)),
+            Head::Last => Ok(Head::Last),
+            Head::Inside(outer) => Ok(Head::Inside(*outer)),
         }
     }
 }

@@ -1,8 +1,5 @@
-ghost use Rattle.std.specs.Prelude.{◌≡◌, ◌<◌, ◌∷◌, [], IfOk, OnSome, length, slice_get};
-ghost use Rattle.ff_tree.specs.declared.tree.Expr.{out-Expr};
-ghost use Rattle.ff_tree.specs.declared.tree.Doc.TheOpen.{Expr-F};
+ghost use Rattle.std.specs.Prelude.{◌≡◌, ◌<◌, IfOk, OnSome, length, slice_get};
 ghost use Rattle.ff_term.specs.Whole.{literal as the_literal};
-ghost use Rattle.ff_frames.specs.Frames.{operands};
 ghost use Rattle.ff_frames.specs.Seeking.{AreShown, Shows};
 
 use crate::frame::Focus;
@@ -11,7 +8,7 @@ use ff_tree::{Body, Expr, Exprs, Lit};
 use ff_value::{NoMemory, Val};
 
 /// The value of a literal.
-fn literal(lit: &Lit) -> Result<Val, NoMemory>
+pub fn literal(lit: &Lit) -> Result<Val, NoMemory>
     ensures { IfOk result (λ v. v ≡ the_literal lit.now) }
 {
     match lit {
@@ -54,46 +51,5 @@ pub fn focus_on_item(list: &Exprs, at: usize) -> Result<Option<Focus>, NoMemory>
             Expr::Lit(lit) => Ok(Some(Focus::Value(literal(lit)?))),
             _ => Ok(Some(Focus::Part(Source::at(list, at)?))),
         },
-    }
-}
-
-/// The operand at a place as the part at hand, or `None` past the last.
-pub fn operand(expr: &Expr, at: usize) -> Result<Option<Focus>, NoMemory>
-    ensures { IfOk result (AreShown (slice_get (operands (out-Expr expr.now)) at)) }
-{
-    match expr {
-        Expr::Let(_, part) | Expr::Set(_, part) | Expr::If(part, _, _) => only(part, at),
-        Expr::Do(parts) => first(parts, at),
-        Expr::Apply(function, args) => {
-            if at == 0 {
-                only(function, at)
-            } else {
-                focus_on_item(args, at - 1)
-            }
-        }
-        Expr::Prim(_, args) => focus_on_item(args, at),
-        _ => Ok(None),
-    }
-}
-
-/// The operand of a form that has one.
-fn only(part: &Body, at: usize) -> Result<Option<Focus>, NoMemory>
-    ensures { IfOk result (AreShown (slice_get (part.now ∷ []) at)) }
-{
-    if at == 0 {
-        Ok(Some(focus_on_body(part)?))
-    } else {
-        Ok(None)
-    }
-}
-
-/// The operand of a `do`.
-fn first(parts: &Exprs, at: usize) -> Result<Option<Focus>, NoMemory>
-    ensures { IfOk result (AreShown (slice_get (operands (Expr-F.Do parts.now)) at)) }
-{
-    if at == 0 {
-        focus_on_item(parts, at)
-    } else {
-        Ok(None)
     }
 }

@@ -1,82 +1,93 @@
-ghost use Rattle.std.specs.Prelude.{◌≡◌, ◌++◌, ◌∷◌, [], IfOk, None, length, slice_get};
+ghost use Rattle.std.specs.Prelude.{◌≡◌, ◌<◌, ◌++◌, ◌∷◌, [], List, None, length, slice_get};
 ghost use Rattle.std.proofs.Common.{suc};
 ghost use Rattle.ff_tree.specs.declared.tree.Expr.{out-Expr};
 ghost use Rattle.ff_value.specs.declared.ids.ActId.{ActId};
-ghost use Rattle.ff_term.specs.Running.{Done, none};
+ghost use Rattle.ff_value.specs.declared.value.Val.{Val as Value};
+ghost use Rattle.ff_term.specs.Running.{Done};
 ghost use Rattle.ff_term.specs.Whole.{layer};
-ghost use Rattle.ff_frames.specs.Frames.{wrap, around, applied, after, operands};
-ghost use Rattle.ff_frames.specs.Seeking.{IsFull, IsRow};
 ghost use Rattle.ff_term.specs.Redexes.{IsRedexOf};
+ghost use Rattle.ff_frames.specs.Frames.{wrap, around, operands};
+ghost use Rattle.ff_frames.specs.Heads.{with_values};
+ghost use Rattle.ff_frames.specs.Lent.{named};
+ghost use Rattle.ff_frames.specs.Seeking.{IsFull, IsRow};
 
-use crate::frame::Frame;
-use ff_term::{Operands, Redex};
+use crate::frame::Head;
 use ff_tree::Expr;
-use ff_value::{NoMemory, Val};
-use std::alloc::Global;
+use ff_value::{Body, Doc, Name, Names, Op, Val};
+
+/// The redex of a runtime expression, as far as the stores decide what it becomes. What it holds is
+/// lent where it lies.
+#[derive(Debug)]
+pub enum Redex<'a> {
+    /// No store decides: a `while`, `do`, `and` or `or`, or the end of a call.
+    Local,
+    /// An `if` with its test.
+    Test(&'a Val),
+    /// A variable to be read.
+    Var(&'a Name),
+    /// A variable to be declared, and its value.
+    Let(&'a Name, &'a Val),
+    /// A variable to be assigned, and its new value.
+    Set(&'a Name, &'a Val),
+    /// A function to be made, of its parameters and its body.
+    Make(&'a Names, &'a Body),
+    /// A function and its arguments.
+    Apply(&'a Val, &'a [Val]),
+    /// A document to be made into nodes.
+    Tree(&'a Doc),
+    /// An operator and its operands.
+    Prim(Op, &'a [Val]),
+}
 
 /// The redex that an expression is as it stands.
-pub fn read_form(alloc: Global, form: &Expr) -> Result<Redex, NoMemory>
+pub fn read_form(form: &Expr) -> Redex<'_>
     requires { IsRow (out-Expr form.now) }
-    ensures { IfOk result (λ r. IsRedexOf r (layer (out-Expr form.now))) }
+    ensures { IsRedexOf (named result) (layer (out-Expr form.now)) }
 {
     match form {
-        Expr::Var(name) => Ok(Redex::Var(name.copy()?)),
-        Expr::Make(params, body) => Ok(Redex::Make(params.copy()?, body.copy()?)),
-        Expr::Tree(doc) => Ok(Redex::Tree(doc.copy()?)),
-        Expr::Prim(op, _) => Ok(Redex::Prim(*op, Operands::new(alloc))),
-        _ => Ok(Redex::Local),
+        Expr::Var(name) => Redex::Var(name),
+        Expr::Make(params, body) => Redex::Make(params, body),
+        Expr::Tree(doc) => Redex::Tree(doc),
+        Expr::Prim(op, _) => Redex::Prim(*op, &[]),
+        _ => Redex::Local,
     }
 }
 
-/// The redex that a value completes with the frame around it.
-pub fn read_frame(alloc: Global, frame: &Frame, value: &Val) -> Result<Redex, NoMemory>
-    requires { IsFull frame.now }
-    ensures { IfOk result (λ r. (a : ActId) → IsRedexOf r (wrap frame.now a (Done value.now))) }
+/// The redex that the values of a frame and the last one complete with it.
+pub fn read_frame<'a>(head: &'a Head, values: &'a [Val]) -> Redex<'a>
+    requires { 0 < length values.now }
+    ensures { (vs : List Value) (v : Value) → values.now ≡ vs ++ v ∷ [] → IsFull (with_values head.now vs) → (a : ActId) → IsRedexOf (named result) (wrap (with_values head.now vs) a (Done v)) }
 {
-    match frame {
-        Frame::Part(form, values) => read_part(alloc, form.get(), values.as_slice(), value),
-        _ => Ok(Redex::Local),
+    match head {
+        Head::Part(form, _) => read_part(form.get(), values),
+        _ => Redex::Local,
     }
 }
 
-/// The same of a form and the values of its operands but the last.
-fn read_part(alloc: Global, form: &Expr, values: &[Val], value: &Val) -> Result<Redex, NoMemory>
-    requires { slice_get (operands (out-Expr form.now)) (suc (length values.now)) ≡ None }
-    ensures { IfOk result (λ r. IsRedexOf r (around (out-Expr form.now) values.now (Done value.now))) }
+/// The same of a form.
+fn read_part<'a>(form: &'a Expr, values: &'a [Val]) -> Redex<'a>
+    requires { 0 < length values.now }
+    ensures { (vs : List Value) (v : Value) → values.now ≡ vs ++ v ∷ [] → slice_get (operands (out-Expr form.now)) (suc (length vs)) ≡ None → IsRedexOf (named result) (around (out-Expr form.now) vs (Done v)) }
 {
     match form {
-        Expr::Let(name, _) => Ok(Redex::Let(name.copy()?, value.copy()?)),
-        Expr::Set(name, _) => Ok(Redex::Set(name.copy()?, value.copy()?)),
+        Expr::Prim(op, _) => Redex::Prim(*op, values),
+        Expr::Let(name, _) => Redex::Let(name, last(values)),
+        Expr::Set(name, _) => Redex::Set(name, last(values)),
         Expr::If(_, _, _) | Expr::While(_, _) | Expr::And(_, _) | Expr::Or(_, _) => {
-            Ok(Redex::Test(value.copy()?))
+            Redex::Test(last(values))
         }
-        Expr::Apply(_, _) => read_call(alloc, values, value),
-        Expr::Prim(op, _) => {
-            let all = with_last(alloc, values, value)?;
-            Ok(Redex::Prim(*op, all))
-        }
-        _ => Ok(Redex::Local),
+        Expr::Apply(_, _) => match values.split_first() {
+            None => unreachable!(),
+            Some((function, args)) => Redex::Apply(function, args),
+        },
+        _ => Redex::Local,
     }
 }
 
-/// Copies of some values, and of one more after them.
-fn with_last(alloc: Global, values: &[Val], last: &Val) -> Result<Operands, NoMemory>
-    ensures { IfOk result (λ all. all ≡ values.now ++ last.now ∷ []) }
+/// The last value.
+fn last(values: &[Val]) -> &Val
+    requires { 0 < length values.now }
+    ensures { (vs : List Value) (v : Value) → values.now ≡ vs ++ v ∷ [] → result.now ≡ v }
 {
-    let mut all = Operands::of(alloc, values)?;
-    all.push(last.copy()?)?;
-    Ok(all)
-}
-
-/// The function and its arguments.
-fn read_call(alloc: Global, values: &[Val], value: &Val) -> Result<Redex, NoMemory>
-    ensures { IfOk result (λ r. IsRedexOf r (applied (after values.now (Done value.now) none))) }
-{
-    match values.split_first() {
-        None => Ok(Redex::Apply(value.copy()?, Operands::new(alloc))),
-        Some((function, args)) => {
-            let all = with_last(alloc, args, value)?;
-            Ok(Redex::Apply(function.copy()?, all))
-        }
-    }
+    &values[values.len() - 1]
 }

@@ -6,38 +6,37 @@ ghost use Rattle.ff_term.specs.Running.{Do, Done, more};
 ghost use Rattle.ff_term.specs.Rows.{IsLocal, branch, local_row};
 ghost use Rattle.ff_term.specs.Whole.{layer, wholes};
 ghost use Rattle.ff_frames.specs.Frames.{around, wrap};
+ghost use Rattle.ff_frames.specs.Heads.{with_values};
 ghost use Rattle.ff_frames.specs.Seeking.{AreShown, IsRow};
 ghost use Rattle.ff_frames.specs.Rewrites.{IsDo, IsEnding, IsIf, IsLocalOut, IsPut, IsRedex, IsRest, IsTested, taken, test_of};
 
-use crate::frame::{Focus, Frame, Taken};
+use crate::frame::{Focus, Head, Taken};
 use crate::operand::{focus_on, focus_on_body, focus_on_item};
 use crate::source::Source;
-use ff_term::Operands;
 use ff_tree::{Expr, Exprs};
 use ff_value::{NoMemory, Val};
-use std::alloc::Global;
 
 /// What is put for a redex that no store decides: the part at hand, and perhaps a frame around it.
-pub fn local_of(alloc: Global, redex: Taken) -> Result<(Option<Frame>, Focus), NoMemory>
+pub fn local_of(redex: Taken) -> Result<(Option<Head>, Focus), NoMemory>
     requires redex { IsRedex redex }
     requires local { IsLocalOut redex }
-    ensures { IfOk result (IsPut (λ a. local_row (taken redex a))) }
+    ensures { IfOk result (λ p. (vs : List Val) → IsPut (λ a. local_row (taken vs redex a)) p) }
 {
     match redex {
-        Taken::Form(form) => local_form(alloc, form),
+        Taken::Form(form) => local_form(form),
         Taken::Full(frame, value) => local_frame(frame, value),
     }
 }
 
 /// The same for a form.
-fn local_form(alloc: Global, form: Source) -> Result<(Option<Frame>, Focus), NoMemory>
+fn local_form(form: Source) -> Result<(Option<Head>, Focus), NoMemory>
     requires row { IsRow (out-Expr form) }
     requires local { IsLocal (layer (out-Expr form)) }
     ensures { IfOk result (IsPut (λ a. local_row (layer (out-Expr form)))) }
 {
     match test(form.get())? {
         None => Ok((None, Focus::Value(Val::Null))),
-        Some(part) => Ok((Some(Frame::Part(form, Operands::new(alloc))), part)),
+        Some(part) => Ok((Some(Head::Part(form, 0)), part)),
     }
 }
 
@@ -54,21 +53,21 @@ fn test(form: &Expr) -> Result<Option<Focus>, NoMemory>
 }
 
 /// What is put for a value and the frame around it.
-fn local_frame(frame: Frame, value: Val) -> Result<(Option<Frame>, Focus), NoMemory>
+fn local_frame(frame: Head, value: Val) -> Result<(Option<Head>, Focus), NoMemory>
     requires { IsEnding frame }
-    ensures { IfOk result (IsPut (λ a. local_row (wrap frame a (Done value)))) }
+    ensures { IfOk result (λ p. (vs : List Val) → IsPut (λ a. local_row (wrap (with_values frame vs) a (Done value))) p) }
 {
     match frame {
-        Frame::Part(form, _) => after_first(form.get(), value),
-        Frame::Do(parts, at) => after_part(&parts, at, value),
-        Frame::Loop(again) => Ok((Some(Frame::Last), focus_on(again)?)),
-        Frame::Last => Ok((None, Focus::Value(value))),
-        Frame::Inside(_) => Ok((None, Focus::Value(value))),
+        Head::Part(form, _) => after_first(form.get(), value),
+        Head::Do(parts, at) => after_part(&parts, at, value),
+        Head::Loop(again) => Ok((Some(Head::Last), focus_on(again)?)),
+        Head::Last => Ok((None, Focus::Value(value))),
+        Head::Inside(_) => Ok((None, Focus::Value(value))),
     }
 }
 
 /// What is put for the value of the first part of a form.
-fn after_first(form: &Expr, value: Val) -> Result<(Option<Frame>, Focus), NoMemory>
+fn after_first(form: &Expr, value: Val) -> Result<(Option<Head>, Focus), NoMemory>
     requires { IsDo (out-Expr form.now) }
     ensures { IfOk result (λ p. (vs : List Val) → IsPut (λ a. local_row (around (out-Expr form.now) vs (Done value))) p) }
 {
@@ -79,7 +78,7 @@ fn after_first(form: &Expr, value: Val) -> Result<(Option<Frame>, Focus), NoMemo
 }
 
 /// What is put for the value of a part of a `do`, where the next is at a place.
-fn after_part(parts: &Exprs, at: usize, value: Val) -> Result<(Option<Frame>, Focus), NoMemory>
+fn after_part(parts: &Exprs, at: usize, value: Val) -> Result<(Option<Head>, Focus), NoMemory>
     ensures { IfOk result (IsPut (λ a. local_row (Do (more (Done value) (wholes (drop at parts.now)))))) }
 {
     match focus_on_item(parts, at)? {
@@ -92,34 +91,34 @@ fn after_part(parts: &Exprs, at: usize, value: Val) -> Result<(Option<Frame>, Fo
 }
 
 /// The frame of a `do` around its part at a place.
-fn rest_of(parts: &Exprs, at: usize) -> Result<Frame, NoMemory>
+fn rest_of(parts: &Exprs, at: usize) -> Result<Head, NoMemory>
     requires { at < length parts.now }
     ensures { IfOk result (IsRest parts.now at) }
 {
     let len = parts.len();
     if at + 1 < len {
-        Ok(Frame::Do(parts.copy()?, at + 1))
+        Ok(Head::Do(parts.copy()?, at + 1))
     } else {
-        Ok(Frame::Last)
+        Ok(Head::Last)
     }
 }
 
 /// What is put for an `if` whose test is evaluated.
-pub fn branch_of(redex: Taken, yes: bool) -> Result<(Option<Frame>, Focus), NoMemory>
+pub fn branch_of(redex: Taken, yes: bool) -> Result<(Option<Head>, Focus), NoMemory>
     requires { IsTested redex }
-    ensures { IfOk result (IsPut (λ a. branch yes (taken redex a))) }
+    ensures { IfOk result (λ p. (vs : List Val) → IsPut (λ a. branch yes (taken vs redex a)) p) }
 {
     match redex {
         Taken::Form(_) => unreachable!(),
         Taken::Full(frame, _) => match frame {
-            Frame::Part(form, _) => branch_in(form, yes),
+            Head::Part(form, _) => branch_in(form, yes),
             _ => unreachable!(),
         },
     }
 }
 
 /// The same of the form.
-fn branch_in(form: Source, yes: bool) -> Result<(Option<Frame>, Focus), NoMemory>
+fn branch_in(form: Source, yes: bool) -> Result<(Option<Head>, Focus), NoMemory>
     requires { IsIf (out-Expr form) }
     ensures { IfOk result (λ p. (vs : List Val) (v : Val) → IsPut (λ a. branch yes (around (out-Expr form) vs (Done v))) p) }
 {
@@ -131,7 +130,7 @@ fn branch_in(form: Source, yes: bool) -> Result<(Option<Frame>, Focus), NoMemory
         Expr::While(_, body) => {
             if yes {
                 let part = focus_on_body(body)?;
-                Ok((Some(Frame::Loop(form)), part))
+                Ok((Some(Head::Loop(form)), part))
             } else {
                 Ok((None, Focus::Value(Val::Null)))
             }

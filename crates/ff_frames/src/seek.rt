@@ -1,60 +1,77 @@
-ghost use Rattle.std.specs.Prelude.{IfOk};
+ghost use Rattle.std.specs.Prelude.{◌≡◌, ◌<◌, IfOk, OnOk, None, length};
+ghost use Rattle.ff_tree.specs.declared.tree.Expr.{out-Expr};
+ghost use Rattle.ff_frames.specs.declared.frame.Focus.TheVariants as focus;
 ghost use Rattle.ff_frames.specs.Frames.{shown};
-ghost use Rattle.ff_frames.specs.Seeking.{IsFeeding, IsSettled, IsStep, IsThere};
+ghost use Rattle.ff_frames.specs.Heads.{IsEmptyHanded, IsLaid, at_hand, frames, held};
+ghost use Rattle.ff_frames.specs.Seeking.{IsFed, IsOpen, IsSettled, IsStep, IsThere};
 
-use crate::frame::{Focus, Frame, Step};
-use crate::operand::operand;
-use ff_term::Operands;
-use ff_value::{NoMemory, Val};
-use std::alloc::Global;
+use crate::frame::Head;
+use crate::hand::Hand;
+use crate::source::Source;
+use ff_value::NoMemory;
 
-/// Puts a value into the innermost frame, and gives the operand that is next, or the value again
-/// and the frame as it was where the value is that of the last.
-fn fed(frame: &mut Frame, value: Val) -> Result<Step, NoMemory>
-    ensures { IfOk result (IsFeeding frame.old value frame.new) }
+/// Goes on to the operand after the one whose value is at hand, which is then one of the frame's;
+/// answers whether there is one. If not, nothing changes.
+fn fed(head: &mut Head, hand: &mut Hand) -> Result<bool, NoMemory>
+    requires form { hand.old.form ≡ None }
+    requires value { held head.old < length hand.old.values.items }
+    ensures { IfOk result (λ on. IsFed head.old hand.old on head.new hand.new) }
 {
-    match frame {
-        Frame::Part(form, values) => match operand(form.get(), values.as_slice().len() + 1)? {
-            None => Ok(Step::There(Focus::Value(value))),
-            Some(next) => {
-                values.push(value)?;
-                Ok(Step::On(next))
+    match head {
+        Head::Part(form, held) => {
+            let on = hand.hold_operand(form.get(), *held + 1)?;
+            if on {
+                *held += 1;
             }
-        },
-        _ => Ok(Step::There(Focus::Value(value))),
+            Ok(on)
+        }
+        _ => Ok(false),
     }
 }
 
-/// One step towards the redex.
-fn step(alloc: Global, frames: &mut Vec<Frame>, part: Focus) -> Result<Step, NoMemory>
-    requires { IsSettled part }
-    ensures { IfOk result (IsStep frames.old.items part frames.new.items) }
+/// Goes down to the first operand of a form, in a frame of the form; answers whether there is one.
+/// If not, the form is at hand.
+fn opened(heads: &mut Vec<Head>, hand: &mut Hand, form: Source) -> Result<bool, NoMemory>
+    requires empty { IsEmptyHanded heads.old.items hand.old }
+    requires open { IsOpen (out-Expr form) }
+    ensures laid { IfOk result (λ _. IsLaid heads.new.items hand.new) }
+    ensures step { IfOk result (λ on. IsStep (frames heads.old.items hand.old) (focus.Part form) on (frames heads.new.items hand.new) (at_hand heads.new.items hand.new)) }
 {
-    match part {
-        Focus::Part(form) => match operand(form.get(), 0)? {
-            None => Ok(Step::There(Focus::Part(form))),
-            Some(next) => {
-                frames.push(Frame::Part(form, Operands::new(alloc)))?;
-                Ok(Step::On(next))
-            }
-        },
-        Focus::Value(value) => match frames.last_mut() {
-            None => Ok(Step::There(Focus::Value(value))),
-            Some(frame) => fed(frame, value),
+    let on = hand.hold_operand(form.get(), 0)?;
+    if on {
+        heads.push(Head::Part(form, 0))?;
+    } else {
+        hand.form = Some(form);
+    }
+    Ok(on)
+}
+
+/// One step towards the redex; answers whether one was left to make.
+fn step(heads: &mut Vec<Head>, hand: &mut Hand) -> Result<bool, NoMemory>
+    requires laid { IsLaid heads.old.items hand.old }
+    requires settled { IsSettled (at_hand heads.old.items hand.old) }
+    ensures laid { IfOk result (λ _. IsLaid heads.new.items hand.new) }
+    ensures step { IfOk result (λ on. IsStep (frames heads.old.items hand.old) (at_hand heads.old.items hand.old) on (frames heads.new.items hand.new) (at_hand heads.new.items hand.new)) }
+{
+    match hand.take_form() {
+        Some(form) => opened(heads, hand, form),
+        None => match heads.last_mut() {
+            None => Ok(false),
+            Some(head) => fed(head, hand),
         },
     }
 }
 
-/// Walks to the redex, and gives the part that is at hand there.
-pub fn seek(alloc: Global, frames: &mut Vec<Frame>, start: Focus) -> Result<Focus, NoMemory>
-    requires { IsSettled start }
-    ensures { IfOk result (IsThere frames.old.items (shown start) frames.new.items) }
+/// Walks from the part at hand to the redex.
+pub fn seek(heads: &mut Vec<Head>, hand: &mut Hand) -> Result<(), NoMemory>
+    requires laid { IsLaid heads.old.items hand.old }
+    requires settled { IsSettled (at_hand heads.old.items hand.old) }
+    ensures laid { OnOk result (IsLaid heads.new.items hand.new) }
+    ensures there { OnOk result (IsThere (frames heads.old.items hand.old) (shown (at_hand heads.old.items hand.old)) (frames heads.new.items hand.new) (at_hand heads.new.items hand.new)) }
 {
-    let mut part = start;
     loop {
-        match step(alloc, frames, part)? {
-            Step::On(next) => part = next,
-            Step::There(redex) => return Ok(redex),
+        if !step(heads, hand)? {
+            return Ok(());
         }
     }
 }

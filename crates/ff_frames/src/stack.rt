@@ -1,50 +1,50 @@
-ghost use Rattle.std.specs.Prelude.{◌≡◌, ◌≤◌, ◌<◌, ◌++◌, ◌∷◌, [], List, MatchOption, false, IfOk, OnOk};
-ghost use Rattle.ff_term.specs.Rows.{IsLocal, IsTest, branch, local_row};
-ghost use Rattle.ff_frames.specs.declared.frame.Frame.{Frame};
-ghost use Rattle.ff_term.specs.Redexes.{IsRedexOf};
-ghost use Rattle.ff_frames.specs.declared.frame.Focus.TheVariants as focus;
-ghost use Rattle.ff_frames.specs.Rewrites.{IsCallFrame, IsNoCall, IsRedex, taken, within};
-ghost use Rattle.ff_term.specs.Running.{Apply, none, more, Done, Inside, Running, insides, is_value, redex, rewritten, rewritten_in};
-ghost use Rattle.ff_frames.specs.Frames.{is_call, shown, wrap};
-ghost use Rattle.ff_term.specs.Whole.{whole};
-ghost use Rattle.ff_value.specs.declared.value.Val.TheVariants as val;
+ghost use Rattle.std.specs.Prelude.{◌≡◌, ◌≤◌, ◌<◌, ◌++◌, ◌∷◌, [], List, None, MatchOption, false, IfOk, OnOk};
 ghost use Rattle.ff_value.specs.declared.ids.ActId.{ActId};
+ghost use Rattle.ff_value.specs.declared.value.Val.{Val as Value};
+ghost use Rattle.ff_value.specs.declared.value.Val.TheVariants as val;
+ghost use Rattle.ff_term.specs.Redexes.{IsRedexOf};
+ghost use Rattle.ff_term.specs.Rows.{IsLocal, IsTest, branch, local_row};
+ghost use Rattle.ff_term.specs.Running.{Apply, none, more, Done, Inside, insides, is_value, redex, rewritten_in};
+ghost use Rattle.ff_term.specs.Whole.{whole};
+ghost use Rattle.ff_frames.specs.declared.frame.Head.{Head};
+ghost use Rattle.ff_frames.specs.Frames.{is_call, shown};
+ghost use Rattle.ff_frames.specs.Heads.{IsEmptyHanded, with_values};
+ghost use Rattle.ff_frames.specs.Lent.{named};
+ghost use Rattle.ff_frames.specs.Rewrites.{IsCallFrame, IsNoCall, IsRedex, taken, within};
 ghost use Rattle.ff_frames.specs.Seeking.{IsSettled};
 ghost use Rattle.ff_frames.specs.Stacks.{evaluation, with_part, out_of, IsCounted, IsValid, IsWithoutRedex};
 
-use crate::frame::{Focus, Frame, Taken, put};
+use crate::frame::{Focus, Head, Taken};
+use crate::hand::Hand;
 use crate::operand::focus_on_body;
-use crate::redex::{read_form, read_frame};
+use crate::redex::{Redex, read_form, read_frame};
 use crate::row::{branch_of, local_of};
 use crate::seek::seek;
 use crate::source::Source;
 use ff_shared::SharedList;
-use ff_term::{MOST_CALLS, Operands, Redex};
+use ff_term::MOST_CALLS;
 use ff_tree::{Body, Expr};
 use ff_value::{ActId, Code, NoMemory, Val};
 use std::alloc::Global;
-use std::mem;
 
-/// A runtime expression as what stands around the part at hand, that part, the innermost
-/// activation, and how many calls stand around.
+/// A runtime expression as what stands around the part at hand, that part with the values of all
+/// frames, the innermost activation, and how many calls stand around.
 #[derive(Drop)]
 pub struct Stack {
-    pub frames: Vec<Frame>,
-    pub focus: Focus,
+    pub heads: Vec<Head>,
+    pub hand: Hand,
     pub act: ActId,
     pub depth: u32,
 }
 
 /// The frame around the one argument of a function. Its form gives only its kind: the function's
 /// value stands for its one part.
-fn call_frame(alloc: Global, code: &Code) -> Result<Frame, NoMemory>
-    ensures { IfOk result (λ f. IsCallFrame code.now f) }
+fn call_frame(alloc: Global, code: &Code) -> Result<Head, NoMemory>
+    ensures { IfOk result (IsCallFrame code.now) }
 {
     let no_args = SharedList::from_vec(alloc, Vec::new(alloc))?;
     let form = Source::made(alloc, Expr::Apply(code.body.copy()?, no_args))?;
-    let mut values = Operands::new(alloc);
-    values.push(Val::Code(code.copy()?))?;
-    Ok(Frame::Part(form, values))
+    Ok(Head::Part(form, 1))
 }
 
 impl Stack {
@@ -56,16 +56,18 @@ impl Stack {
         Stack::bare(alloc, ActId(0))
     }
 
-    /// The stack of `null` in an activation.
+    /// A stack with nothing at hand, in an activation.
     fn bare(alloc: Global, act: ActId) -> Stack
-        ensures frames { result.frames.items ≡ [] }
-        ensures focus { result.focus ≡ focus.Value val.Null }
+        ensures heads { result.heads.items ≡ [] }
+        ensures values { result.hand.values.items ≡ [] }
+        ensures form { result.hand.form ≡ None }
+        ensures null { result.hand.null ≡ val.Null }
         ensures act { result.act ≡ act }
         ensures depth { result.depth ≡ 0 }
     {
         Stack {
-            frames: Vec::new(alloc),
-            focus: Focus::Value(Val::Null),
+            heads: Vec::new(alloc),
+            hand: Hand::new(alloc),
             act,
             depth: 0,
         }
@@ -78,7 +80,7 @@ impl Stack {
     {
         let part = focus_on_body(body)?;
         let mut stack = Stack::bare(alloc, act);
-        stack.walk_from(alloc, part)?;
+        stack.walk_from(part)?;
         Ok(stack)
     }
 
@@ -90,7 +92,9 @@ impl Stack {
         let part = Focus::Value(arg.copy()?);
         let frame = call_frame(alloc, code)?;
         let mut stack = Stack::bare(alloc, act);
-        stack.put(alloc, Some(frame), part)?;
+        stack.hand.values.push(Val::Code(code.copy()?))?;
+        stack.heads.push(frame)?;
+        stack.walk_from(part)?;
         Ok(stack)
     }
 
@@ -100,24 +104,24 @@ impl Stack {
         ensures same { IfOk result (λ s. evaluation s ≡ evaluation self.now) }
         ensures valid { IfOk result IsValid }
     {
-        let mut frames = Vec::new(alloc);
-        for frame in &self.frames {
-            frames.push(frame.copy()?)?;
+        let mut heads = Vec::new(alloc);
+        for head in &self.heads {
+            heads.push(head.copy()?)?;
         }
         Ok(Stack {
-            frames,
-            focus: self.focus.copy()?,
+            heads,
+            hand: self.hand.copied(alloc)?,
             act: self.act,
             depth: self.depth,
         })
     }
 
     /// Goes out of a frame that is taken off.
-    fn go_out_of(&mut self, frame: &Frame)
-        requires { is_call frame.now ≤ self.old.depth }
+    fn go_out_of(&mut self, frame: &Head)
+        requires { is_call (with_values frame.now []) ≤ self.old.depth }
         ensures { self.new ≡ out_of frame.now self.old }
     {
-        if let Frame::Inside(outer) = frame {
+        if let Head::Inside(outer) = frame {
             self.act = *outer;
             self.depth -= 1;
         }
@@ -128,52 +132,69 @@ impl Stack {
         requires valid { IsValid self.old }
         requires open { is_value (evaluation self.old).expr ≡ false }
         ensures out { IsWithoutRedex self.old self.new }
-        ensures is { redex (evaluation self.old).expr ≡ taken result self.old.act }
+        ensures is { (vs : List Value) × (redex (evaluation self.old).expr ≡ taken vs result self.old.act) }
         ensures redex { IsRedex result }
     {
-        match mem::replace(&mut self.focus, Focus::Value(Val::Null)) {
-            Focus::Part(form) => Taken::Form(form),
-            Focus::Value(value) => match self.frames.pop() {
+        match self.hand.take_form() {
+            Some(form) => Taken::Form(form),
+            None => match self.heads.pop() {
                 None => unreachable!(),
-                Some(frame) => {
-                    self.go_out_of(&frame);
-                    Taken::Full(frame, value)
+                Some(head) => {
+                    let value = self.hand.take_value(&head);
+                    self.go_out_of(&head);
+                    Taken::Full(head, value)
+                }
+            },
+        }
+    }
+
+    /// Takes the redex out, and drops it.
+    fn drop_redex(&mut self)
+        requires valid { IsValid self.old }
+        requires open { is_value (evaluation self.old).expr ≡ false }
+        ensures { IsWithoutRedex self.old self.new }
+    {
+        match self.hand.take_form() {
+            Some(_form) => (),
+            None => match self.heads.pop() {
+                None => unreachable!(),
+                Some(head) => {
+                    self.hand.drop_values(&head);
+                    self.go_out_of(&head);
                 }
             },
         }
     }
 
     /// Puts a part at hand, and walks to the redex from there.
-    fn walk_from(&mut self, alloc: Global, part: Focus) -> Result<(), NoMemory>
+    fn walk_from(&mut self, part: Focus) -> Result<(), NoMemory>
+        requires empty { IsEmptyHanded self.old.heads.items self.old.hand }
         requires counted { IsCounted self.old }
         requires settled { IsSettled part }
         ensures same { OnOk result (evaluation self.new ≡ with_part self.old (shown part)) }
         ensures valid { OnOk result (IsValid self.new) }
     {
-        let redex = seek(alloc, &mut self.frames, part)?;
-        put(&mut self.focus, redex);
-        Ok(())
+        self.hand.hold(part)?;
+        seek(&mut self.heads, &mut self.hand)
     }
 
-    /// The same, perhaps with a frame around the part that is no call.
-    fn put(&mut self, alloc: Global, frame: Option<Frame>, part: Focus) -> Result<(), NoMemory>
+    /// The same, perhaps with a frame around the part that is no call and holds no value.
+    fn put(&mut self, frame: Option<Head>, part: Focus) -> Result<(), NoMemory>
+        requires empty { IsEmptyHanded self.old.heads.items self.old.hand }
         requires counted { IsCounted self.old }
         requires settled { IsSettled part }
         requires no_call { IsNoCall frame }
         ensures same { OnOk result ((a : ActId) → evaluation self.new ≡ with_part self.old (within frame a (shown part))) }
         ensures valid { OnOk result (IsValid self.new) }
     {
-        match frame {
-            None => self.walk_from(alloc, part),
-            Some(frame) => {
-                self.frames.push(frame)?;
-                self.walk_from(alloc, part)
-            }
+        if let Some(head) = frame {
+            self.heads.push(head)?;
         }
+        self.walk_from(part)
     }
 
     /// Puts a call that runs in an activation of its own for the redex.
-    pub fn enter(&mut self, alloc: Global, act: ActId, body: &Body) -> Result<(), NoMemory>
+    pub fn enter(&mut self, act: ActId, body: &Body) -> Result<(), NoMemory>
         requires valid { IsValid self.old }
         requires open { is_value (evaluation self.old).expr ≡ false }
         requires shallow { insides (evaluation self.old).expr < MOST_CALLS }
@@ -181,26 +202,26 @@ impl Stack {
         ensures valid { OnOk result (IsValid self.new) }
     {
         let part = focus_on_body(body)?;
-        self.take_redex();
-        self.frames.push(Frame::Inside(self.act))?;
+        self.drop_redex();
+        self.heads.push(Head::Inside(self.act))?;
         self.act = act;
         self.depth += 1;
-        self.walk_from(alloc, part)
+        self.walk_from(part)
     }
 
     /// Puts a value for the redex.
-    pub fn give(&mut self, alloc: Global, value: Val) -> Result<(), NoMemory>
+    pub fn give(&mut self, value: Val) -> Result<(), NoMemory>
         requires valid { IsValid self.old }
         requires open { is_value (evaluation self.old).expr ≡ false }
         ensures rewrites { OnOk result (evaluation self.new ≡ rewritten_in (λ _. Done value) (evaluation self.old)) }
         ensures valid { OnOk result (IsValid self.new) }
     {
-        self.take_redex();
-        self.walk_from(alloc, Focus::Value(value))
+        self.drop_redex();
+        self.walk_from(Focus::Value(value))
     }
 
     /// Reduces a redex that no store decides.
-    pub fn reduce(&mut self, alloc: Global) -> Result<(), NoMemory>
+    pub fn reduce(&mut self) -> Result<(), NoMemory>
         requires valid { IsValid self.old }
         requires open { is_value (evaluation self.old).expr ≡ false }
         requires local { IsLocal (redex (evaluation self.old).expr) }
@@ -208,12 +229,12 @@ impl Stack {
         ensures valid { OnOk result (IsValid self.new) }
     {
         let redex = self.take_redex();
-        let (frame, part) = local_of(alloc, redex)?;
-        self.put(alloc, frame, part)
+        let (frame, part) = local_of(redex)?;
+        self.put(frame, part)
     }
 
     /// Takes a branch of an `if` whose test is evaluated.
-    pub fn choose(&mut self, alloc: Global, yes: bool) -> Result<(), NoMemory>
+    pub fn choose(&mut self, yes: bool) -> Result<(), NoMemory>
         requires valid { IsValid self.old }
         requires open { is_value (evaluation self.old).expr ≡ false }
         requires test { IsTest (redex (evaluation self.old).expr) }
@@ -222,14 +243,14 @@ impl Stack {
     {
         let redex = self.take_redex();
         let (frame, part) = branch_of(redex, yes)?;
-        self.put(alloc, frame, part)
+        self.put(frame, part)
     }
 
     /// The innermost frame, or `None` where nothing stands around the part at hand.
-    fn top(&self) -> Option<&Frame>
-        ensures { MatchOption result (self.now.frames.items ≡ []) (λ f. (rest : List Frame) × (self.now.frames.items ≡ rest ++ f.now ∷ [])) }
+    fn top(&self) -> Option<&Head>
+        ensures { MatchOption result (self.now.heads.items ≡ []) (λ h. (rest : List Head) × (self.now.heads.items ≡ rest ++ h.now ∷ [])) }
     {
-        self.frames.last()
+        self.heads.last()
     }
 
     /// The value, where the expression is one.
@@ -239,24 +260,21 @@ impl Stack {
     {
         match self.top() {
             Some(_) => None,
-            None => match &self.focus {
-                Focus::Value(value) => Some(value),
-                Focus::Part(_) => None,
-            },
+            None => self.hand.value(),
         }
     }
 
     /// The redex.
-    pub fn next(&self, alloc: Global) -> Result<Redex, NoMemory>
+    pub fn next(&self) -> Redex<'_>
         requires valid { IsValid self.now }
         requires open { is_value (evaluation self.now).expr ≡ false }
-        ensures { IfOk result (λ r. IsRedexOf r (redex (evaluation self.now).expr)) }
+        ensures { IsRedexOf (named result) (redex (evaluation self.now).expr) }
     {
-        match &self.focus {
-            Focus::Part(form) => read_form(alloc, form.get()),
-            Focus::Value(value) => match self.top() {
+        match &self.hand.form {
+            Some(form) => read_form(form.get()),
+            None => match self.top() {
                 None => unreachable!(),
-                Some(frame) => read_frame(alloc, frame, value),
+                Some(head) => read_frame(head, self.hand.operands(head)),
             },
         }
     }

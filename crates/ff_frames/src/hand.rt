@@ -1,0 +1,222 @@
+ghost use Rattle.std.specs.Prelude.{◌≡◌, ◌+◌, ◌<◌, ◌++◌, ◌∷◌, [], List, None, IfOk, OnOk, length, slice_get};
+ghost use Rattle.std.specs.Option.{option_copied};
+ghost use Rattle.ff_tree.specs.declared.tree.Expr.{out-Expr};
+ghost use Rattle.ff_value.specs.declared.value.Val.{Val as Value};
+ghost use Rattle.ff_value.specs.declared.value.Val.TheVariants as val;
+ghost use Rattle.ff_term.specs.Whole.{literal as the_literal};
+ghost use Rattle.ff_frames.specs.declared.frame.Focus.{Focus};
+ghost use Rattle.ff_frames.specs.declared.frame.Focus.TheVariants as focus;
+ghost use Rattle.ff_tree.specs.declared.tree.Doc.TheOpen.{Expr-F};
+ghost use Rattle.ff_frames.specs.Frames.{operands};
+ghost use Rattle.ff_frames.specs.Heads.{IsHolding, held, value_of};
+ghost use Rattle.ff_frames.specs.Seeking.{IsHeld, Shows};
+
+use crate::frame::{Focus, Head};
+use crate::operand::literal;
+use crate::source::Source;
+use ff_tree::{Body, Expr, Exprs, Lit};
+use ff_value::{NoMemory, Val};
+use std::alloc::Global;
+
+/// The values of all frames, those of the outermost first, and behind them the part at hand: a form,
+/// or else the last value.
+#[derive(Drop)]
+pub struct Hand {
+    pub values: Vec<Val>,
+    pub form: Option<Source>,
+    /// What is at hand where there is neither a form nor a value: `null`.
+    pub null: Val,
+}
+
+impl Hand {
+    /// No values, and nothing at hand.
+    pub fn new(alloc: Global) -> Hand
+        ensures values { result.values.items ≡ [] }
+        ensures form { result.form ≡ None }
+        ensures null { result.null ≡ val.Null }
+    {
+        Hand {
+            values: Vec::new(alloc),
+            form: None,
+            null: Val::Null,
+        }
+    }
+
+    /// An equal hand.
+    pub fn copied(&self, alloc: Global) -> Result<Hand, NoMemory>
+        ensures values { IfOk result (λ h. h.values.items ≡ self.now.values.items) }
+        ensures form { IfOk result (λ h. h.form ≡ self.now.form) }
+        ensures null { IfOk result (λ h. h.null ≡ val.Null) }
+    {
+        let mut values = Vec::new(alloc);
+        for value in &self.values {
+            values.push(value.copy()?)?;
+        }
+        let form = match &self.form {
+            Some(form) => Some(form.copy()?),
+            None => None,
+        };
+        Ok(Hand {
+            values,
+            form,
+            null: Val::Null,
+        })
+    }
+
+    /// Takes the form out of the hand, if one is there.
+    pub fn take_form(&mut self) -> Option<Source>
+        ensures form { result ≡ self.old.form }
+        ensures rest { self.new ≡ record self.old { form = None } }
+    {
+        self.form.take()
+    }
+
+    /// The value at hand, if it is one.
+    pub fn value(&self) -> Option<&Val>
+        ensures { option_copied result ≡ value_of self.now.form self.now.null self.now.values.items }
+    {
+        match &self.form {
+            Some(_) => None,
+            None => match self.values.last() {
+                Some(value) => Some(value),
+                None => Some(&self.null),
+            },
+        }
+    }
+
+    /// The values of the innermost frame, and behind them the one at hand.
+    pub fn operands(&self, head: &Head) -> &[Val]
+        requires { held head.now < length self.now.values.items }
+        ensures { (kept all : List Value) → self.now.values.items ≡ kept ++ all → length all ≡ held head.now + 1 → result.now ≡ all }
+    {
+        let kept = self.values.len() - held_by(head) - 1;
+        &self.values.as_slice()[kept..]
+    }
+
+    /// Takes the value at hand, and drops those of a frame that is taken off.
+    pub fn take_value(&mut self, head: &Head) -> Val
+        requires { held head.now < length self.old.values.items }
+        ensures taken { (kept vs : List Value) (v : Value) → self.old.values.items ≡ kept ++ vs ++ v ∷ [] → length vs ≡ held head.now → (result ≡ v) × (self.new.values.items ≡ kept) }
+        ensures form { self.new.form ≡ self.old.form }
+    {
+        match self.values.pop() {
+            None => unreachable!(),
+            Some(value) => {
+                let kept = self.values.len() - held_by(head);
+                self.values.truncate(kept);
+                value
+            }
+        }
+    }
+
+    /// Drops the value at hand, and those of a frame that is taken off.
+    pub fn drop_values(&mut self, head: &Head)
+        requires { held head.now < length self.old.values.items }
+        ensures left { (kept all : List Value) → self.old.values.items ≡ kept ++ all → length all ≡ held head.now + 1 → self.new.values.items ≡ kept }
+        ensures form { self.new.form ≡ self.old.form }
+    {
+        let kept = self.values.len() - held_by(head) - 1;
+        self.values.truncate(kept);
+    }
+
+    /// Puts a part at hand.
+    pub fn hold(&mut self, part: Focus) -> Result<(), NoMemory>
+        requires { self.old.form ≡ None }
+        ensures { OnOk result (IsHolding self.old.values.items part self.new) }
+    {
+        match part {
+            Focus::Value(value) => self.values.push(value)?,
+            Focus::Part(form) => self.form = Some(form),
+        }
+        Ok(())
+    }
+
+    /// Puts the value of a literal at hand.
+    fn hold_literal(&mut self, lit: &Lit) -> Result<(), NoMemory>
+        requires { self.old.form ≡ None }
+        ensures { OnOk result (IsHolding self.old.values.items (focus.Value (the_literal lit.now)) self.new) }
+    {
+        self.values.push(literal(lit)?)?;
+        Ok(())
+    }
+
+    /// Puts a body at hand.
+    pub fn hold_body(&mut self, body: &Body) -> Result<(), NoMemory>
+        requires { self.old.form ≡ None }
+        ensures { OnOk result ((x : Focus) × Shows body.now x × IsHolding self.old.values.items x self.new) }
+    {
+        match body.get() {
+            Expr::Lit(lit) => self.hold_literal(lit)?,
+            _ => self.form = Some(Source::of(body)?),
+        }
+        Ok(())
+    }
+
+    /// Puts the expression at a place of a list at hand; answers whether there is one.
+    fn hold_item(&mut self, list: &Exprs, at: usize) -> Result<bool, NoMemory>
+        requires { self.old.form ≡ None }
+        ensures { IfOk result (λ there. IsHeld (slice_get list.now at) self.old there self.new) }
+    {
+        match list.get(at) {
+            None => return Ok(false),
+            Some(Expr::Lit(lit)) => self.hold_literal(lit)?,
+            Some(_) => self.form = Some(Source::at(list, at)?),
+        }
+        Ok(true)
+    }
+
+    /// Puts the operand at a place at hand; answers whether there is one.
+    pub fn hold_operand(&mut self, expr: &Expr, at: usize) -> Result<bool, NoMemory>
+        requires { self.old.form ≡ None }
+        ensures { IfOk result (λ there. IsHeld (slice_get (operands (out-Expr expr.now)) at) self.old there self.new) }
+    {
+        match expr {
+            Expr::Prim(_, args) => self.hold_item(args, at),
+            Expr::Let(_, part) | Expr::Set(_, part) | Expr::If(part, _, _) => self.hold_only(part, at),
+            Expr::Do(parts) => self.hold_first(parts, at),
+            Expr::Apply(function, args) => {
+                if at == 0 {
+                    self.hold_only(function, at)
+                } else {
+                    self.hold_item(args, at - 1)
+                }
+            }
+            _ => Ok(false),
+        }
+    }
+
+    /// The operand of a form that has one.
+    fn hold_only(&mut self, part: &Body, at: usize) -> Result<bool, NoMemory>
+        requires { self.old.form ≡ None }
+        ensures { IfOk result (λ there. IsHeld (slice_get (part.now ∷ []) at) self.old there self.new) }
+    {
+        if at == 0 {
+            self.hold_body(part)?;
+            Ok(true)
+        } else {
+            Ok(false)
+        }
+    }
+
+    /// The operand of a `do`.
+    fn hold_first(&mut self, parts: &Exprs, at: usize) -> Result<bool, NoMemory>
+        requires { self.old.form ≡ None }
+        ensures { IfOk result (λ there. IsHeld (slice_get (operands (Expr-F.Do parts.now)) at) self.old there self.new) }
+    {
+        if at == 0 {
+            self.hold_item(parts, at)
+        } else {
+            Ok(false)
+        }
+    }
+}
+
+/// How many values a frame holds.
+fn held_by(head: &Head) -> usize
+    ensures { result ≡ held head.now }
+{
+    match head {
+        Head::Part(_, held) => *held,
+        _ => 0,
+    }
+}
