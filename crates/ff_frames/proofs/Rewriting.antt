@@ -1,78 +1,196 @@
 -- A stack with its redex rewritten.
-use Rattle.std.proofs.Common.{◌≡◌, ◌≤◌, ◌<◌, ◌+◌, ◌++◌, ◌∷◌, List, [], Option, Result, Ok, Err, OnOk, false, refl, sym, ap, ◌∙◌, arith}
+use Rattle.std.proofs.Common.{◌≡◌, ◌≤◌, ◌<◌, ◌+◌, ◌-◌, ◌++◌, ◌∷◌, ◌⊎◌, inl, inr, ℕ, List, [], Option, None, Some, Result, Ok, Err, OnOk, MatchOption, Bor, false, true, length, drop, refl, sym, ap, ◌∙◌, arith}
+use Rattle.std.proofs.lemmas.List.{append-nil, append_assoc, length-append}
+use Rattle.std.specs.Option.{option_copied}
 use Rattle.ff_tree.specs.declared.tree.Expr.{Expr, out-Expr}
 use Rattle.ff_tree.specs.declared.tree.Doc.{Doc}
 use Rattle.ff_tree.specs.declared.tree.Handler.{Handler}
 use Rattle.ff_tree.specs.declared.tree.Doc.TheOpen.{Expr-F}
-use Rattle.ff_frames.specs.Rewrites.{IsDo, IsIf, IsCallFrame, IsLocalOut, IsPut, IsRedex, IsTested, taken, within}
-use Rattle.ff_frames.specs.declared.frame.Taken.{Taken}
-use Rattle.ff_frames.specs.declared.frame.Taken.TheVariants as taken_out
 use Rattle.ff_value.specs.declared.ids.ActId.{ActId}
 use Rattle.ff_value.specs.declared.value.Code.{Code}
 use Rattle.ff_value.specs.declared.value.Val.{Val}
 use Rattle.ff_value.specs.declared.value.Val.TheVariants as val
 use Rattle.ff_term.specs.declared.TheConstants.{MOST_CALLS}
+use Rattle.ff_term.specs.Calls.{calls_around}
+use Rattle.ff_term.specs.Rows.{IsLocal, IsTest}
 use Rattle.ff_term.specs.Running.{Running, Apply, Done, Inside, none, more, Evaluation, insides, innermost, is_value, redex, rewritten_in}
 use Rattle.ff_term.specs.Whole.{whole, layer}
-use Rattle.ff_term.specs.Rows.{IsLocal, IsTest}
+use Rattle.ff_term.proofs.Calls.{whole-around}
 use Rattle.ff_term.proofs.Forms.{whole-layer}
+use Rattle.ff_term.proofs.Laws.{rewritten-redex}
+use Rattle.ff_term.proofs.Sources.{source}
 use Rattle.ff_frames.specs.Frame.{Frame}
 use Rattle.ff_frames.specs.Frame as frame
 use Rattle.ff_frames.specs.declared.frame.Focus.{Focus}
 use Rattle.ff_frames.specs.declared.frame.Focus.TheVariants as focus
+use Rattle.ff_frames.specs.declared.frame.Head.{Head}
+use Rattle.ff_frames.specs.declared.frame.Head.TheVariants as head
+use Rattle.ff_frames.specs.declared.frame.Taken.{Taken}
+use Rattle.ff_frames.specs.declared.frame.Taken.TheVariants as taken_out
+use Rattle.ff_frames.specs.declared.hand.Hand.{Hand}
 use Rattle.ff_frames.specs.declared.stack.Stack.{Stack}
 use Rattle.ff_frames.specs.Frames.{around, wrap, outside, base_of, plug, shown, is_call, calls}
-use Rattle.ff_frames.specs.Seeking.{IsFull, IsRow, IsTopFull}
-use Rattle.ff_frames.specs.Stacks.{with_part, evaluation, out_of, IsCounted, IsValid, IsWithoutRedex}
-use Rattle.ff_frames.proofs.Plugs.{plug_value, base-snoc, plug-snoc, calls-snoc, plug_insides, plug_innermost, plug_around}
-use Rattle.ff_term.specs.Calls.{calls_around}
-use Rattle.ff_term.proofs.Calls.{whole-around}
-use Rattle.ff_term.proofs.Sources.{source}
-use Rattle.ff_term.proofs.Laws.{rewritten-redex}
+use Rattle.ff_frames.specs.Heads.{IsCleared, IsEmptyHanded, IsHolding, IsLaid, all_held, at_hand, focus_of, frames, frames_of, held, last_or, value_of, with_values}
+use Rattle.ff_frames.specs.Rewrites.{IsDo, IsIf, IsCallFrame, IsLocalOut, IsNoCall, IsPut, IsRedex, IsTested, taken, within}
+use Rattle.ff_frames.specs.Seeking.{IsFull, IsRow, IsThere, IsTopFull}
+use Rattle.ff_frames.specs.Stacks.{frames_in, focus_in, with_part, evaluation, out_of, IsCounted, IsValid, IsWithoutRedex}
+use Rattle.ff_frames.proofs.Heads.{all_held-snoc, empty-holds, frames-snoc, holds-at, holds-frames}
+use Rattle.ff_frames.proofs.Plugs.{plug_value, wrap_value, base-snoc, plug-snoc, calls-snoc, plug_insides, plug_innermost, plug_around}
 use Rattle.ff_frames.proofs.Taking.{form-open, form-rewritten, form-redex, frame-base, frame-full, frame-calls, frame-rewritten, frame-redex}
+use Rattle.ff_frames.proofs.Walk.{Topped, topped, enough-held}
 
 both : (a b : ActId) (x y : Running) → a ≡ b → x ≡ y → ◌≡◌ {A = Evaluation} (record { base = a; expr = x }) (record { base = b; expr = y })
 both a b x y p q = rw (p, q) refl
 
-row-of : (s : Stack) (e : Expr) → s.focus ≡ focus.Part e → IsValid s → IsRow (out-Expr e)
+row-of : (s : Stack) (e : Expr) → focus_in s ≡ focus.Part e → IsValid s → IsRow (out-Expr e)
 row-of s e h v = rw h at v.at
 
-full-of : (s : Stack) (v : Val) → s.focus ≡ focus.Value v → IsValid s → IsTopFull s.frames.items
-full-of s v h valid = rw h at valid.at
+-- ---- the form at hand
+
+focus-form : (s : Stack) (e : Expr) → s.hand.form ≡ Some e → focus_in s ≡ focus.Part e
+focus-form s e h = rw h refl
+
+laid-form : (s : Stack) (e : Expr) → s.hand.form ≡ Some e → IsValid s → length s.hand.values.items ≡ all_held s.heads.items
+laid-form s e h v = by v.laid where
+  by : IsCleared s.heads.items s.hand ⊎ IsLaid s.heads.items s.hand → length s.hand.values.items ≡ all_held s.heads.items
+  by (inl c) = let p : Some e ≡ None = sym h ∙ c.form in cc
+  by (inr l) = let p = rw h at l in omega (arith, p)
 
 -- a form that is the redex is taken out as it stands
-pub form-gone : (s t : Stack) (e : Expr) → s.focus ≡ focus.Part e → t.frames ≡ s.frames → t.act ≡ s.act → t.depth ≡ s.depth → IsValid s → IsWithoutRedex s t
-form-gone s t e h frames act depth v = record {
-  rewrites = λ x. rw (h, frames, act) (both _ _ _ _ refl (sym (form-rewritten (λ _. x) s.frames.items s.act e (row-of s e h v))));
-  counted = record { depth = rw (frames, depth) v.counted.depth; small = rw depth v.counted.small };
-  no_deeper = rw depth (omega arith);
-}
-
--- a call that is left was counted
-pub enough : (s : Stack) (rest : List Frame) (f : Frame) → s.frames.items ≡ rest ++ f ∷ [] → IsValid s → is_call f ≤ s.depth
-enough s rest f was v = let p = frame-calls s.frames.items rest f was in let q = v.counted.depth in omega arith
-
--- a frame that a value completes is taken off
-pub frame-gone : (s u t : Stack) (f : Frame) (v : Val) → s.focus ≡ focus.Value v → s.frames.items ≡ u.frames.items ++ f ∷ []
-    → u.act ≡ s.act → u.depth ≡ s.depth → t ≡ out_of f u → IsValid s → IsWithoutRedex s t
-frame-gone s u t f v h was act depth is valid =
-    let p = frame-calls s.frames.items u.frames.items f was in let q = valid.counted.depth in let r = valid.counted.small in
-    rw is (record {
-      rewrites = λ x. rw (h, act) (both _ _ _ _
-          (frame-base s.frames.items u.frames.items f was s.act)
-          (sym (frame-rewritten s.frames.items u.frames.items f was (λ _. x) s.act v (full-of s v h valid))));
-      counted = record { depth = rw depth (omega arith); small = rw depth (omega arith) };
+pub form-gone : (s t : Stack) (e : Expr) → s.hand.form ≡ Some e → t.heads ≡ s.heads → t.hand ≡ record s.hand { form = None } → t.act ≡ s.act → t.depth ≡ s.depth → IsValid s → IsWithoutRedex s t
+form-gone s t e h heads hand act depth v =
+    let row = row-of s e (focus-form s e h) v in
+    record {
+      rewrites = λ x. rw (h, heads, hand, act) (both _ _ _ _ refl (sym (form-rewritten (λ _. x) (frames_in s) s.act e row)));
+      empty = record { form = rw hand refl; count = rw (heads, hand) (laid-form s e h v) };
+      counted = record { depth = rw (heads, hand, depth) v.counted.depth; small = rw depth v.counted.small };
       no_deeper = rw depth (omega arith);
-    })
+    }
 
 -- the redex is the form at hand
-pub form-is : (s : Stack) (e : Expr) → s.focus ≡ focus.Part e → IsValid s → redex (evaluation s).expr ≡ whole e
-form-is s e h v = rw h (form-redex s.frames.items s.act e (row-of s e h v))
+pub form-is : (s : Stack) (e : Expr) → s.hand.form ≡ Some e → IsValid s → redex (evaluation s).expr ≡ whole e
+form-is s e h v = rw h (form-redex (frames_in s) s.act e (row-of s e (focus-form s e h) v))
 
--- the redex is the innermost frame with the value
-pub frame-is : (s : Stack) (rest : List Frame) (f : Frame) (v : Val) → s.focus ≡ focus.Value v → s.frames.items ≡ rest ++ f ∷ []
-    → IsValid s → redex (evaluation s).expr ≡ wrap f s.act (Done v)
-frame-is s rest f v h was valid = rw h (frame-redex s.frames.items rest f was s.act v (full-of s v h valid))
+-- ---- the innermost frame
+
+laid-frame : (s : Stack) (rest : List Head) (f : Head) → s.heads.items ≡ rest ++ f ∷ [] → IsValid s → IsLaid s.heads.items s.hand
+laid-frame s rest f was v = by v.laid where
+  some : (rest : List Head) → [] ≡ rest ++ f ∷ [] → ⊥
+  some [] h = cc
+  some (g ∷ rest) h = cc
+
+  by : IsCleared s.heads.items s.hand ⊎ IsLaid s.heads.items s.hand → IsLaid s.heads.items s.hand
+  by (inl c) = absurd (some rest (sym c.heads ∙ was))
+  by (inr l) = l
+
+-- the innermost frame with its values
+pub top-of : (s : Stack) (rest : List Head) (f : Head) → s.heads.items ≡ rest ++ f ∷ [] → s.hand.form ≡ None → IsValid s → Topped s.heads.items rest f s.hand
+top-of s rest f was free v = topped s.heads.items rest f s.hand was free (laid-frame s rest f was v)
+
+-- there is a value at hand behind its values
+pub enough-values : (s : Stack) (rest : List Head) (f : Head) → s.heads.items ≡ rest ++ f ∷ [] → s.hand.form ≡ None → IsValid s → held f < length s.hand.values.items
+enough-values s rest f was free v = enough-held s.heads.items rest f s.hand was free (laid-frame s rest f was v)
+
+call-bare : (f : Head) (vs : List Val) → is_call (with_values f vs) ≡ is_call (with_values f [])
+call-bare (head.Part e n) vs = refl
+call-bare (head.Do es n) vs = refl
+call-bare (head.Loop e) vs = refl
+call-bare head.Last vs = refl
+call-bare (head.Inside a) vs = refl
+
+outside-bare : (f : Head) (vs : List Val) (a : ActId) → outside (with_values f vs) a ≡ outside (with_values f []) a
+outside-bare (head.Part e n) vs a = refl
+outside-bare (head.Do es n) vs a = refl
+outside-bare (head.Loop e) vs a = refl
+outside-bare head.Last vs a = refl
+outside-bare (head.Inside b) vs a = refl
+
+module _ (s : Stack) (rest : List Head) (f : Head) (top : Topped s.heads.items rest f s.hand) (v : IsValid s) where
+  full-of : IsTopFull (frames_in s)
+  full-of = rw top.focused at v.at
+
+  -- a call that is left was counted
+  pub enough : is_call (with_values f []) ≤ s.depth
+  enough =
+      let p = frame-calls (frames_in s) (frames_of rest top.below) (with_values f top.own) top.framed in
+      let q = v.counted.depth in let r = call-bare f top.own in omega arith
+
+  -- a frame that a value completes is taken off
+  pub frame-gone : (u t : Stack) → u.heads.items ≡ rest → u.hand.values.items ≡ top.below → u.hand.form ≡ None
+      → u.act ≡ s.act → u.depth ≡ s.depth → t ≡ out_of f u → IsWithoutRedex s t
+  frame-gone u t heads values form act depth is =
+      let fs = frames_in s in let gs = frames_of rest top.below in let g = with_values f top.own in
+      let p = frame-calls fs gs g top.framed in let q = v.counted.depth in let r = v.counted.small in
+      let o = call-bare f top.own in
+      rw is (record {
+        rewrites = λ x. rw (top.focused, act, heads, values, ← outside-bare f top.own s.act) (both _ _ _ _
+            (frame-base fs gs g top.framed s.act)
+            (sym (frame-rewritten fs gs g top.framed (λ _. x) s.act top.value full-of)));
+        empty = record { form = form; count = rw (heads, values) top.under };
+        counted = record { depth = rw (depth, heads, values) (omega arith); small = rw depth (omega arith) };
+        no_deeper = rw depth (omega arith);
+      })
+
+  -- the redex is the innermost frame with the value
+  pub frame-is : redex (evaluation s).expr ≡ wrap (with_values f top.own) s.act (Done top.value)
+  frame-is = rw top.focused (frame-redex (frames_in s) (frames_of rest top.below) (with_values f top.own) top.framed s.act top.value full-of)
+
+  -- the innermost frame has all its operands
+  pub full-frame : IsFull (with_values f top.own)
+  full-frame = frame-full (frames_in s) (frames_of rest top.below) (with_values f top.own) top.framed full-of
+
+  -- its values and the one at hand are the last
+  pub last-values : s.hand.values.items ≡ top.below ++ (top.own ++ top.value ∷ [])
+  last-values = top.values ∙ append_assoc top.below top.own (top.value ∷ [])
+
+  pub last-count : length (top.own ++ top.value ∷ []) ≡ held f + 1
+  last-count = length-append top.own (top.value ∷ []) ∙ (let m = top.many in omega (arith, m))
+
+-- ---- a value
+
+-- with nothing around, a value at hand is the whole
+whole-value : (s : Stack) → s.heads.items ≡ [] → s.hand.form ≡ None → is_value (evaluation s).expr ≡ true
+whole-value s heads free = rw (heads, free) (by s.hand.values.items) where
+  by : (vs : List Val) → is_value (shown (focus_of None (drop 0 vs))) ≡ true
+  by [] = refl
+  by (v ∷ vs) = refl
+
+-- so a frame stands around it where the whole is none
+pub some-frame : (s : Stack) → s.heads.items ≡ [] → s.hand.form ≡ None → is_value (evaluation s).expr ≡ false → ⊥
+some-frame s heads free unfinished = let p : true ≡ false = sym (whole-value s heads free) ∙ unfinished in cc
+
+-- within a frame the whole is none
+pub value-framed : (s : Stack) (rest : List Head) (f : Head) → s.heads.items ≡ rest ++ f ∷ [] → is_value (evaluation s).expr ≡ false
+value-framed s rest f was = rw was (by rest s.hand.values.items _) where
+  by : (rest : List Head) (vs : List Val) (x : Running) → is_value (plug (frames_of (rest ++ f ∷ []) vs) s.act x) ≡ false
+  by [] vs x = wrap_value _ _ _
+  by (g ∷ rest) vs x = wrap_value _ _ _
+
+-- a form at hand is no value
+pub value-form : (s : Stack) (e : Expr) → s.hand.form ≡ Some e → IsValid s → is_value (evaluation s).expr ≡ false
+value-form s e h v = rw h (plug_value (frames_in s) s.act (whole e) (form-open e (row-of s e (focus-form s e h) v)))
+
+last-alone : (s : Stack) → IsValid s → s.heads.items ≡ [] → s.hand.form ≡ None → (evaluation s).expr ≡ Done (last_or s.hand.null s.hand.values.items)
+last-alone s v heads free = rw (heads, free) (by v.laid) where
+  alone : (vs : List Val) → length vs ≡ 1 → shown (focus_of None (drop 0 vs)) ≡ Done (last_or s.hand.null vs)
+  alone [] n = cc
+  alone (w ∷ []) n = refl
+  alone (w ∷ w' ∷ ws) n = absurd (omega (arith, n))
+
+  by : IsCleared s.heads.items s.hand ⊎ IsLaid s.heads.items s.hand → shown (focus_of None (drop 0 s.hand.values.items)) ≡ Done (last_or s.hand.null s.hand.values.items)
+  by (inl c) = rw (c.values, c.null) refl
+  by (inr l) = alone s.hand.values.items (rw (heads, free) at l)
+
+-- what is read of the hand where nothing stands around is the value of the whole
+pub alone-value : (s : Stack) (r : Option (Bor Val)) → IsValid s → s.heads.items ≡ [] → option_copied r ≡ value_of s.hand.form s.hand.null s.hand.values.items
+    → MatchOption r (is_value (evaluation s).expr ≡ false) (λ v. (evaluation s).expr ≡ Done v.now)
+alone-value s r v heads is = by s.hand.form refl r is where
+  by : (form : Option Expr) → s.hand.form ≡ form → (r : Option (Bor Val)) → option_copied r ≡ value_of form s.hand.null s.hand.values.items
+      → MatchOption r (is_value (evaluation s).expr ≡ false) (λ v. (evaluation s).expr ≡ Done v.now)
+  by (Some e) h None is = value-form s e h v
+  by (Some e) h (Some x) is = cc
+  by None h None is = cc
+  by None h (Some x) is = last-alone s v heads h ∙ (let p : x.now ≡ last_or s.hand.null s.hand.values.items = cc in ap Done (sym p))
 
 -- ---- the depth
 
@@ -88,7 +206,7 @@ shown-innermost (focus.Part e) a = (source e).innermost a
 -- the depth is the number of calls
 pub deep : (s : Stack) → IsValid s → s.depth ≡ insides (evaluation s).expr
 deep s v =
-    let p = plug_insides s.frames.items s.act (shown s.focus) in let q = shown-insides s.focus in let r = v.counted.depth in omega arith
+    let p = plug_insides (frames_in s) s.act (shown (focus_in s)) in let q = shown-insides (focus_in s) in let r = v.counted.depth in omega arith
 
 shown-around : (x : Focus) → calls_around (shown x) ≡ 0
 shown-around (focus.Value v) = refl
@@ -97,25 +215,25 @@ shown-around (focus.Part e) = let p = whole-around e in let q = (source e).insid
 -- each of the calls stands around the redex
 pub all-around : (s : Stack) → IsValid s → s.depth ≡ calls_around (evaluation s).expr
 all-around s v =
-    let p = plug_around s.frames.items s.act (shown s.focus) in let q = shown-around s.focus in let r = v.counted.depth in omega arith
+    let p = plug_around (frames_in s) s.act (shown (focus_in s)) in let q = shown-around (focus_in s) in let r = v.counted.depth in omega arith
 
 -- the activation is the innermost
 pub active : (s : Stack) → s.act ≡ innermost (evaluation s).base (evaluation s).expr
-active s = sym (plug_innermost s.frames.items s.act (shown s.focus) ∙ shown-innermost s.focus s.act)
+active s = sym (plug_innermost (frames_in s) s.act (shown (focus_in s)) ∙ shown-innermost (focus_in s) s.act)
 
 -- ---- a frame around what is put for the redex
 
 -- what is put stands in a frame more
-pub pushed : (t u : Stack) (f : Frame) (x : Running) → u.frames.items ≡ t.frames.items ++ f ∷ [] → outside f u.act ≡ t.act
+pub pushed : (t u : Stack) (f : Frame) (x : Running) → frames_in u ≡ frames_in t ++ f ∷ [] → outside f u.act ≡ t.act
     → with_part u x ≡ with_part t (wrap f u.act x)
 pushed t u f x is act =
     both _ _ _ _
-    (rw is (base-snoc t.frames.items f u.act) ∙ ap (base_of t.frames.items) act)
-    (rw is (plug-snoc t.frames.items f u.act x) ∙ ap (λ a. plug t.frames.items a (wrap f u.act x)) act)
+    (rw is (base-snoc (frames_in t) f u.act) ∙ ap (base_of (frames_in t)) act)
+    (rw is (plug-snoc (frames_in t) f u.act x) ∙ ap (λ a. plug (frames_in t) a (wrap f u.act x)) act)
 
 -- whose call is counted
-pub pushed-calls : (t u : Stack) (f : Frame) → IsCounted t → u.frames.items ≡ t.frames.items ++ f ∷ [] → calls u.frames.items ≡ t.depth + is_call f
-pushed-calls t u f c is = let p = calls-snoc t.frames.items f in let q = c.depth in rw is (omega arith)
+pub pushed-calls : (t u : Stack) (f : Frame) → IsCounted t → frames_in u ≡ frames_in t ++ f ∷ [] → calls (frames_in u) ≡ t.depth + is_call f
+pushed-calls t u f c is = let p = calls-snoc (frames_in t) f in let q = c.depth in rw is (omega arith)
 
 outside-none : (f : Frame) (a : ActId) → is_call f ≡ 0 → outside f a ≡ a
 outside-none (frame.Inside b) a h = absurd (omega arith)
@@ -129,50 +247,56 @@ wrap-none (frame.Loop e) a b x h = refl
 wrap-none frame.Last a b x h = refl
 
 -- a frame that is no call
-pub framed-counted : (t u : Stack) (f : Frame) → is_call f ≡ 0 → IsCounted t → u.frames.items ≡ t.frames.items ++ f ∷ [] → u.depth ≡ t.depth → IsCounted u
+pub framed-counted : (t u : Stack) (f : Frame) → is_call f ≡ 0 → IsCounted t → frames_in u ≡ frames_in t ++ f ∷ [] → u.depth ≡ t.depth → IsCounted u
 framed-counted t u f p c is depth =
     let q = pushed-calls t u f c is in let r = c.small in record { depth = omega arith; small = omega arith }
 
 -- what is put, in a frame that is no call
-pub framed : (t u v : Stack) (f : Frame) (x : Running) (a : ActId) → is_call f ≡ 0 → u.frames.items ≡ t.frames.items ++ f ∷ []
+pub framed : (t u v : Stack) (f : Frame) (x : Running) (a : ActId) → is_call f ≡ 0 → frames_in u ≡ frames_in t ++ f ∷ []
     → u.act ≡ t.act → evaluation v ≡ with_part u x → evaluation v ≡ with_part t (wrap f a x)
 framed t u v f x a p is act e =
     e ∙ pushed t u f x is (outside-none f u.act p ∙ act) ∙ ap (with_part t) (wrap-none f u.act a x p)
 
 -- a call
 pub called-counted : (s t u : Stack) (b : ActId) → IsValid s → IsWithoutRedex s t → insides (evaluation s).expr < MOST_CALLS
-    → u.frames.items ≡ t.frames.items ++ frame.Inside b ∷ [] → u.depth ≡ t.depth + 1 → IsCounted u
+    → frames_in u ≡ frames_in t ++ frame.Inside b ∷ [] → u.depth ≡ t.depth + 1 → IsCounted u
 called-counted s t u b v o less is depth =
     let p = pushed-calls t u (frame.Inside b) o.counted is in let q = o.no_deeper in let r = deep s v in
     record { depth = omega arith; small = omega arith }
 
 -- what is put, in a call
-pub called : (s t u v : Stack) (x y : Running) → IsWithoutRedex s t → u.frames.items ≡ t.frames.items ++ frame.Inside t.act ∷ []
+pub called : (s t u v : Stack) (x y : Running) → IsWithoutRedex s t → frames_in u ≡ frames_in t ++ frame.Inside t.act ∷ []
     → x ≡ y → evaluation v ≡ with_part u x → evaluation v ≡ rewritten_in (λ _. Inside u.act y) (evaluation s)
 called s t u v x y o is same e = e ∙ ap (with_part u) same ∙ pushed t u (frame.Inside t.act) y is refl ∙ o.rewrites (Inside u.act y)
 
 -- a call with its one argument
-pub one-call : (s t : Stack) (f : Frame) (code : Code) (v : Val) → IsCallFrame code f → t.frames.items ≡ []
-    → ((a : ActId) → evaluation s ≡ with_part t (wrap f a (Done v)))
-    → evaluation s ≡ record { base = t.act; expr = Apply (Done (val.Code code)) (more (Done v) none) }
-one-call s t f code v call empty e = e t.act ∙ rw empty (both _ _ _ _ refl (call.expr t.act (Done v)))
+pub one-call : (s t : Stack) (f : Head) (code : Code) (v : Val) → IsCallFrame code f → t.heads.items ≡ f ∷ [] → t.hand.values.items ≡ val.Code code ∷ []
+    → evaluation s ≡ with_part t (Done v) → evaluation s ≡ record { base = t.act; expr = Apply (Done (val.Code code)) (more (Done v) none) }
+one-call s t f code v call heads values e =
+    e ∙ rw (heads, values, call.one) (both _ _ _ _ (alone f call.one) (call.expr t.act (Done v))) where
+      alone : (f : Head) → held f ≡ 1 → outside (with_values f (val.Code code ∷ [])) t.act ≡ t.act
+      alone (head.Part e n) h = refl
+      alone (head.Do es n) h = refl
+      alone (head.Loop e) h = refl
+      alone head.Last h = refl
+      alone (head.Inside a) h = cc
 
 -- what is put for the redex that was taken out
-pub rewrote : (g : Running → Running) (s t u : Stack) (r : Taken) (p : Option Frame × Focus) → IsWithoutRedex s t → redex (evaluation s).expr ≡ taken r s.act
-    → IsPut (λ a. g (taken r a)) p → ((a : ActId) → evaluation u ≡ with_part t (within p.0 a (shown p.1)))
+pub rewrote : (g : Running → Running) (s t u : Stack) (r : Taken) (p : Option Head × Focus) (vs : List Val) → IsWithoutRedex s t → redex (evaluation s).expr ≡ taken vs r s.act
+    → IsPut (λ a. g (taken vs r a)) p → ((a : ActId) → evaluation u ≡ with_part t (within p.0 a (shown p.1)))
     → evaluation u ≡ rewritten_in (λ _. g (redex (evaluation s).expr)) (evaluation s)
-rewrote g s t u r p o is put e =
-    e s.act ∙ ap (with_part t) (put.same s.act) ∙ o.rewrites (g (taken r s.act)) ∙ ap (λ y. rewritten_in (λ _. g y) (evaluation s)) (sym is)
+rewrote g s t u r p vs o is put e =
+    e s.act ∙ ap (with_part t) (put.same s.act) ∙ o.rewrites (g (taken vs r s.act)) ∙ ap (λ y. rewritten_in (λ _. g y) (evaluation s)) (sym is)
 
 -- ---- the redex read off the stack
 
 -- the redex by its layer
-pub form-layer : (s : Stack) (e f : Expr) → s.focus ≡ focus.Part e → f ≡ e → IsValid s → redex (evaluation s).expr ≡ layer (out-Expr f)
+pub form-layer : (s : Stack) (e f : Expr) → s.hand.form ≡ Some e → f ≡ e → IsValid s → redex (evaluation s).expr ≡ layer (out-Expr f)
 form-layer s e f h same v = form-is s e h v ∙ whole-layer e ∙ ap (λ x. layer (out-Expr x)) (sym same)
 
--- the innermost frame has all its operands
-pub full-frame : (s : Stack) (rest : List Frame) (f : Frame) (v : Val) → s.focus ≡ focus.Value v → s.frames.items ≡ rest ++ f ∷ [] → IsValid s → IsFull f
-full-frame s rest f v h was valid = frame-full s.frames.items rest f was (full-of s v h valid)
+-- the form at hand is a row
+pub form-row : (s : Stack) (e : Expr) → s.hand.form ≡ Some e → IsValid s → IsRow (out-Expr e)
+form-row s e h v = row-of s e (focus-form s e h) v
 
 test-if : (l : Expr-F Doc Expr Handler) (vs : List Val) (v : Val) → IsTest (around l vs (Done v)) → IsIf l
 test-if (Expr-F.If e f g) vs v h = tt
@@ -188,10 +312,10 @@ row-test (Expr-F.If e f g) r h = r
 row-test _ r h = h
 
 -- a test stands in an `if`
-pub tested : (r : Taken) (a : ActId) → IsRedex r → IsTest (taken r a) → IsTested r
-tested (taken_out.Form e) a row h = row-test (out-Expr e) row h
-tested (taken_out.Full (frame.Part e vs) v) a row h = test-if (out-Expr e) vs v h
-tested (taken_out.Full _ v) a row h = absurd h
+pub tested : (r : Taken) (vs : List Val) (a : ActId) → IsRedex r → IsTest (taken vs r a) → IsTested r
+tested (taken_out.Form e) vs a row h = row-test (out-Expr e) row h
+tested (taken_out.Full (head.Part e n) v) vs a row h = test-if (out-Expr e) vs v h
+tested (taken_out.Full _ v) vs a row h = absurd h
 
 -- a form around a value that is no store's is a `do`
 local-do : (l : Expr-F Doc Expr Handler) (vs : List Val) (v : Val) → IsLocal (around l vs (Done v)) → IsDo l
@@ -205,14 +329,64 @@ local-do (Expr-F.Tree d) vs v h = tt
 local-do _ vs v h = absurd h
 
 -- the same of a redex
-pub local-out : (r : Taken) (a : ActId) → IsLocal (taken r a) → IsLocalOut r
-local-out (taken_out.Form e) a h = h
-local-out (taken_out.Full (frame.Part e vs) v) a h = local-do (out-Expr e) vs v h
-local-out (taken_out.Full _ v) a h = tt
+pub local-out : (r : Taken) (vs : List Val) (a : ActId) → IsLocal (taken vs r a) → IsLocalOut r
+local-out (taken_out.Form e) vs a h = h
+local-out (taken_out.Full (head.Part e n) v) vs a h = local-do (out-Expr e) vs v h
+local-out (taken_out.Full _ v) vs a h = tt
 
--- a form at hand is no value
-pub value-form : (s : Stack) (e : Expr) → s.focus ≡ focus.Part e → IsValid s → is_value (evaluation s).expr ≡ false
-value-form s e h v = rw h (plug_value s.frames.items s.act (whole e) (form-open e (row-of s e h v)))
+-- ---- what is put
+
+-- a frame that holds no value stands inside of the others
+pub frames-pushed : (t u : Stack) (g : Head) → IsEmptyHanded t.heads.items t.hand → held g ≡ 0 → u.heads.items ≡ t.heads.items ++ g ∷ [] → u.hand ≡ t.hand
+    → frames_in u ≡ frames_in t ++ with_values g [] ∷ []
+frames-pushed t u g empty zero_held heads hand =
+    rw (heads, hand)
+    (ap (frames_of (t.heads.items ++ g ∷ [])) (sym (append-nil t.hand.values.items)) ∙ frames-snoc t.heads.items g t.hand.values.items [] empty.count (sym zero_held))
+
+-- and nothing is at hand still
+pub empty-pushed : (t u : Stack) (g : Head) → IsEmptyHanded t.heads.items t.hand → held g ≡ 0 → u.heads.items ≡ t.heads.items ++ g ∷ [] → u.hand ≡ t.hand
+    → IsEmptyHanded u.heads.items u.hand
+empty-pushed t u g empty zero_held heads hand = record {
+  form = rw hand empty.form;
+  count = rw (heads, hand) (empty.count ∙ (let p = all_held-snoc t.heads.items g in omega (arith, p, zero_held)));
+}
+
+-- the walk from what was put at hand
+module _ (s t : Stack) (h : Hand) (x : Focus) (empty : IsEmptyHanded s.heads.items s.hand) (holding : IsHolding s.hand.values.items x h) where
+  walk-at : at_hand s.heads.items h ≡ x
+  walk-at = holds-at s.heads.items h s.hand.values.items x (empty-holds s.heads.items s.hand h x empty holding)
+
+  walk-frames : frames s.heads.items h ≡ frames_in s
+  walk-frames = holds-frames s.heads.items h s.hand.values.items x (empty-holds s.heads.items s.hand h x empty holding)
+
+  pub walked : t.act ≡ s.act → IsThere (frames s.heads.items h) (shown (at_hand s.heads.items h)) (frames_in t) (focus_in t) → evaluation t ≡ with_part s (shown x)
+  walked act there =
+      let alike = (rw (walk-at, walk-frames) at there).alike in
+      rw act (both _ _ _ _ (alike.base s.act) (alike.expr s.act))
+
+  pub walked-valid : t.depth ≡ s.depth → IsThere (frames s.heads.items h) (shown (at_hand s.heads.items h)) (frames_in t) (focus_in t) → IsLaid t.heads.items t.hand → IsCounted s → IsValid t
+  walked-valid depth there laid counted =
+      let same = (rw (walk-at, walk-frames) at there).alike.calls in
+      record {
+        laid = inr laid;
+        at = there.at;
+        counted = record { depth = depth ∙ counted.depth ∙ sym same; small = rw depth counted.small };
+      }
+
+-- an equal stack
+module _ (s t : Stack) (heads : t.heads.items ≡ s.heads.items) (values : t.hand.values.items ≡ s.hand.values.items) (form : t.hand.form ≡ s.hand.form) (act : t.act ≡ s.act) where
+  pub copied-same : evaluation t ≡ evaluation s
+  copied-same = rw (heads, values, form, act) refl
+
+  pub copied-valid : t.hand.null ≡ val.Null → t.depth ≡ s.depth → IsValid s → IsValid t
+  copied-valid null depth v = record {
+    laid = by v.laid;
+    at = rw (heads, values, form) v.at;
+    counted = record { depth = rw (heads, values, depth) v.counted.depth; small = rw depth v.counted.small };
+  } where
+    by : IsCleared s.heads.items s.hand ⊎ IsLaid s.heads.items s.hand → IsCleared t.heads.items t.hand ⊎ IsLaid t.heads.items t.hand
+    by (inl c) = inl (record { heads = heads ∙ c.heads; values = values ∙ c.values; form = form ∙ c.form; null = null })
+    by (inr l) = inr (rw (heads, values, form) l)
 
 -- putting what g gives for the redex is rewriting by g
 pub by-redex : (g : Running → Running) (e : Evaluation) → rewritten_in (λ _. g (redex e.expr)) e ≡ rewritten_in g e

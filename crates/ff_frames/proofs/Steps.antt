@@ -57,7 +57,7 @@ after-snoc : (vs : List Val) (v : Val) (x : Running) (rest : Runnings) → after
 after-snoc [] v x rest = refl
 after-snoc (w ∷ vs) v x rest = ap (more (Done w)) (after-snoc vs v x rest)
 
-length-snoc : {A : Type 0} (xs : List A) (x : A) → length (xs ++ x ∷ []) ≡ suc (length xs)
+pub length-snoc : {A : Type 0} (xs : List A) (x : A) → length (xs ++ x ∷ []) ≡ suc (length xs)
 length-snoc [] x = refl
 length-snoc (y ∷ ys) x = ap suc (length-snoc ys x)
 

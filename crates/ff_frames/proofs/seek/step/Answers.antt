@@ -1,20 +1,36 @@
-use Rattle.std.proofs.Common.{◌≡◌, ◌-◌, suc, length, refl, sym, vec_len, arith}
+use Rattle.std.proofs.Common.{◌≡◌, ◌∙◌, ◌-◌, suc, length, sym, vec_len, arith}
 use Rattle.std.proofs.lemmas.Result.{IfOk-weaker}
 use Rattle.ff_frames.proofs.Ends.{at-last}
-use Rattle.ff_frames.proofs.Steps.{opens}
-use Rattle.ff_frames.proofs.Walk.{step-opened, step-fed}
+use Rattle.ff_frames.proofs.Heads.{untouched}
+use Rattle.ff_frames.proofs.Walk.{enough-held, went-up}
 use Rattle.ff_frames.proofs.seek.step.Goals as goal
 
-pub returns-in_ok-push-in-Some : goal.returns-in_ok-push-in-Some
-returns-in_ok-push-in-Some c =
-    rw c.in-Part.is
-    (step-opened _ _ _ c.in-Part.form c.in-Some.next c.in_ok-push-in-Some.ensures.items
-    (opens c.in-Part.form c.new.result _ c.in-Some.next refl c.new.ensures (rw (c.get.ensures, c.in-Some.is) at c.in_ok-operand-in-Part.ensures)))
-
-pub returns-in-Some-last_mut : goal.returns-in-Some-last_mut
-returns-in-Some-last_mut c =
-    let fs = c.args.frames.now in
+pub fed-requires-clause-value : goal.fed-requires-clause-value
+fed-requires-clause-value c =
+    let hs = c.args.heads.now in
+    let free = sym c.take_form.ensures.form ∙ c.in-None.is in
+    let same = untouched c.args.hand.now c.take_form.new.self c.take_form.ensures.rest free in
     let item = c.in-Some-last_mut.ensures.item in
-    let len : length fs.items ≡ suc (vec_len fs - 1) = let p = fs.ok.0 in let q = item.3.0 in omega arith in
-    let last = at-last fs.items (vec_len fs - 1) c.in-Some-last_mut.frame.now c.fed.new.frame len (sym (item.3.1 _)) in
-    rw c.in-Value.is (IfOk-weaker c.fed.result _ _ (λ s o. step-fed _ _ _ _ _ _ s last.1 last.2 o) c.fed.ensures)
+    let len : length hs.items ≡ suc (vec_len hs - 1) = let p = hs.ok.0 in let q = item.3.0 in omega arith in
+    let last = at-last hs.items (vec_len hs - 1) c.in-Some-last_mut.head.now c.in-Some-last_mut.head.now len (sym (item.3.1 _)) in
+    rw same (enough-held hs.items last.0 c.in-Some-last_mut.head.now c.args.hand.now last.1 free c.requires.laid)
+
+pub returns-in-Some-last_mut-clause-laid : goal.returns-in-Some-last_mut-clause-laid
+returns-in-Some-last_mut-clause-laid c =
+    let hs = c.args.heads.now in
+    let free = sym c.take_form.ensures.form ∙ c.in-None.is in
+    let same = untouched c.args.hand.now c.take_form.new.self c.take_form.ensures.rest free in
+    let item = c.in-Some-last_mut.ensures.item in
+    let len : length hs.items ≡ suc (vec_len hs - 1) = let p = hs.ok.0 in let q = item.3.0 in omega arith in
+    let last = at-last hs.items (vec_len hs - 1) c.in-Some-last_mut.head.now c.fed.new.head len (sym (item.3.1 _)) in
+    IfOk-weaker c.fed.result _ _ (λ on is. (went-up hs.items _ last.0 _ _ c.args.hand.now c.fed.new.hand on last.1 last.2 free c.requires.laid (rw same at is)).laid) c.fed.ensures
+
+pub returns-in-Some-last_mut-clause-step : goal.returns-in-Some-last_mut-clause-step
+returns-in-Some-last_mut-clause-step c =
+    let hs = c.args.heads.now in
+    let free = sym c.take_form.ensures.form ∙ c.in-None.is in
+    let same = untouched c.args.hand.now c.take_form.new.self c.take_form.ensures.rest free in
+    let item = c.in-Some-last_mut.ensures.item in
+    let len : length hs.items ≡ suc (vec_len hs - 1) = let p = hs.ok.0 in let q = item.3.0 in omega arith in
+    let last = at-last hs.items (vec_len hs - 1) c.in-Some-last_mut.head.now c.fed.new.head len (sym (item.3.1 _)) in
+    IfOk-weaker c.fed.result _ _ (λ on is. (went-up hs.items _ last.0 _ _ c.args.hand.now c.fed.new.hand on last.1 last.2 free c.requires.laid (rw same at is)).step) c.fed.ensures
