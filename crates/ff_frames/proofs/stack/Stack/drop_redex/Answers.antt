@@ -1,4 +1,4 @@
-use Rattle.std.proofs.Common.{refl, sym, ◌∙◌}
+use Rattle.std.proofs.Common.{◌++◌, ◌∷◌, [], refl, sym, ◌∙◌}
 use Rattle.ff_frames.proofs.Heads.{untouched}
 use Rattle.ff_frames.proofs.Rewriting.{enough, enough-values, form-gone, frame-gone, last-count, last-values, top-of}
 use Rattle.ff_frames.proofs.stack.Stack.drop_redex.Goals as goal
@@ -25,5 +25,5 @@ returns-in-Some-pop c =
     let top = top-of s _ c.in-Some-pop.head c.in-Some-pop.ensures.items free c.requires.valid in
     let same = untouched s.hand c.take_form.new.self c.take_form.ensures.rest free in
     frame-gone s _ c.in-Some-pop.head top c.requires.valid _ c.go_out_of.new.self refl
-    (c.drop_values.ensures.left top.below _ (rw same (last-values s _ c.in-Some-pop.head top c.requires.valid)) (last-count s _ c.in-Some-pop.head top c.requires.valid))
+    (c.drop_values.ensures.left top.below (top.own ++ top.value ∷ []) (rw same (last-values s _ c.in-Some-pop.head top c.requires.valid)) (last-count s _ c.in-Some-pop.head top c.requires.valid))
     (c.drop_values.ensures.form ∙ rw same free) refl refl c.go_out_of.ensures
