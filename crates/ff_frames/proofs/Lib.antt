@@ -6,3 +6,4 @@ pub mod Reading
 pub mod Taking
 pub mod Rewriting
 pub mod Locals
+pub mod Holding
