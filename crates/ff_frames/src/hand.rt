@@ -174,9 +174,9 @@ impl Hand {
     {
         match expr {
             Expr::Prim(_, args) => self.hold_item(args, at),
-            Expr::Let(_, part) | Expr::Set(_, part) | Expr::If(part, _, _) => self.hold_only(
-                part, at,
-            ),
+            Expr::Let(_, part) | Expr::Set(_, part) | Expr::If(part, _, _) => {
+                self.hold_only(part, at)
+            }
             Expr::Do(parts) => self.hold_first(parts, at),
             Expr::Apply(function, args) => {
                 if at == 0 {
