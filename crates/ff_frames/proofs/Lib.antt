@@ -7,3 +7,4 @@ pub mod Reading
 pub mod Taking
 pub mod Rewriting
 pub mod Locals
+pub mod Holding

@@ -35,11 +35,6 @@ pub full-Apply : (e : Expr) (es : List Expr) (vs : List Val) (x : Running) → s
     → around (Expr-F.Apply e es) vs x ≡ applied (after vs x none)
 full-Apply e es vs x h = ap (λ r. applied (after vs x (wholes r))) (drop-none (e ∷ es) (suc (length vs)) h)
 
--- a function and its arguments, of the values of all operands
-pub call-read : (vs args : List Val) (v f g : Val) (all : List Val) → vs ≡ f ∷ args → g ≡ f → all ≡ args ++ v ∷ []
-    → applied (after vs (Done v) none) ≡ Apply (Done g) (values all)
-call-read vs args v f g all p q r = rw (p, q, r) (ap (Apply (Done f)) (after-last args v))
-
 -- a form that is or becomes an `if`
 pub if-kind : (e : Expr)
     → ((c : Expr) × (f : Expr) × (g : Expr) × (e ≡ expr.If c f g))
@@ -66,7 +61,11 @@ prim-read e op es vs v all i h r =
     let l = ap out-Expr i ∙ expr.outs-Prim op es in
     rw (l, r) (full-Prim op es vs (Done v) (rw l at h) ∙ ap (Prim op) (after-last vs v))
 
--- a call whose last argument is at hand
-pub apply-read : (e f : Expr) (es : List Expr) (vs : List Val) (v : Val) → e ≡ expr.Apply f es
-    → slice_get (operands (out-Expr e)) (suc (length vs)) ≡ None → applied (after vs (Done v) none) ≡ around (out-Expr e) vs (Done v)
-apply-read e f es vs v i h = let l = ap out-Expr i ∙ expr.outs-Apply f es in rw l (sym (full-Apply f es vs (Done v) (rw l at h)))
+-- a function and its arguments, of the values of all operands
+pub call-read : (e f : Expr) (es : List Expr) (vs : List Val) (v g : Val) (args all : List Val) → e ≡ expr.Apply f es
+    → slice_get (operands (out-Expr e)) (suc (length vs)) ≡ None → all ≡ vs ++ v ∷ [] → all ≡ g ∷ args
+    → around (out-Expr e) vs (Done v) ≡ Apply (Done g) (values args)
+call-read e f es vs v g args all i h r s =
+    let l = ap out-Expr i ∙ expr.outs-Apply f es in
+    let p : vs ++ v ∷ [] ≡ g ∷ args = sym r ∙ s in
+    rw l (full-Apply f es vs (Done v) (rw l at h) ∙ ap applied (after-last vs v ∙ ap values p))

@@ -159,8 +159,10 @@ impl Hand {
     {
         match list.get(at) {
             None => return Ok(false),
-            Some(Expr::Lit(lit)) => self.hold_literal(lit)?,
-            Some(_) => self.form = Some(Source::at(list, at)?),
+            Some(expr) => match expr {
+                Expr::Lit(lit) => self.hold_literal(lit)?,
+                _ => self.form = Some(Source::at(list, at)?),
+            },
         }
         Ok(true)
     }
@@ -172,7 +174,9 @@ impl Hand {
     {
         match expr {
             Expr::Prim(_, args) => self.hold_item(args, at),
-            Expr::Let(_, part) | Expr::Set(_, part) | Expr::If(part, _, _) => self.hold_only(part, at),
+            Expr::Let(_, part) | Expr::Set(_, part) | Expr::If(part, _, _) => {
+                self.hold_only(part, at)
+            }
             Expr::Do(parts) => self.hold_first(parts, at),
             Expr::Apply(function, args) => {
                 if at == 0 {

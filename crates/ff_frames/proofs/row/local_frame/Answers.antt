@@ -2,4 +2,4 @@ use Rattle.std.proofs.lemmas.Result.{IfOk-weaker}
 use Rattle.ff_frames.proofs.row.local_frame.Goals as goal
 
 pub returns-in-Part : goal.returns-in-Part
-returns-in-Part c = IfOk-weaker c.after_first.result _ _ (λ p h. rw (c.in-Part.is, ← c.get.ensures) (h c.in-Part.field-1)) c.after_first.ensures
+returns-in-Part c = IfOk-weaker c.after_first.result _ _ (λ p h vs. rw (c.in-Part.is, ← c.get.ensures) (h vs)) c.after_first.ensures
