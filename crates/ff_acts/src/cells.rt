@@ -55,36 +55,6 @@ impl VarCell {
     {
         &self.value
     }
-
-    /// The variable with another value, which it shares.
-    pub(crate) fn with_value(&self, value: &Val) -> Result<VarCell, NoMemory>
-        ensures { IfOk result (λ cell. cell ≡ record self.now { value = value.now }) }
-    {
-        Ok(VarCell {
-            owner: self.owner,
-            name: self.name.copy()?,
-            value: value.copy()?,
-            left: self.left,
-            right: self.right,
-        })
-    }
-
-    /// The variable with other links.
-    pub(crate) fn with_links(
-        &self,
-        left: Option<u32>,
-        right: Option<u32>,
-    ) -> Result<VarCell, NoMemory>
-        ensures { IfOk result (λ cell. cell ≡ record self.now { left = left; right = right }) }
-    {
-        Ok(VarCell {
-            owner: self.owner,
-            name: self.name.copy()?,
-            value: self.value.copy()?,
-            left,
-            right,
-        })
-    }
 }
 
 impl<C: Ledger> Cell<C> for ActCell {
@@ -100,7 +70,13 @@ impl<C: Ledger> Cell<C> for ActCell {
 impl<C: Ledger> Cell<C> for VarCell {
     fn copy(&self, copies: &mut Steps<C>) -> Result<VarCell, NoMemory> {
         copies.tick();
-        self.with_links(self.left, self.right)
+        Ok(VarCell {
+            owner: self.owner,
+            name: self.name.copy()?,
+            value: self.value.copy()?,
+            left: self.left,
+            right: self.right,
+        })
     }
 }
 

@@ -4,6 +4,7 @@ ghost use Rattle.ff_acts.specs.declared.cells.VarCell.{VarCell as Variable};
 ghost use Rattle.ff_acts.specs.Stops.{LivesAt, put_top, put_link};
 
 use crate::cells::{ActCell, VarCell, cell_at};
+use crate::edits::{LeftLink, NewValue, RightLink};
 use crate::searching::Place;
 use ff_cow::CowVec;
 use ff_name::NoMemory;
@@ -26,8 +27,8 @@ pub(crate) fn write<C: Ledger>(
     ensures later { copies.old ≤ copies.new }
     ensures copies { copies.new ≤ copies.old + 16 }
 {
-    let cell = cell_at(vars, k).with_value(value)?;
-    let Ok(()) = vars.set(k, cell, copies) else {
+    let value = value.copy()?;
+    let Ok(()) = vars.edit(k, NewValue { value }, copies) else {
         return Err(AllocError);
     };
     Ok(())
@@ -62,16 +63,12 @@ pub(crate) fn link<C: Ledger>(
             };
         }
         Place::Left(k) => {
-            let old = cell_at(vars, k);
-            let cell = old.with_links(Some(to), old.right)?;
-            let Ok(()) = vars.set(k, cell, copies) else {
+            let Ok(()) = vars.edit(k, LeftLink { to }, copies) else {
                 return Err(AllocError);
             };
         }
         Place::Right(k) => {
-            let old = cell_at(vars, k);
-            let cell = old.with_links(old.left, Some(to))?;
-            let Ok(()) = vars.set(k, cell, copies) else {
+            let Ok(()) = vars.edit(k, RightLink { to }, copies) else {
                 return Err(AllocError);
             };
         }

@@ -14,6 +14,7 @@
 
 mod acts;
 mod cells;
+mod edits;
 mod growing;
 mod searching;
 

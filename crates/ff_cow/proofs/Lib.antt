@@ -1,3 +1,4 @@
 mod Packed
 mod Places
+mod Edits
 mod Shared

@@ -6,6 +6,8 @@ use Rattle.std.specs.List.{slice_get, AllZip}
 use Rattle.std.proofs.lemmas.List.{length-set, map-set, get_or-map, length-map, map_push, length_push}
 use Rattle.std.proofs.lemmas.List.Elements.{All-get_or, All-set, All-push}
 use Rattle.ff_cow.specs.Nodes.{cells_of, AreNodes}
+use Rattle.ff_cow.specs.Edits.{edited_at}
+use Rattle.ff_cow.proofs.Edits.{some_cell, edited_at-cell}
 use Rattle.ff_cow.proofs.Packed.{length-kid, kid_fits, IsPacked-set, cells_of-set, IsPacked-push}
 use Rattle.std.proofs.lemmas.Nat.{div-add-mod', div_below}
 use Rattle.ff_cow.proofs.Places.{IsPlace, IsEnd, place_at, end_at, some_room, last_node, full_row}
@@ -82,6 +84,11 @@ module _ {H T V : Type 0} (value : H → T) (cells : T → List V) (is_valid : T
         pub writes : (v : V) → cells (value own) ≡ set (cells (value kid)) (i % (room / 16)) v → cells_of cells (map value (set kids (i / (room / 16)) own)) ≡ set (cells_of cells (map value kids)) i v
         writes v written =
             rw map-set (found.writes (value kid) (value own) v (rw is_kid written))
+
+        pub edits : (f : V → V) → cells (value own) ≡ edited_at f (i % (room / 16)) (cells (value kid)) → cells_of cells (map value (set kids (i / (room / 16)) own)) ≡ edited_at f i (cells_of cells (map value kids))
+        edits f edited =
+            some_cell (cells (value kid)) (i % (room / 16)) within_kid (λ cell is.
+            writes (f cell) (edited ∙ edited_at-cell f _ _ cell is) ∙ sym (edited_at-cell f (cells_of cells (map value kids)) i cell (reads ∙ is)))
 
         pub keeps : cells (value own) ≡ cells (value kid) → cells_of cells (map value (set kids (i / (room / 16)) own)) ≡ cells_of cells (map value kids)
         keeps same =

@@ -1,3 +1,4 @@
 pub mod Nodes
 pub mod Tower
 pub mod Push
+pub mod Edits

@@ -1,11 +1,13 @@
 // A higher layer: up to sixteen nodes of the layer below, each of which other lists may share.
-ghost use Rattle.std.specs.Prelude.{◌≡◌, ◌+◌, ◌*◌, ◌/◌, ◌<◌, ◌≤◌, [], ◌∷◌, ◌++◌, map, length, IfErr, OnOk, OnErr, slice_set};
+ghost use Rattle.std.specs.Prelude.{◌≡◌, ◌+◌, ◌*◌, ◌/◌, ◌<◌, ◌≤◌, [], ◌∷◌, ◌++◌, map, length, IfErr, OnOk, OnErr};
 ghost use Rattle.std.specs.Rc.{rc_value};
 ghost use Rattle.std.proofs.Common.{arith};
 ghost use Rattle.ff_cow.specs.Nodes.{cells_of, AreNodes};
+ghost use Rattle.ff_cow.specs.Edits.{edited_at};
 ghost use Rattle.ff_cow.specs.Tower.{branch_cells, IsBranch};
 
 use crate::cell::{Cell, NoMemory};
+use crate::edit::Edit;
 use crate::layer::{Layer, WIDTH, Writable};
 use ff_steps::Steps;
 use std::alloc::Global;
@@ -52,20 +54,20 @@ impl<V, T: Writable<V>> Writable<V> for Branch<T> {
         })
     }
 
-    fn set<C: Ledger>(
+    fn edit<E: Edit<V>, C: Ledger>(
         &mut self,
         i: usize,
         room: usize,
-        value: V,
+        edit: E,
         alloc: Global,
         copies: &mut Steps<C>,
-    ) -> Result<(), V>
+    ) -> Result<(), E>
     where
         V: Cell<C>,
     {
         let kid_room = room / WIDTH;
         let kid = &mut self.kids[i / kid_room];
-        set_in(kid, i % kid_room, kid_room, value, alloc, copies)
+        edit_in(kid, i % kid_room, kid_room, edit, alloc, copies)
     }
 
     fn push<C: Ledger>(
@@ -113,35 +115,35 @@ fn make_place<V, T: Writable<V>>(
     Ok(())
 }
 
-// Writes the cell at `i` of a node, into a node of its own where another list shares it.
-fn set_in<V, T: Writable<V>, C: Ledger>(
+// Changes the cell at `i` of a node, in a node of its own where another list shares it.
+fn edit_in<V, T: Writable<V>, E: Edit<V>, C: Ledger>(
     kid: &mut Rc<T>,
     i: usize,
     room: usize,
-    value: V,
+    edit: E,
     alloc: Global,
     copies: &mut Steps<C>,
-) -> Result<(), V>
+) -> Result<(), E>
 where
     V: Cell<C>,
     requires valid { T.is_valid (rc_value kid.old) }
     requires room { room ≡ T.capacity }
     requires within { i < length (T.cells (rc_value kid.old)) }
-    ensures done { OnOk result (T.cells (rc_value kid.new) ≡ slice_set (T.cells (rc_value kid.old)) i value) }
+    ensures done { OnOk result (T.cells (rc_value kid.new) ≡ edited_at (E.edited edit) i (T.cells (rc_value kid.old))) }
     ensures kept { OnErr result (T.cells (rc_value kid.new) ≡ T.cells (rc_value kid.old)) }
-    ensures returned { IfErr result (λ back. back ≡ value) }
+    ensures returned { IfErr result (λ back. back ≡ edit) }
     ensures valid { T.is_valid (rc_value kid.new) }
     ensures later { copies.old ≤ copies.new }
     ensures copies { copies.new ≤ copies.old + 16 }
 {
     let Ok(()) = unshare(kid, alloc, copies) else {
-        return Err(value);
+        return Err(edit);
     };
     // The node has one owner now, so `None` does not come.
     let Some(own) = Rc::get_mut(kid) else {
-        return Err(value);
+        return Err(edit);
     };
-    own.set(i, room, value, alloc, copies)
+    own.edit(i, room, edit, alloc, copies)
 }
 
 // Puts a cell behind the `count` cells of a node, into a node of its own where another list shares

@@ -1,10 +1,11 @@
 // The list itself.
-ghost use Rattle.std.specs.Prelude.{◌≡◌, ◌+◌, ◌<◌, ◌≤◌, ◌↔◌, [], ◌∷◌, ◌++◌, length, IsTrue, IfOk, IfErr, OnOk, OnErr, slice_get, slice_set};
+ghost use Rattle.std.specs.Prelude.{◌≡◌, ◌+◌, ◌<◌, ◌≤◌, ◌↔◌, [], ◌∷◌, ◌++◌, Some, length, IsTrue, IfOk, IfErr, OnOk, OnErr, slice_get, slice_set};
 ghost use Rattle.std.specs.Option.{option_copied};
 ghost use Rattle.ff_cow.specs.Push.{returned, is_full};
 
 use crate::branch::Branch;
 use crate::cell::{Cell, NoMemory};
+use crate::edit::{Edit, Put};
 use crate::layer::{Layer, Writable};
 use crate::leaf::Leaf;
 use ff_steps::Steps;
@@ -116,8 +117,31 @@ impl<V> CowVec<V> {
         ensures later { copies.old ≤ copies.new }
         ensures copies { copies.new ≤ copies.old + 16 }
     {
+        match self.edit(i, Put { value }, copies) {
+            Ok(()) => Ok(()),
+            Err(put) => Err(put.value),
+        }
+    }
+
+    /// Changes the cell at place `i`, counted from 0, where it lies. It is refused only for want of
+    /// memory, and then gives the change back and leaves the list as it was.
+    pub fn edit<E: Edit<V>, C: Ledger>(
+        &mut self,
+        i: u32,
+        edit: E,
+        copies: &mut Steps<C>,
+    ) -> Result<(), E>
+    where
+        V: Cell<C>,
+        requires { i < length self.old }
+        ensures done { (cell : V) → slice_get self.old i ≡ Some cell → OnOk result (self.new ≡ slice_set self.old i (E.edited edit cell)) }
+        ensures kept { OnErr result (self.new ≡ self.old) }
+        ensures returned { IfErr result (λ back. back ≡ edit) }
+        ensures later { copies.old ≤ copies.new }
+        ensures copies { copies.new ≤ copies.old + 16 }
+    {
         let room = MOST_CELLS as usize;
-        self.root.set(i as usize, room, value, self.alloc, copies)
+        self.root.edit(i as usize, room, edit, self.alloc, copies)
     }
 
     /// An equal list that shares its nodes with this one. No cell is copied, and no later write to

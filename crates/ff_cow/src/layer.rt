@@ -1,7 +1,9 @@
 // One layer of the tree. A node of it is seen as the list of the cells below it.
-ghost use Rattle.std.specs.Prelude.{◌≡◌, ℕ, ◌+◌, ◌<◌, ◌≤◌, [], ◌∷◌, ◌++◌, List, length, IfOk, IfErr, OnOk, OnErr, slice_get, slice_set};
+ghost use Rattle.std.specs.Prelude.{◌≡◌, ℕ, ◌+◌, ◌<◌, ◌≤◌, [], ◌∷◌, ◌++◌, List, length, IfOk, IfErr, OnOk, OnErr, slice_get};
+ghost use Rattle.ff_cow.specs.Edits.{edited_at};
 
 use crate::cell::{Cell, NoMemory};
+use crate::edit::Edit;
 use ff_steps::Steps;
 use std::alloc::Global;
 use std::sync::ledger::Ledger;
@@ -45,24 +47,24 @@ pub(crate) trait Writable<V>: Layer<V> + Drop {
         ensures later { copies.old ≤ copies.new }
         ensures copies { copies.new ≤ copies.old + copied (Self.cells self.now) };
 
-    /// Writes the cell at `i`. Want of memory gives the value back and leaves the cells as they
-    /// were.
-    fn set<C: Ledger>(
+    /// Changes the cell at `i` where it lies. Want of memory gives the change back and leaves the
+    /// cells as they were.
+    fn edit<E: Edit<V>, C: Ledger>(
         &mut self,
         i: usize,
         room: usize,
-        value: V,
+        edit: E,
         alloc: Global,
         copies: &mut Steps<C>,
-    ) -> Result<(), V>
+    ) -> Result<(), E>
     where
         V: Cell<C>,
         requires valid { Self.is_valid self.old }
         requires room { room ≡ Self.capacity }
         requires within { i < length (Self.cells self.old) }
-        ensures done { OnOk result (Self.cells self.new ≡ slice_set (Self.cells self.old) i value) }
+        ensures done { OnOk result (Self.cells self.new ≡ edited_at (E.edited edit) i (Self.cells self.old)) }
         ensures kept { OnErr result (Self.cells self.new ≡ Self.cells self.old) }
-        ensures returned { IfErr result (λ back. back ≡ value) }
+        ensures returned { IfErr result (λ back. back ≡ edit) }
         ensures valid { Self.is_valid self.new }
         ensures later { copies.old ≤ copies.new }
         ensures copies { copies.new + copied (Self.cells self.old) ≤ copies.old + 16 };
@@ -90,7 +92,7 @@ pub(crate) trait Writable<V>: Layer<V> + Drop {
         ensures later { copies.old ≤ copies.new }
         ensures copies { copies.new + copied (Self.cells self.old) ≤ copies.old + 15 };
 
-    // what `set` and `push` may count together with a copy of the node before them
+    // what `edit` and `push` may count together with a copy of the node before them
     ghost few: { (node : Self) → Self.is_valid node → copied (Self.cells node) ≤ 16 };
 
     ghost fewer: { (node : Self) → Self.is_valid node → length (Self.cells node) < Self.capacity → copied (Self.cells node) ≤ 15 };

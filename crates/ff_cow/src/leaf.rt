@@ -4,6 +4,7 @@ ghost use Rattle.std.proofs.Common.{arith};
 ghost use Rattle.ff_cow.specs.Tower.{leaf_cells, IsLeaf};
 
 use crate::cell::{Cell, NoMemory};
+use crate::edit::Edit;
 use crate::layer::{Layer, WIDTH, Writable};
 use ff_steps::Steps;
 use std::alloc::Global;
@@ -50,18 +51,18 @@ impl<V: Drop> Writable<V> for Leaf<V> {
         Ok(Leaf { cells })
     }
 
-    fn set<C: Ledger>(
+    fn edit<E: Edit<V>, C: Ledger>(
         &mut self,
         i: usize,
         _room: usize,
-        value: V,
+        edit: E,
         _alloc: Global,
         _copies: &mut Steps<C>,
-    ) -> Result<(), V>
+    ) -> Result<(), E>
     where
         V: Cell<C>,
     {
-        self.cells[i] = value;
+        edit.edit(&mut self.cells[i]);
         Ok(())
     }
 

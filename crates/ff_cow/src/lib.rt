@@ -6,6 +6,9 @@
 //! its cell, and with them the cells of at most one leaf. A counter of type `Steps` says how many
 //! cells were copied.
 //!
+//! A cell is written where it lies: an [`Edit`] goes down to it and changes what it has to, so that
+//! what stays the same is neither copied nor moved. To put a whole cell is one such edit.
+//!
 //! A read or a write goes down one node of each layer: the root, three branches and a leaf. After a
 //! shared node was copied it has one owner, which no clause of `Rc` can tell: the arm for a second
 //! owner does not come, and answers want of memory.
@@ -17,8 +20,10 @@
 mod branch;
 mod cell;
 mod cow_vec;
+mod edit;
 mod layer;
 mod leaf;
 
 pub use cell::{Cell, NoMemory};
 pub use cow_vec::{CowVec, MOST_CELLS, PushFail};
+pub use edit::Edit;

@@ -2,7 +2,8 @@
 use Rattle.std.proofs.Common.{◌≡◌, ℕ, zero, suc, ◌<◌, ◌==◌, nat_lt, true, cond, not, Some, None, List, [], ◌∷◌, length, get_or, set, slice_get, arith, refl, sym, subst, ap, ◌∙◌, length-set}
 use Rattle.std.specs.Int.{bit_at}
 use Rattle.std.proofs.lemmas.Bool.Decides.{nat_tests}
-use Rattle.std.proofs.lemmas.Option.{get_or_from_slice_get}
+use Rattle.std.proofs.lemmas.Option.{slice_get-get_or}
+use Rattle.std.proofs.lemmas.List.{length-map}
 use Rattle.ff_value.specs.declared.fault.Fault.TheVariants as fault
 use Rattle.ff_value.specs.declared.value.Code.{Code}
 use Rattle.ff_machine.specs.Faults.{limit_unless}
@@ -18,7 +19,7 @@ use Rattle.ff_nodes.specs.declared.cell.NodeCell.{NodeCell}
 use Rattle.ff_nodes.specs.declared.marks.Marks.{Marks}
 use Rattle.ff_nodes.specs.Marked.{kind_bit, IsOwn, AreWithin}
 use Rattle.ff_nodes.specs.Cells.{nodes_of, cell_at, no_cell, AreCells}
-use Rattle.ff_nodes.proofs.Lacking.{own}
+use Rattle.ff_nodes.proofs.Lacking.{own, node_of_cell}
 
 -- no cells
 pub no_cells : AreCells []
@@ -64,23 +65,31 @@ module _ (cells : List NodeCell) (are : AreCells cells) (n : NodeId) (node : Nod
     };
   }
 
--- what is so at the nodes of the cells is so where they are seen
-pub written : (cells cells' : List NodeCell) (all : List Node) → AreCells cells → nodes_of cells ≡ all → (n : NodeId) (node : Node) (cell : NodeCell) → Some cell ≡ slice_get cells n.0 → n.0 < length all → IsNode node
-    → node.children ≡ children all n → node.parent ≡ parent all n → kind_of node.shape ≡ kind_of (node_at all n).shape → name_of node.shape ≡ name_of (node_at all n).shape
-    → cells' ≡ set cells n.0 (record { node = node; marks = cell.marks }) → AreCells cells'
-written cells cells' all are view n node cell at lives is kids up kind name e =
-    let old : (cell_at cells n).marks ≡ cell.marks = ap (λ (k : NodeCell). k.marks) (get_or_from_slice_get cells n.0 cell no_cell (sym at)) in
-    let is_new : cells' ≡ set cells n.0 (record { node = node; marks = (cell_at cells n).marks }) = e ∙ ap (λ (m : Marks). let x : NodeCell = record { node = node; marks = m } in set cells n.0 x) (sym old) in
-    subst AreCells (sym is_new) (cell_set cells are n node
-    (subst (λ (ns : List Node). n.0 < length ns) (sym view) lives) is
-    (subst (λ (ns : List Node). node.children ≡ children ns n) (sym view) kids)
-    (subst (λ (ns : List Node). node.parent ≡ parent ns n) (sym view) up)
-    (subst (λ (ns : List Node). kind_of node.shape ≡ kind_of (node_at ns n).shape) (sym view) kind)
-    (subst (λ (ns : List Node). name_of node.shape ≡ name_of (node_at ns n).shape) (sym view) name))
+-- a node that is changed where it lies, of cells that are seen as these nodes
+module _ (f : Node → Node) (cells cells' : List NodeCell) (all : List Node) (view : nodes_of cells ≡ all) (n : NodeId) (lives : n.0 < length all)
+    (done : (cell : NodeCell) → slice_get cells n.0 ≡ Some cell → cells' ≡ set cells n.0 (record cell { node = f cell.node })) where
+  there : n.0 < length cells
+  there = let size = length-map cells (λ (c : NodeCell). c.node) in let same = ap length view in omega (arith, size, same, lives)
 
--- and the nodes are the old ones but for that one
-pub written_nodes : (cells cells' : List NodeCell) (all : List Node) → nodes_of cells ≡ all → (n : NodeId) (node : Node) (marks : Marks) → cells' ≡ set cells n.0 (record { node = node; marks = marks }) → nodes_of cells' ≡ set_node all n node
-written_nodes cells cells' all view n node marks e = ap nodes_of e ∙ nodes_set cells n.0 (record { node = node; marks = marks }) ∙ ap (λ (ns : List Node). set_node ns n node) view
+  is_new : cells' ≡ set cells n.0 (record { node = f (node_at all n); marks = (cell_at cells n).marks })
+  is_new =
+      done (cell_at cells n) (slice_get-get_or cells n.0 no_cell there)
+      ∙ ap (λ (node : Node). let x : NodeCell = record { node = f node; marks = (cell_at cells n).marks } in set cells n.0 x) (sym (node_of_cell cells n) ∙ ap (λ (ns : List Node). node_at ns n) view)
+
+  -- the cells are valid, where the node keeps its links, kind and name
+  pub changed : AreCells cells → IsNode (f (node_at all n)) → (f (node_at all n)).children ≡ children all n → (f (node_at all n)).parent ≡ parent all n → kind_of (f (node_at all n)).shape ≡ kind_of (node_at all n).shape → name_of (f (node_at all n)).shape ≡ name_of (node_at all n).shape → AreCells cells'
+  changed are is kids up kind name =
+      subst AreCells (sym is_new) (cell_set cells are n (f (node_at all n))
+      (subst (λ (ns : List Node). n.0 < length ns) (sym view) lives) is
+      (subst (λ (ns : List Node). (f (node_at all n)).children ≡ children ns n) (sym view) kids)
+      (subst (λ (ns : List Node). (f (node_at all n)).parent ≡ parent ns n) (sym view) up)
+      (subst (λ (ns : List Node). kind_of (f (node_at all n)).shape ≡ kind_of (node_at ns n).shape) (sym view) kind)
+      (subst (λ (ns : List Node). name_of (f (node_at all n)).shape ≡ name_of (node_at ns n).shape) (sym view) name))
+
+  -- and the nodes are the old ones but for that one
+  pub changed_nodes : nodes_of cells' ≡ set_node all n (f (node_at all n))
+  changed_nodes =
+      ap nodes_of is_new ∙ nodes_set cells n.0 (record { node = f (node_at all n); marks = (cell_at cells n).marks }) ∙ ap (λ (ns : List Node). set_node ns n (f (node_at all n))) view
 
 -- no fault forbids a handler
 pub no_handler_fault : (all : List Node) (n : NodeId) (code : Code) → may_have_handlers (node_at all n).shape ≡ true → length code.params ≡ 1 → length (node_at all n).handlers < 16 → handler_fault all n code ≡ None

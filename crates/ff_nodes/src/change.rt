@@ -4,6 +4,7 @@ ghost use Rattle.ff_machine.specs.Nodes as nodes;
 ghost use Rattle.ff_operators.specs.Answers.{Answers, OnFault};
 ghost use Rattle.ff_value.specs.Spelled.{IsWellSpelledCode};
 
+use crate::edits::{NewHandlers, NewText, Started};
 use crate::nodes::Nodes;
 use ff_operators::Fail;
 use ff_steps::Steps;
@@ -30,8 +31,8 @@ impl Nodes {
         if node.text().is_none() {
             return Err(Fail::Fault(Fault::Kind));
         }
-        let changed = node.with_text(text)?;
-        self.write(n, changed, copies)?;
+        let change = NewText::of(text)?;
+        self.change(n, change, copies)?;
         Ok(())
     }
 
@@ -59,8 +60,8 @@ impl Nodes {
         if node.handlers().len() >= MOST_HANDLERS {
             return Err(Fail::Fault(Fault::Limit));
         }
-        let changed = node.with_handler(self.alloc, code)?;
-        self.write(n, changed, copies)?;
+        let handlers = node.handlers_with(self.alloc, code)?;
+        self.change(n, NewHandlers { handlers }, copies)?;
         Ok(())
     }
 
@@ -71,8 +72,7 @@ impl Nodes {
         ensures later { copies.old ≤ copies.new }
         ensures copies { copies.new ≤ copies.old + 16 }
     {
-        let changed = self.at(n).as_started()?;
-        self.write(n, changed, copies)?;
-        Ok(())
+        let _valid = self.alloc;
+        self.change(n, Started, copies)
     }
 }

@@ -11,6 +11,7 @@
 mod cell;
 mod change;
 mod climb;
+mod edits;
 mod inserting;
 mod laying;
 mod listed;

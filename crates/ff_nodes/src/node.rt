@@ -1,6 +1,6 @@
 //! One node of a tree.
 ghost use Rattle.std.specs.Prelude.{◌≡◌, ◌++◌, ◌∷◌, [], IfOk};
-ghost use Rattle.std.specs.Str.{IsUtf8, bytes_eq};
+ghost use Rattle.std.specs.Str.{bytes_eq};
 ghost use Rattle.std.specs.Option.{option_copied};
 ghost use Rattle.ff_machine.specs.Kinds.{kind_word};
 ghost use Rattle.ff_machine.specs.Nodes.{is_name};
@@ -234,59 +234,15 @@ impl Node {
         self.kind() == kind
     }
 
-    /// The node with another text or label, where its kind has one.
-    pub(crate) fn with_text(&self, text: &Text) -> Result<Node, NoMemory>
-        ensures value { IfOk result (λ node. node ≡ record self.now { shape = shapes.with_text self.now.shape text.now }) }
-        ensures utf8 { IsUtf8 text.now }
-    {
-        let _utf8 = text.as_bytes();
-        let shape = match &self.shape {
-            Shape::Text(name, _) => Shape::Text(name.copy()?, text.copy()?),
-            Shape::Link(name, url, _) => Shape::Link(name.copy()?, url.copy()?, text.copy()?),
-            Shape::TextBox(name, _) => Shape::TextBox(name.copy()?, text.copy()?),
-            Shape::Button(name, _) => Shape::Button(name.copy()?, text.copy()?),
-            other => other.copy()?,
-        };
-        self.with_shape(shape)
-    }
-
-    /// The node as one that was started, where its kind is.
-    pub(crate) fn as_started(&self) -> Result<Node, NoMemory>
-        ensures { IfOk result (λ node. node ≡ record self.now { shape = shapes.as_started self.now.shape }) }
-    {
-        let shape = match &self.shape {
-            Shape::Script(name, _, body) => Shape::Script(name.copy()?, true, body.copy()?),
-            Shape::Src(name, _, url) => Shape::Src(name.copy()?, true, url.copy()?),
-            other => other.copy()?,
-        };
-        self.with_shape(shape)
-    }
-
-    fn with_shape(&self, shape: Shape) -> Result<Node, NoMemory>
-        ensures { IfOk result (λ node. node ≡ record self.now { shape = shape }) }
-    {
-        Ok(Node {
-            shape,
-            handlers: self.handlers.copy()?,
-            children: self.children.copy()?,
-            parent: self.parent,
-        })
-    }
-
-    /// The node with a handler more, the last.
-    pub(crate) fn with_handler(&self, alloc: Global, code: &Code) -> Result<Node, NoMemory>
-        ensures { IfOk result (λ node. node ≡ record self.now { handlers = self.now.handlers ++ code.now ∷ [] }) }
+    /// The node's handlers, and behind them one more.
+    pub(crate) fn handlers_with(&self, alloc: Global, code: &Code) -> Result<Codes, NoMemory>
+        ensures { IfOk result (λ handlers. handlers ≡ self.now.handlers ++ code.now ∷ []) }
     {
         let mut handlers = Vec::new(alloc);
         for handler in self.handlers.as_slice() {
             handlers.push(handler.copy()?)?;
         }
         handlers.push(code.copy()?)?;
-        Ok(Node {
-            shape: self.shape.copy()?,
-            handlers: Codes::from_vec(alloc, handlers)?,
-            children: self.children.copy()?,
-            parent: self.parent,
-        })
+        Codes::from_vec(alloc, handlers)
     }
 }

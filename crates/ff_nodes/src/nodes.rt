@@ -6,8 +6,9 @@ ghost use Rattle.ff_machine.specs.Nodes as nodes;
 ghost use Rattle.ff_machine.specs.Shapes as shapes;
 
 use crate::cell::NodeCell;
+use crate::edits::OfNode;
 use crate::node::Node;
-use ff_cow::CowVec;
+use ff_cow::{CowVec, Edit};
 use ff_steps::Steps;
 use ff_value::{NoMemory, NodeId};
 use std::alloc::{AllocError, Global};
@@ -80,30 +81,26 @@ impl Nodes {
         }
     }
 
-    /// Writes a node that has the same links, kind and name as the one of its number. A refusal,
+    /// Changes a node, where it lies, into one that has the same links, kind and name. A refusal,
     /// for want of memory, leaves the nodes as they were.
-    pub(crate) fn write<C: Ledger>(
+    pub(crate) fn change<E: Edit<Node> + Drop, C: Ledger>(
         &mut self,
         n: NodeId,
-        node: Node,
+        edit: E,
         copies: &mut Steps<C>,
     ) -> Result<(), NoMemory>
         requires lives { n.0 < length self.old }
-        requires valid { IsNode node }
-        requires children { node.children ≡ nodes.children self.old n }
-        requires parent { node.parent ≡ nodes.parent self.old n }
-        requires kind { shapes.kind_of node.shape ≡ shapes.kind_of (nodes.node_at self.old n).shape }
-        requires name { shapes.name_of node.shape ≡ shapes.name_of (nodes.node_at self.old n).shape }
-        ensures done { OnOk result (self.new ≡ nodes.set_node self.old n node) }
+        requires valid { IsNode (E.edited edit (nodes.node_at self.old n)) }
+        requires children { (E.edited edit (nodes.node_at self.old n)).children ≡ nodes.children self.old n }
+        requires parent { (E.edited edit (nodes.node_at self.old n)).parent ≡ nodes.parent self.old n }
+        requires kind { shapes.kind_of (E.edited edit (nodes.node_at self.old n)).shape ≡ shapes.kind_of (nodes.node_at self.old n).shape }
+        requires name { shapes.name_of (E.edited edit (nodes.node_at self.old n)).shape ≡ shapes.name_of (nodes.node_at self.old n).shape }
+        ensures done { OnOk result (self.new ≡ nodes.set_node self.old n (E.edited edit (nodes.node_at self.old n))) }
         ensures kept { OnErr result (self.new ≡ self.old) }
         ensures later { copies.old ≤ copies.new }
         ensures copies { copies.new ≤ copies.old + 16 }
     {
-        let marks = match self.cells.get(n.0) {
-            Some(cell) => cell.marks,
-            None => unreachable!(),
-        };
-        let Ok(()) = self.cells.set(n.0, NodeCell { node, marks }, copies) else {
+        let Ok(()) = self.cells.edit(n.0, OfNode { edit }, copies) else {
             return Err(AllocError);
         };
         Ok(())

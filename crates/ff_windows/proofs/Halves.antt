@@ -1,5 +1,5 @@
 -- The two lists of a queue: what is written, and what is taken out.
-use Rattle.std.proofs.Common.{◌≡◌, ℕ, zero, suc, ◌+◌, ◌-◌, ◌<◌, ◌≤◌, Bool, true, false, cond, List, [], ◌∷◌, ◌++◌, length, get_or, drop, map, set, filter_map, refl, sym, ap, ◌∙◌, ⊎_elim, arith, length-append, length-drop}
+use Rattle.std.proofs.Common.{◌≡◌, ℕ, zero, suc, ◌+◌, ◌-◌, ◌<◌, ◌≤◌, Bool, true, false, cond, List, [], ◌∷◌, ◌++◌, length, get_or, drop, map, set, filter_map, refl, sym, ap, ◌∙◌, ⊎_elim, arith, length-drop}
 use Rattle.std.specs.Prelude.{nat_eq, ◌==◌}
 use Rattle.std.specs.List.{IsDistinct, AllByRecursion, list_any}
 use Rattle.std.proofs.lemmas.Bool.{cases_lt, or_parts, or_from, ne_eqb, eqb-true, eqb-false}
@@ -21,13 +21,16 @@ set_in_front first i front back e h =
 pub set_in_back : (first i : ℕ) (front back : List Entry) (e : Entry) → length front - first ≤ i → drop first front ++ set back (i - (length front - first)) e ≡ set (drop first front ++ back) i e
 set_in_back first i front back e h = sym (set-append_right (drop first front) back (length front - first) i e (length-drop first front) h)
 
--- where a queue isn't empty, something is left of the first list
-pub some_left : (first : ℕ) (front back : List Entry) → AreHalves first front back → 0 < length (drop first front ++ back) → first < length front
-some_left first front back are h = ⊎_elim (λ l. l) (λ l. absurd (none (omega (arith, l, are.within)))) (cases_lt first (length front)) where
-  none : first ≡ length front → ⊥
-  none e =
-      let empty = are.none_left e in
-      omega (arith, length-append (drop first front) back, length-drop first front, empty.0, empty.1, h)
+-- where the first list is empty, so is the queue
+pub all_empty : (first : ℕ) (front back : List Entry) → AreHalves first front back → length front ≡ 0 → drop first front ++ back ≡ []
+all_empty first [] [] are none = ap (λ (l : List Entry). l ++ []) (drop_all first [] (omega arith))
+all_empty first [] (e ∷ back) are none = absurd (omega (arith, (are.none_left (omega (arith, are.within))).1))
+all_empty first (e ∷ front) back are none = absurd (omega (arith, none))
+
+-- where it isn't, something is left of it
+pub some_left : (first : ℕ) (front back : List Entry) → AreHalves first front back → (length front ≡ 0 → ⊥) → first < length front
+some_left first front back are some =
+    ⊎_elim (λ l. l) (λ l. absurd (some (are.none_left (omega (arith, l, are.within))).0)) (cases_lt first (length front))
 
 -- the first entry is taken out
 pub without_first : (first : ℕ) (front back : List Entry) → first < length front → drop (first + 1) front ++ back ≡ drop 1 (drop first front ++ back)

@@ -7,7 +7,7 @@ ghost use Rattle.ff_machine.specs.Windows.{new_page, fill_entry, is_slot, first_
 ghost use Rattle.ff_machine.specs.declared.records.Entry.TheVariants.{Ready, Wait};
 
 use crate::queue::Queue;
-use ff_cow::Cell;
+use ff_cow::{Cell, Edit};
 use ff_machine::{Entry, MOST_SLOTS};
 use ff_name::{NoMemory, Url};
 use ff_steps::Steps;
@@ -148,13 +148,17 @@ impl PageCell {
     {
         self.queue.fill(slot, body, copies)
     }
+}
 
-    /// Takes out the first entry of the queue, which there is.
-    pub(crate) fn pop(&mut self)
-        requires { 0 < length self.old.queue }
-        ensures { self.new ≡ record self.old { queue = drop 1 self.old.queue } }
-    {
-        self.queue.pop();
+/// The first entry leaves the queue, where there is one.
+#[derive(Drop)]
+pub(crate) struct Pop;
+
+impl Edit<PageCell> for Pop {
+    ghost edited = { λ _ page. record page { queue = drop 1 page.queue } };
+
+    fn edit(self, page: &mut PageCell) {
+        page.queue.pop();
     }
 }
 

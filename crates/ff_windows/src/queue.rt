@@ -153,12 +153,14 @@ impl Queue {
         Ok(())
     }
 
-    /// Takes out the first entry, which there is.
+    /// Takes out the first entry, where there is one.
     pub(crate) fn pop(&mut self)
-        requires { 0 < length self.old }
         ensures { self.new ≡ drop 1 self.old }
     {
         let count = self.front.len();
+        if count == 0 {
+            return;
+        }
         self.first += 1;
         if self.first == count {
             self.front = mem::replace(&mut self.back, CowVec::new(self.alloc));

@@ -6,6 +6,7 @@ ghost use Rattle.ff_machine.specs.declared.records.Entry.TheVariants.{Ready};
 ghost use Rattle.ff_tree.specs.Spelled.{IsWellSpelledExpr};
 ghost use Rattle.ff_windows.specs.Queues.{count_entries};
 
+use crate::page::Pop;
 use crate::windows::Windows;
 use ff_cow::Cell;
 use ff_machine::{MOST_ENTRIES, MOST_SLOTS};
@@ -101,9 +102,7 @@ impl Windows {
             return Ok(None);
         };
         let script = first.copy()?;
-        let mut cell = self.page_of(page).copy(copies)?;
-        cell.pop();
-        self.set_page(page, cell, copies)?;
+        self.change_page(page, Pop, copies)?;
         Ok(Some(script))
     }
 }

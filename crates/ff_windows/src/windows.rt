@@ -6,7 +6,7 @@ ghost use Rattle.ff_machine.specs.Windows as w;
 use crate::page::PageCell;
 use crate::window::WinCell;
 use ff_acts::Acts;
-use ff_cow::CowVec;
+use ff_cow::{CowVec, Edit};
 use ff_machine::MOST_ACTS;
 use ff_name::NoMemory;
 use ff_steps::Steps;
@@ -162,6 +162,25 @@ impl Windows {
         ensures copies { copies.new ≤ copies.old + 16 }
     {
         let Ok(()) = self.pages.set(page.0, cell, copies) else {
+            return Err(AllocError);
+        };
+        Ok(())
+    }
+
+    /// Changes a page where it lies, at a number that there is, which keeps all valid.
+    pub(crate) fn change_page<E: Edit<PageCell> + Drop, C: Ledger>(
+        &mut self,
+        page: PageId,
+        edit: E,
+        copies: &mut Steps<C>,
+    ) -> Result<(), NoMemory>
+        requires there { page.0 < length self.old.pages }
+        requires keeps { AreWindows (w.set_page self.old page (E.edited edit (w.page_at self.old page))) }
+        ensures done { OnOk result (self.new ≡ w.set_page self.old page (E.edited edit (w.page_at self.old page))) }
+        ensures later { copies.old ≤ copies.new }
+        ensures copies { copies.new ≤ copies.old + 16 }
+    {
+        let Ok(()) = self.pages.edit(page.0, edit, copies) else {
             return Err(AllocError);
         };
         Ok(())

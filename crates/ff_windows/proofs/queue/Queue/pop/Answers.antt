@@ -1,6 +1,6 @@
-use Rattle.std.proofs.Common.{◌<◌, ◌+◌, ◌++◌, length, drop, sym, ap, subst, ◌∙◌, arith, ◌≡◌}
+use Rattle.std.proofs.Common.{◌+◌, ◌++◌, length, drop, sym, ap, ◌∙◌, arith, ◌≡◌}
 use Rattle.std.proofs.lemmas.List.{append-nil}
-use Rattle.ff_windows.proofs.Halves.{some_left, without_first, without_last}
+use Rattle.ff_windows.proofs.Halves.{all_empty, some_left, without_first, without_last}
 use Rattle.ff_windows.proofs.queue.Queue.pop.Goals as goal
 
 pub overflow_add-self : goal.overflow_add-self
@@ -17,5 +17,10 @@ returns-then-self-count c =
 pub returns-else-self-count : goal.returns-else-self-count
 returns-else-self-count c =
     let q = c.self.inside in
-    let some : 0 < length (drop q.first q.front ++ q.back) = subst (λ l. 0 < length l) (sym c.self.view_is) c.requires in
-    without_first q.first q.front q.back (some_left q.first q.front q.back c.self.invariant some) ∙ ap (drop 1) c.self.view_is
+    without_first q.first q.front q.back (some_left q.first q.front q.back c.self.invariant (λ none. c.if-count-eq0.false (c.len-count.ensures.value ∙ none))) ∙ ap (drop 1) c.self.view_is
+
+pub returns-then-count-eq0 : goal.returns-then-count-eq0
+returns-then-count-eq0 c =
+    let q = c.self.inside in
+    let none = sym c.self.view_is ∙ all_empty q.first q.front q.back c.self.invariant (sym c.len-count.ensures.value ∙ c.if-count-eq0.true) in
+    none ∙ sym (ap (drop 1) none)
