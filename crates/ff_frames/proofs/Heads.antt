@@ -1,14 +1,13 @@
 -- Frames whose values lie behind one another, and the part at hand behind them.
-use Rattle.std.proofs.Common.{◌≡◌, ◌+◌, ◌≤◌, ◌⊎◌, inl, inr, ◌++◌, ◌∷◌, ℕ, suc, List, [], length, take, drop, Option, Some, None, refl, sym, ap, ◌∙◌, arith}
-use Rattle.std.proofs.lemmas.List.{append-nil, append_assoc, drop_at, drop-append-le, length-drop, length-take-le, take-append-drop, take-append-le, take_all}
+use Rattle.std.proofs.Common.{◌≡◌, ◌+◌, ◌≤◌, ◌++◌, ◌∷◌, ℕ, suc, List, [], length, take, drop, Option, Some, None, refl, sym, ap, ◌∙◌, arith}
+use Rattle.std.proofs.lemmas.List.{append-nil, drop_at, drop-append-le, length-drop, length-take-le, take-append-drop, take-append-le, take_all}
 use Rattle.ff_tree.specs.declared.tree.Expr.{Expr}
 use Rattle.ff_value.specs.declared.value.Val.{Val}
-use Rattle.ff_frames.specs.Frame.{Frame}
 use Rattle.ff_frames.specs.declared.frame.Focus.{Focus}
 use Rattle.ff_frames.specs.declared.frame.Focus.TheVariants as focus
 use Rattle.ff_frames.specs.declared.frame.Head.{Head}
 use Rattle.ff_frames.specs.declared.hand.Hand.{Hand}
-use Rattle.ff_frames.specs.Heads.{IsCleared, IsEmptyHanded, IsHolding, IsLaid, all_held, at_hand, behind, focus_of, form_in, frames, frames_of, held, value_in, with_values}
+use Rattle.ff_frames.specs.Heads.{IsEmptyHanded, IsHolding, IsLaid, all_held, at_hand, behind, focus_of, form_in, frames, frames_of, held, value_in, with_values}
 
 -- ---- frames and their values
 

@@ -1,5 +1,5 @@
 -- A stack with its redex rewritten.
-use Rattle.std.proofs.Common.{◌≡◌, ◌≤◌, ◌<◌, ◌+◌, ◌-◌, ◌++◌, ◌∷◌, ◌⊎◌, inl, inr, ℕ, List, [], Option, None, Some, Result, Ok, Err, OnOk, MatchOption, Bor, false, true, length, drop, refl, sym, ap, ◌∙◌, arith}
+use Rattle.std.proofs.Common.{◌≡◌, ◌≤◌, ◌<◌, ◌+◌, ◌++◌, ◌∷◌, ◌⊎◌, inl, inr, List, [], Option, None, Some, Result, Ok, Err, OnOk, MatchOption, Bor, false, true, length, drop, refl, sym, ap, ◌∙◌, arith}
 use Rattle.std.proofs.lemmas.List.{append-nil, append_assoc, length-append}
 use Rattle.std.specs.Option.{option_copied}
 use Rattle.ff_tree.specs.declared.tree.Expr.{Expr, out-Expr}
@@ -31,7 +31,7 @@ use Rattle.ff_frames.specs.declared.hand.Hand.{Hand}
 use Rattle.ff_frames.specs.declared.stack.Stack.{Stack}
 use Rattle.ff_frames.specs.Frames.{around, wrap, outside, base_of, plug, shown, is_call, calls}
 use Rattle.ff_frames.specs.Heads.{IsCleared, IsEmptyHanded, IsHolding, IsLaid, all_held, at_hand, focus_of, frames, frames_of, held, last_or, value_of, with_values}
-use Rattle.ff_frames.specs.Rewrites.{IsDo, IsIf, IsCallFrame, IsLocalOut, IsNoCall, IsPut, IsRedex, IsTested, taken, within}
+use Rattle.ff_frames.specs.Rewrites.{IsDo, IsIf, IsCallFrame, IsLocalOut, IsPut, IsRedex, IsTested, taken, within}
 use Rattle.ff_frames.specs.Seeking.{IsFull, IsRow, IsThere, IsTopFull}
 use Rattle.ff_frames.specs.Stacks.{frames_in, focus_in, with_part, evaluation, out_of, IsCounted, IsValid, IsWithoutRedex}
 use Rattle.ff_frames.proofs.Heads.{all_held-snoc, empty-holds, frames-snoc, holds-at, holds-frames}
@@ -337,18 +337,15 @@ local-out (taken_out.Full _ v) vs a h = tt
 -- ---- what is put
 
 -- a frame that holds no value stands inside of the others
-pub frames-pushed : (t u : Stack) (g : Head) → IsEmptyHanded t.heads.items t.hand → held g ≡ 0 → u.heads.items ≡ t.heads.items ++ g ∷ [] → u.hand ≡ t.hand
-    → frames_in u ≡ frames_in t ++ with_values g [] ∷ []
-frames-pushed t u g empty zero_held heads hand =
-    rw (heads, hand)
-    (ap (frames_of (t.heads.items ++ g ∷ [])) (sym (append-nil t.hand.values.items)) ∙ frames-snoc t.heads.items g t.hand.values.items [] empty.count (sym zero_held))
+pub frames-pushed : (hs gs : List Head) (h : Hand) (g : Head) → IsEmptyHanded hs h → held g ≡ 0 → gs ≡ hs ++ g ∷ [] → frames gs h ≡ frames hs h ++ with_values g [] ∷ []
+frames-pushed hs gs h g empty zero_held is =
+    rw is (ap (frames_of (hs ++ g ∷ [])) (sym (append-nil h.values.items)) ∙ frames-snoc hs g h.values.items [] empty.count (sym zero_held))
 
 -- and nothing is at hand still
-pub empty-pushed : (t u : Stack) (g : Head) → IsEmptyHanded t.heads.items t.hand → held g ≡ 0 → u.heads.items ≡ t.heads.items ++ g ∷ [] → u.hand ≡ t.hand
-    → IsEmptyHanded u.heads.items u.hand
-empty-pushed t u g empty zero_held heads hand = record {
-  form = rw hand empty.form;
-  count = rw (heads, hand) (empty.count ∙ (let p = all_held-snoc t.heads.items g in omega (arith, p, zero_held)));
+pub empty-pushed : (hs gs : List Head) (h : Hand) (g : Head) → IsEmptyHanded hs h → held g ≡ 0 → gs ≡ hs ++ g ∷ [] → IsEmptyHanded gs h
+empty-pushed hs gs h g empty zero_held is = record {
+  form = empty.form;
+  count = rw is (empty.count ∙ (let p = all_held-snoc hs g in omega (arith, p, zero_held)));
 }
 
 -- the walk from what was put at hand
@@ -364,14 +361,19 @@ module _ (s t : Stack) (h : Hand) (x : Focus) (empty : IsEmptyHanded s.heads.ite
       let alike = (rw (walk-at, walk-frames) at there).alike in
       rw act (both _ _ _ _ (alike.base s.act) (alike.expr s.act))
 
-  pub walked-valid : t.depth ≡ s.depth → IsThere (frames s.heads.items h) (shown (at_hand s.heads.items h)) (frames_in t) (focus_in t) → IsLaid t.heads.items t.hand → IsCounted s → IsValid t
-  walked-valid depth there laid counted =
+  pub walked-valid : IsCounted s → t.depth ≡ s.depth → IsThere (frames s.heads.items h) (shown (at_hand s.heads.items h)) (frames_in t) (focus_in t) → IsLaid t.heads.items t.hand → IsValid t
+  walked-valid counted depth there laid =
       let same = (rw (walk-at, walk-frames) at there).alike.calls in
       record {
         laid = inr laid;
         at = there.at;
         counted = record { depth = depth ∙ counted.depth ∙ sym same; small = rw depth counted.small };
       }
+
+-- what two facts say of a good answer
+pub both_ok : {X E : Type 0} {A B C : Type 0} (r : Result X E) → (A → B → C) → OnOk r A → OnOk r B → OnOk r C
+both_ok (Ok x) f a b = f a b
+both_ok (Err e) f a b = tt
 
 -- an equal stack
 module _ (s t : Stack) (heads : t.heads.items ≡ s.heads.items) (values : t.hand.values.items ≡ s.hand.values.items) (form : t.hand.form ≡ s.hand.form) (act : t.act ≡ s.act) where

@@ -16,7 +16,7 @@ use Rattle.ff_frames.specs.declared.frame.Head.TheVariants as head
 use Rattle.ff_frames.specs.declared.hand.Hand.{Hand}
 use Rattle.ff_frames.specs.Heads.{IsEmptyHanded, IsHolding, IsLaid, all_held, at_hand, form_in, frames, frames_of, held, value_in, with_values}
 use Rattle.ff_frames.specs.Seeking.{Alike, Opens, Feeds, IsFed, IsFull, IsHeld, IsTopFull, IsNearer, IsStep, Shows}
-use Rattle.ff_frames.proofs.Heads.{Holds, all_held-snoc, empty-holds, frames-snoc, holds-at, holds-frames, holds-laid, laid-holds, parted}
+use Rattle.ff_frames.proofs.Heads.{Holds, all_held-snoc, frames-snoc, holds-at, holds-frames, holds-laid, laid-holds, parted}
 use Rattle.ff_frames.specs.Frames.{operands}
 use Rattle.ff_frames.proofs.Plugs.{base-snoc, plug-snoc, calls-snoc, full-snoc}
 use Rattle.ff_frames.proofs.Steps.{feeds, length-snoc, opens}
@@ -94,7 +94,7 @@ went-down hs gs h k e empty is on =
     let x = s.2.0 in
     let count : length vs ≡ all_held gs = rw is (empty.count ∙ (let p = all_held-snoc hs (head.Part e 0) in omega (arith, p))) in
     let framed : frames_of gs vs ≡ frames_of hs vs ++ frame.Part e [] ∷ [] =
-        rw is (ap (frames_of (hs ++ head.Part e 0 ∷ [])) (sym (append-nil vs)) ∙ frames-snoc hs (head.Part e 0) vs [] empty.count refl) in
+    rw is (ap (frames_of (hs ++ head.Part e 0 ∷ [])) (sym (append-nil vs)) ∙ frames-snoc hs (head.Part e 0) vs [] empty.count refl) in
     let opened : Opens e (frame.Part e []) x = opens e [] (Some s.0) x s.1 refl s.2.1 in
     went (frames hs h) (focus.Part e) true gs k vs x (record { count = count; hand = s.2.2 })
     (step-opened (frames_of hs vs) (frames_of gs vs) (frame.Part e []) e x framed opened)
@@ -155,7 +155,7 @@ went-on hs rest e n h k on t =
     let hand : IsHolding kept x k = record { values = s.2.2.values ∙ ap (λ vs. vs ++ value_in x) (t.values ∙ append_assoc t.below t.own (t.value ∷ [])); form = s.2.2.form } in
     let framed : frames_of gs kept ≡ frames_of rest t.below ++ frame.Part e (t.own ++ t.value ∷ []) ∷ [] = frames-snoc rest (head.Part e (suc n)) t.below (t.own ++ t.value ∷ []) t.under many in
     let fed : Feeds (frame.Part e t.own) t.value (frame.Part e (t.own ++ t.value ∷ [])) x =
-        feeds e t.own (t.own ++ t.value ∷ []) t.value (Some s.0) x (ap (λ m. slice_get (operands (out-Expr e)) (suc m)) t.many ∙ s.1) refl s.2.1 in
+    feeds e t.own (t.own ++ t.value ∷ []) t.value (Some s.0) x (ap (λ m. slice_get (operands (out-Expr e)) (suc m)) t.many ∙ s.1) refl s.2.1 in
     let fs = frames hs h in
     let new = frames_of gs kept in
     went fs (focus.Value t.value) true gs k kept x (record { count = count; hand = hand })

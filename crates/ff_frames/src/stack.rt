@@ -187,10 +187,13 @@ impl Stack {
         ensures same { OnOk result ((a : ActId) → evaluation self.new ≡ with_part self.old (within frame a (shown part))) }
         ensures valid { OnOk result (IsValid self.new) }
     {
-        if let Some(head) = frame {
-            self.heads.push(head)?;
+        match frame {
+            None => self.walk_from(part),
+            Some(head) => {
+                self.heads.push(head)?;
+                self.walk_from(part)
+            }
         }
-        self.walk_from(part)
     }
 
     /// Puts a call that runs in an activation of its own for the redex.

@@ -14,3 +14,9 @@ returns-clause-rewrites c =
     (rewrote local_row c.args.self.now c.take_redex-redex.new.self c.put.new.self c.take_redex-redex.result (c.in_ok-frame.frame, c.in_ok-frame.part) is.0
     c.take_redex-redex.ensures.out is.1 (c.in_ok-frame.ensures is.0))
     c.put.ensures.same
+
+pub put-requires-clause-settled : goal.put-requires-clause-settled
+put-requires-clause-settled c = (c.in_ok-frame.ensures c.take_redex-redex.ensures.is.0).settled
+
+pub put-requires-clause-no_call : goal.put-requires-clause-no_call
+put-requires-clause-no_call c = (c.in_ok-frame.ensures c.take_redex-redex.ensures.is.0).no_call
