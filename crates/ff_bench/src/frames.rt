@@ -43,7 +43,7 @@ fn report<R: Clock + Print>(
 fn reductions(alloc: Global, body: &Body) -> Result<u32, NoMemory> {
     let mut script = Script::start(alloc, body)?;
     for made in 0..MOST_REDUCTIONS {
-        if script.turn(alloc)?.is_none() {
+        if !script.turn(alloc)? {
             return Ok(made);
         }
     }

@@ -1,11 +1,11 @@
 //! Redexes and values as words.
 
-use ff_term::Redex;
+use ff_frames::Redex;
 use ff_value::{Name, NoMemory, Val, Worded};
 use std::alloc::Global;
 
 /// The redex, with its values.
-pub fn redex(alloc: Global, redex: &Redex) -> Result<String, NoMemory> {
+pub fn redex(alloc: Global, redex: Redex<'_>) -> Result<String, NoMemory> {
     match redex {
         Redex::Local => format!(in alloc; "local"),
         Redex::Test(test) => one(alloc, "if", test),
@@ -13,8 +13,8 @@ pub fn redex(alloc: Global, redex: &Redex) -> Result<String, NoMemory> {
         Redex::Let(name, value) => bound(alloc, "let", name, value),
         Redex::Set(name, value) => bound(alloc, "set", name, value),
         Redex::Make(_, _) => format!(in alloc; "(fn ..)"),
-        Redex::Apply(_, args) => list(alloc, "call fn", args.as_slice()),
-        Redex::Prim(op, args) => list(alloc, op.word(), args.as_slice()),
+        Redex::Apply(_, args) => list(alloc, "call fn", args),
+        Redex::Prim(op, args) => list(alloc, op.word(), args),
         Redex::Tree(_) => format!(in alloc; "(new ..)"),
     }
 }

@@ -34,13 +34,14 @@ fn started(alloc: Global, line: &str) -> Result<Script> {
 fn reduce<R: Print>(rt: &R, alloc: Global, script: &mut Script, most: u32) -> Result<()> {
     for _turn in 0..most {
         let depth = script.depth();
-        match script.turn(alloc)? {
+        match script.next() {
             Some(redex) => {
-                let redex = spelling::redex(alloc, &redex)?;
+                let redex = spelling::redex(alloc, redex)?;
                 println!(rt; "  {depth} {redex}")?;
             }
             None => return Ok(()),
         }
+        script.turn(alloc)?;
     }
     Ok(())
 }

@@ -1,13 +1,12 @@
 //! A script that runs by itself: its control, and what it needs of a store.
-ghost use Rattle.std.specs.Prelude.{◌≡◌, false};
-ghost use Rattle.ff_term.specs.Running.{is_value, redex as the_redex};
-ghost use Rattle.ff_term.specs.Redexes.{IsRedexOf};
+ghost use Rattle.std.specs.Prelude.{◌≡◌, ◌<◌, ◌≤◌, false, IfOk, OnSome};
+ghost use Rattle.ff_term.specs.Running.{insides, is_value};
 
 use crate::store::Store;
-use ff_frames::Control;
+use ff_frames::{Control, Redex};
 use ff_operators::{Applied, apply};
-use ff_term::{MOST_CALLS, Redex};
-use ff_value::{ActId, Body, Code, Name, Names, NoMemory, Op, Val};
+use ff_term::MOST_CALLS;
+use ff_value::{ActId, Body, Code, Names, NoMemory, Op, Val};
 use std::alloc::Global;
 
 /// A script that runs.
@@ -53,36 +52,54 @@ impl Script {
         self.control.done()
     }
 
-    /// Reduces once, and gives the redex that was reduced, or `None` where there is none.
-    pub fn turn(&mut self, alloc: Global) -> Result<Option<Redex>, NoMemory> {
-        if self.control.done().is_some() {
-            return Ok(None);
+    /// The redex, which the next turn reduces, or `None` where there is none.
+    pub fn next(&self) -> Option<Redex<'_>> {
+        match self.control.done() {
+            Some(_) => None,
+            None => Some(self.control.next()),
         }
-        let redex = self.control.next(alloc)?;
-        reduce(alloc, &mut self.control, &mut self.store, &redex)?;
-        Ok(Some(redex))
+    }
+
+    /// Reduces once; answers whether there was a redex.
+    pub fn turn(&mut self, alloc: Global) -> Result<bool, NoMemory> {
+        if self.control.done().is_some() {
+            return Ok(false);
+        }
+        reduce(alloc, &mut self.control, &mut self.store)?;
+        Ok(true)
     }
 }
 
-fn reduce(
-    alloc: Global,
-    control: &mut Control,
-    store: &mut Store,
-    redex: &Redex,
-) -> Result<(), NoMemory>
-    requires unfinished { is_value control.old.expr ≡ false }
-    requires is { IsRedexOf redex.now (the_redex control.old.expr) }
+fn reduce(alloc: Global, control: &mut Control, store: &mut Store) -> Result<(), NoMemory>
+    requires { is_value control.old.expr ≡ false }
 {
-    match redex {
+    match control.next() {
         Redex::Local => control.local(alloc),
-        Redex::Test(test) => control.choose(alloc, is_true(test)),
-        Redex::Var(name) => read(alloc, control, store, name),
-        Redex::Let(name, value) | Redex::Set(name, value) => {
-            write(alloc, control, store, name, value)
+        Redex::Test(test) => {
+            let yes = is_true(test);
+            control.choose(alloc, yes)
         }
-        Redex::Make(params, body) => make(alloc, control, params, body),
-        Redex::Apply(callee, args) => call(alloc, control, store, callee, args.as_slice()),
-        Redex::Prim(op, args) => operate(alloc, control, *op, args.as_slice()),
+        Redex::Var(name) => {
+            let value = store.get(control.act(), name)?;
+            control.give(alloc, value)
+        }
+        Redex::Let(name, value) | Redex::Set(name, value) => {
+            store.set(control.act(), name, value)?;
+            let value = value.copy()?;
+            control.give(alloc, value)
+        }
+        Redex::Make(params, body) => {
+            let code = code(params, body, control.act())?;
+            control.give(alloc, Val::Code(code))
+        }
+        Redex::Apply(callee, args) => {
+            let body = called(control.depth(), store, callee, args)?;
+            enter(alloc, control, body)
+        }
+        Redex::Prim(op, args) => {
+            let value = operate(alloc, op, args);
+            control.give(alloc, value)
+        }
         Redex::Tree(_) => control.give(alloc, Val::Null),
     }
 }
@@ -94,66 +111,59 @@ fn is_true(value: &Val) -> bool {
     }
 }
 
-fn read(alloc: Global, control: &mut Control, store: &Store, name: &Name) -> Result<(), NoMemory>
-    requires { is_value control.old.expr ≡ false }
-{
-    let value = store.get(control.act(), name)?;
-    control.give(alloc, value)
-}
-
-fn write(
-    alloc: Global,
-    control: &mut Control,
-    store: &mut Store,
-    name: &Name,
-    value: &Val,
-) -> Result<(), NoMemory>
-    requires { is_value control.old.expr ≡ false }
-{
-    store.set(control.act(), name, value)?;
-    control.give(alloc, value.copy()?)
-}
-
-fn make(alloc: Global, control: &mut Control, params: &Names, body: &Body) -> Result<(), NoMemory>
-    requires { is_value control.old.expr ≡ false }
-{
-    let code = code(params, body, control.act())?;
-    control.give(alloc, Val::Code(code))
-}
-
 fn code(params: &Names, body: &Body, env: ActId) -> Result<Code, NoMemory> {
     let params = params.copy()?;
     let body = body.copy()?;
     Ok(Code { params, body, env })
 }
 
-/// Calls a function in the activation whose number is that of the calls around its body.
-fn call(
-    alloc: Global,
-    control: &mut Control,
+/// The body of a function that is called inside so many other calls, whose argument is put into its
+/// activation; `None` where none may be called.
+fn called(
+    depth: u32,
     store: &mut Store,
     callee: &Val,
     args: &[Val],
-) -> Result<(), NoMemory>
-    requires { is_value control.old.expr ≡ false }
+) -> Result<Option<Body>, NoMemory>
+    requires { depth ≤ MOST_CALLS }
+    ensures { IfOk result (λ found. OnSome found (depth < MOST_CALLS)) }
 {
     match callee {
-        Val::Code(code) if control.depth() < MOST_CALLS => {
-            let act = ActId(control.depth() + 1);
+        Val::Code(code) if depth < MOST_CALLS => {
             if let Some(arg) = args.first() {
-                store.put(act, arg)?;
+                store.put(inside(depth), arg)?;
             }
-            control.enter(alloc, act, &code.body)
+            Ok(Some(code.body.copy()?))
         }
-        _ => control.give(alloc, Val::Null),
+        _ => Ok(None),
     }
 }
 
-fn operate(alloc: Global, control: &mut Control, op: Op, args: &[Val]) -> Result<(), NoMemory>
-    requires { is_value control.old.expr ≡ false }
+/// The activation of a call inside so many others: the one after theirs.
+fn inside(depth: u32) -> ActId
+    requires { depth < MOST_CALLS }
 {
+    ActId(depth + 1)
+}
+
+/// Puts the body that is called for the redex, or `null` where there is none.
+fn enter(alloc: Global, control: &mut Control, body: Option<Body>) -> Result<(), NoMemory>
+    requires unfinished { is_value control.old.expr ≡ false }
+    requires shallow { OnSome body (insides control.old.expr < MOST_CALLS) }
+{
+    match body {
+        Some(body) => {
+            let act = inside(control.depth());
+            control.enter(alloc, act, &body)
+        }
+        None => control.give(alloc, Val::Null),
+    }
+}
+
+/// What an operator gives, or `null` where it fails.
+fn operate(alloc: Global, op: Op, args: &[Val]) -> Val {
     match apply(alloc, op, args, 0) {
-        Ok(Applied { value, .. }) => control.give(alloc, value),
-        Err(_) => control.give(alloc, Val::Null),
+        Ok(Applied { value, .. }) => value,
+        Err(_) => Val::Null,
     }
 }

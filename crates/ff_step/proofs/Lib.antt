@@ -1,4 +1,4 @@
 pub mod Values
 pub mod Reductions
-pub mod Entering
+pub mod Calling
 pub mod Works

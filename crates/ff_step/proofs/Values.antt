@@ -10,19 +10,23 @@ use Rattle.ff_term.specs.Running.{Evaluation}
 use Rattle.ff_machine.specs.declared.reduced.Reduced.{Reduced}
 use Rattle.ff_machine.specs.declared.reduced.Reduced.TheVariants as answer
 use Rattle.ff_machine.specs.Stores.{Stores}
-use Rattle.ff_machine.specs.Operators.{Outcome}
-use Rattle.ff_machine.specs.Answers.{Does, Reads, Reduces, Turned, Finishes}
-use Rattle.ff_machine.specs.Reduction.{Reduction, by_redex, of_outcome, variable}
+use Rattle.ff_machine.specs.Operators.{Outcome, gives}
+use Rattle.ff_machine.specs.Answers.{Does, Reads, Reduces, Finishes}
+use Rattle.ff_machine.specs.Reduction.{by_redex, of_outcome, variable}
 
 -- what stays as it was has nothing appended
 pub nothing_put : (puts puts' : List Out) → puts' ≡ puts → AppendsFront puts puts' []
 nothing_put puts puts' e = record { front = []; rest = []; cut = refl; appended = e ∙ sym (append-nil puts) }
 
--- a variable that is read changes nothing and puts nothing
+-- a value that is given changes nothing and puts nothing
+pub given_does : (s : Stores) (v : Val) (got : Result Val Fail) (puts : List Out) → Reads (gives s v) got → Does (gives s v) got s s puts puts
+given_does s v (Ok w) puts h = (h, refl, sym (append-nil puts))
+given_does s v (Err (fail.Fault g)) puts h = absurd h
+given_does s v (Err fail.NoMemory) puts h = nothing_put puts puts refl
+
+-- so does a variable that is read
 pub variable_does : (s : Stores) (o : Option Val) (got : Result Val Fail) (puts : List Out) → Reads (variable s o) got → Does (variable s o) got s s puts puts
-variable_does s (Some v) (Ok w) puts h = (h, refl, sym (append-nil puts))
-variable_does s (Some v) (Err (fail.Fault g)) puts h = absurd h
-variable_does s (Some v) (Err fail.NoMemory) puts h = nothing_put puts puts refl
+variable_does s (Some v) got puts h = given_does s v got puts h
 variable_does s None (Ok w) puts h = absurd h
 variable_does s None (Err (fail.Fault g)) puts h = (h, refl, refl)
 variable_does s None (Err fail.NoMemory) puts h = refl
@@ -40,8 +44,3 @@ finished s s' t t' puts puts' (Err g) (Err (fail.Fault h)) (Ok a) d f = (f.0 ∙
 finished s s' t t' puts puts' (Err g) (Err (fail.Fault h)) (Err e) d f = absurd f
 finished s s' t t' puts puts' (Err g) (Err fail.NoMemory) (Ok a) d f = absurd f
 finished s s' t t' puts puts' (Err g) (Err fail.NoMemory) (Err e) d f = nothing_put puts puts' d
-
--- a reduction that puts nothing
-pub turned : {E : Type 0} (s s' : Stores) (t t' : Evaluation) (puts : List Out) (r : Reduction) (result : Result Reduced E) → Turned r result t' s' → Reduces r result t' s' puts puts
-turned s s' t t' puts r (Ok a) h = (h.0, h.1, h.2, sym (append-nil puts) ∙ ap (λ (os : List Out). puts ++ os) (sym h.3))
-turned s s' t t' puts r (Err e) h = record { front = []; rest = r.outputs; cut = refl; appended = sym (append-nil puts) }

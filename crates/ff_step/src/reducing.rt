@@ -1,27 +1,26 @@
 //! The one reduction: which row decides, and what is put for the redex.
 ghost use Rattle.std.specs.Prelude.{◌≡◌, ◌+◌, ◌<◌, ◌≤◌, false, length, IsTrue};
-ghost use Rattle.ff_term.specs.Calls.{calls_around};
-ghost use Rattle.ff_term.specs.Redexes.{IsRedexOf};
+ghost use Rattle.ff_term.specs.Redexes.{IsRedexOf, read_redex};
 ghost use Rattle.ff_term.specs.Running as term;
 ghost use Rattle.ff_term.specs.Running.{is_value};
+ghost use Rattle.ff_frames.specs.Lent.{named};
 ghost use Rattle.ff_machine.specs.Answers.{Finishes, Reduces};
 ghost use Rattle.ff_machine.specs.Reduction as red;
 ghost use Rattle.ff_machine.specs.References.{made};
 ghost use Rattle.ff_machine.specs.Valid.{IsRedex, IsRunning};
 ghost use Rattle.ff_machine.specs.Windows.{is_live};
-ghost use Rattle.ff_step.specs.Copies.{copied, working};
+ghost use Rattle.ff_step.specs.Copies.{working};
 
-use crate::calls::{reduce_call, reduce_test};
-use crate::rows::{assign, declare, make_tree, variable};
-use ff_frames::Control;
+use crate::calls::{call, enter};
+use crate::rows::{assign, declare, make, make_tree, variable};
+use ff_frames::{Control, Redex};
 use ff_machine::Reduced;
 use ff_name::NoMemory;
 use ff_operators::Fail;
 use ff_rows::operate;
 use ff_steps::Steps;
 use ff_stores::Stores;
-use ff_term::Redex;
-use ff_value::{ActId, Code, Out, PageId, Val};
+use ff_value::{ActId, Fault, Out, PageId, Val};
 use std::alloc::{AllocError, Global};
 use std::sync::ledger::Ledger;
 
@@ -65,69 +64,68 @@ fn reduce_redex<C: Ledger>(
     ensures later { copies.old ≤ copies.new }
     ensures copies { copies.new ≤ copies.old + working stores.old control.old }
 {
-    let a = control.act();
-    let redex = control.next(alloc)?;
-    rewrite(alloc, control, stores, redex, a, page, outs, copies)
-}
-
-/// Rewrites the redex, which stands in the activation, as its row says.
-fn rewrite<C: Ledger>(
-    alloc: Global,
-    control: &mut Control,
-    stores: &mut Stores,
-    redex: Redex,
-    a: ActId,
-    page: PageId,
-    outs: &mut Vec<Out>,
-    copies: &mut Steps<C>,
-) -> Result<Reduced, NoMemory>
-    requires unfinished { is_value control.old.expr ≡ false }
-    requires is { IsRedexOf redex (term.redex control.old.expr) }
-    requires redex { IsRedex (made stores.old) redex }
-    requires act { a.0 < length stores.old.windows.acts }
-    requires live { IsTrue (is_live stores.old.windows page) }
-    ensures reduces { Reduces (red.by_redex stores.old control.old (red.reduced stores.old page a (calls_around control.old.expr) (term.redex control.old.expr) redex)) result control.new stores.new outs.old.items outs.new.items }
-    ensures later { copies.old ≤ copies.new }
-    ensures copies { copies.new ≤ copies.old + copied stores.old a redex }
-{
-    match redex {
+    let a = act_of(control, stores);
+    match redex_of(control, stores) {
+        Redex::Prim(op, args) => {
+            let got = operate(alloc, stores, page, op, args, outs, copies);
+            finish(alloc, control, got)
+        }
+        Redex::Var(x) => {
+            let got = variable(stores, a, x);
+            finish(alloc, control, got)
+        }
         Redex::Local => {
             control.local(alloc)?;
             Ok(Reduced::Moved)
         }
-        Redex::Test(v) => reduce_test(alloc, control, stores, &v),
-        Redex::Apply(f, args) => {
-            reduce_call(alloc, control, stores, &f, args.as_slice(), copies)
+        Redex::Test(Val::Bool(yes)) => {
+            let yes = *yes;
+            control.choose(alloc, yes)?;
+            Ok(Reduced::Moved)
         }
-        Redex::Var(x) => {
-            let got = variable(stores, a, &x);
+        Redex::Test(_) => Ok(Reduced::Failed(Fault::Kind)),
+        Redex::Set(x, v) => {
+            let got = assign(stores, a, x, v, copies);
             finish(alloc, control, got)
+        }
+        Redex::Apply(f, args) => {
+            let got = call(control.depth(), stores, f, args, copies);
+            enter(alloc, control, got)
         }
         Redex::Let(x, v) => {
-            let got = declare(stores, a, &x, v, copies);
-            finish(alloc, control, got)
-        }
-        Redex::Set(x, v) => {
-            let got = assign(stores, a, &x, v, copies);
+            let got = declare(stores, a, x, v, copies);
             finish(alloc, control, got)
         }
         Redex::Make(params, body) => {
-            let code = Code {
-                params,
-                body,
-                env: a,
-            };
-            finish(alloc, control, Ok(Val::Code(code)))
-        }
-        Redex::Tree(doc) => {
-            let got = make_tree(stores, a, &doc, copies);
+            let got = make(a, params, body);
             finish(alloc, control, got)
         }
-        Redex::Prim(op, args) => {
-            let got = operate(alloc, stores, page, op, args.as_slice(), outs, copies);
+        Redex::Tree(doc) => {
+            let got = make_tree(stores, a, doc, copies);
             finish(alloc, control, got)
         }
     }
+}
+
+/// The activation in which the redex stands.
+fn act_of(control: &Control, stores: &Stores) -> ActId
+    requires act { control.now.base.0 < length stores.now.windows.acts }
+    requires running { IsRunning (made stores.now) control.now.expr }
+    ensures value { result ≡ term.innermost control.now.base control.now.expr }
+    ensures lives { result.0 < length stores.now.windows.acts }
+{
+    control.act()
+}
+
+/// The redex, lent.
+fn redex_of<'a>(control: &'a Control, stores: &Stores) -> Redex<'a>
+    requires unfinished { is_value control.now.expr ≡ false }
+    requires running { IsRunning (made stores.now) control.now.expr }
+    ensures is { IsRedexOf (named result) (term.redex control.now.expr) }
+    ensures valid { IsRedex (made stores.now) (named result) }
+    ensures read { read_redex (term.redex control.now.expr) ≡ named result }
+{
+    control.next()
 }
 
 /// Puts the value that a row gave for the redex, or answers the fault.

@@ -6,6 +6,7 @@ ghost use Rattle.ff_machine.specs.Answers.{Does, Reads};
 ghost use Rattle.ff_machine.specs.Documents.{laid};
 ghost use Rattle.ff_machine.specs.Reduction as red;
 ghost use Rattle.ff_machine.specs.References.{made};
+ghost use Rattle.ff_machine.specs.Stores.{Stores};
 ghost use Rattle.ff_machine.specs.Valid.{IsVal};
 ghost use Rattle.ff_machine.specs.Windows as w;
 
@@ -13,7 +14,7 @@ use ff_name::Name;
 use ff_operators::Fail;
 use ff_steps::Steps;
 use ff_stores::Stores;
-use ff_value::{ActId, Doc, Fault, Val};
+use ff_value::{ActId, Body, Code, Doc, Fault, Names, Val};
 use std::sync::ledger::Ledger;
 
 /// The value of the nearest variable of a name. Its fault is `Name`, where there is none.
@@ -32,18 +33,18 @@ pub(crate) fn declare<C: Ledger>(
     stores: &mut Stores,
     a: ActId,
     x: &Name,
-    v: Val,
+    v: &Val,
     copies: &mut Steps<C>,
 ) -> Result<Val, Fail>
     requires lives { a.0 < length stores.old.windows.acts }
     requires name { IsVar x.now }
-    requires value { IsVal (made stores.old) v }
-    ensures does { (puts : List Out) → Does (red.declare stores.old a x.now v) result stores.old stores.new puts puts }
+    requires value { IsVal (made stores.old) v.now }
+    ensures does { (puts : List Out) → Does (red.declare stores.old a x.now v.now) result stores.old stores.new puts puts }
     ensures later { copies.old ≤ copies.new }
     ensures copies { copies.new ≤ copies.old + 64 }
 {
-    stores.declare(a, x, &v, copies)?;
-    Ok(v)
+    stores.declare(a, x, v, copies)?;
+    Ok(v.copy()?)
 }
 
 /// Assigns the nearest variable of a name; gives the value. Its fault is `Name`, where there is
@@ -52,17 +53,28 @@ pub(crate) fn assign<C: Ledger>(
     stores: &mut Stores,
     a: ActId,
     x: &Name,
-    v: Val,
+    v: &Val,
     copies: &mut Steps<C>,
 ) -> Result<Val, Fail>
     requires lives { a.0 < length stores.old.windows.acts }
-    requires value { IsVal (made stores.old) v }
-    ensures does { (puts : List Out) → Does (red.assign stores.old (w.holder stores.old.windows.acts a x.now) x.now v) result stores.old stores.new puts puts }
+    requires value { IsVal (made stores.old) v.now }
+    ensures does { (puts : List Out) → Does (red.assign stores.old (w.holder stores.old.windows.acts a x.now) x.now v.now) result stores.old stores.new puts puts }
     ensures later { copies.old ≤ copies.new }
     ensures copies { copies.new ≤ copies.old + 64 }
 {
-    stores.assign(a, x, &v, copies)?;
-    Ok(v)
+    stores.assign(a, x, v, copies)?;
+    Ok(v.copy()?)
+}
+
+/// The function of the parameters and the body, made in the activation.
+pub(crate) fn make(a: ActId, params: &Names, body: &Body) -> Result<Val, Fail>
+    ensures { (s : Stores) → Reads (red.make s a params.now body.now) result }
+{
+    Ok(Val::Code(Code {
+        params: params.copy()?,
+        body: body.copy()?,
+        env: a,
+    }))
 }
 
 /// Makes a tree without a parent; gives its root. Its fault is `Limit`.
