@@ -1,8 +1,10 @@
 use Rattle.std.proofs.Common.{refl, sym, ◌∙◌, append-nil}
+use Rattle.ff_value.specs.declared.value.Val.{Val}
 use Rattle.ff_value.specs.declared.value.Val.TheVariants as val
-use Rattle.ff_term.specs.Rows.{local_row, branch}
+use Rattle.ff_term.specs.Rows.{local_row}
 use Rattle.ff_term.proofs.Laws.{rewritten_at}
 use Rattle.ff_frames.specs.Lent.{named}
+use Rattle.ff_machine.specs.Operators.{gives}
 use Rattle.ff_machine.specs.Windows.{lookup}
 use Rattle.ff_step.proofs.Calling.{reduced_call}
 use Rattle.ff_step.proofs.Reductions.{reduction_by}
@@ -46,9 +48,10 @@ returns-in-Let-clause-reduces g c =
 
 pub returns-in-Make-clause-reduces : goal.returns-in-Make-clause-reduces
 returns-in-Make-clause-reduces g c =
+    let made : Val = val.Code (record { params = c.in-Make.params.now; body = c.in-Make.body.now; env = c.act_of-a.result }) in
     rw (reduction_by c.args.stores.now c.args.page c.args.control.now (named c.redex_of.result) c.requires.unfinished c.redex_of.ensures.is, sym c.act_of-a.ensures.value, c.in-Make.is)
-    (finished c.args.stores.now c.args.stores.now c.args.control.now c.finish-in-Make.new.control c.args.outs.now.items c.args.outs.now.items _ c.make-got.result c.finish-in-Make.result
-    (given_does c.args.stores.now _ c.make-got.result c.args.outs.now.items (c.make-got.ensures c.args.stores.now)) c.finish-in-Make.ensures)
+    (finished c.args.stores.now c.args.stores.now c.args.control.now c.finish-in-Make.new.control c.args.outs.now.items c.args.outs.now.items (gives c.args.stores.now made) c.make-got.result
+    c.finish-in-Make.result (given_does c.args.stores.now made c.make-got.result c.args.outs.now.items (c.make-got.ensures c.args.stores.now)) c.finish-in-Make.ensures)
 
 pub returns-in-Tree-clause-reduces : goal.returns-in-Tree-clause-reduces
 returns-in-Tree-clause-reduces g c =
