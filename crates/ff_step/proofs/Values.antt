@@ -18,6 +18,10 @@ use Rattle.ff_machine.specs.Reduction.{by_redex, of_outcome, variable}
 pub nothing_put : (puts puts' : List Out) → puts' ≡ puts → AppendsFront puts puts' []
 nothing_put puts puts' e = record { front = []; rest = []; cut = refl; appended = e ∙ sym (append-nil puts) }
 
+-- of a reduction that was refused nothing may have been put
+pub none_put : (puts outputs : List Out) → AppendsFront puts puts outputs
+none_put puts outputs = record { front = []; rest = outputs; cut = refl; appended = sym (append-nil puts) }
+
 -- a value that is given changes nothing and puts nothing
 pub given_does : (s : Stores) (v : Val) (got : Result Val Fail) (puts : List Out) → Reads (gives s v) got → Does (gives s v) got s s puts puts
 given_does s v (Ok w) puts h = (h, refl, sym (append-nil puts))
