@@ -1,4 +1,5 @@
 pub mod Values
 pub mod Reductions
 pub mod Calling
+pub mod Testing
 pub mod Works

@@ -1,5 +1,5 @@
 -- Rows that give a value, and what is then put for the redex.
-use Rattle.std.proofs.Common.{◌≡◌, List, [], ◌++◌, Option, Some, None, Result, Ok, Err, refl, sym, ap, ◌∙◌, append-nil}
+use Rattle.std.proofs.Common.{◌≡◌, List, [], Option, Some, None, Result, Ok, Err, refl, sym, ap, ◌∙◌, append-nil}
 use Rattle.ff_contract.specs.Appending.{AppendsFront}
 use Rattle.ff_value.specs.declared.output.Out.{Out}
 use Rattle.ff_value.specs.declared.value.Val.{Val}
@@ -17,6 +17,10 @@ use Rattle.ff_machine.specs.Reduction.{by_redex, of_outcome, variable}
 -- what stays as it was has nothing appended
 pub nothing_put : (puts puts' : List Out) → puts' ≡ puts → AppendsFront puts puts' []
 nothing_put puts puts' e = record { front = []; rest = []; cut = refl; appended = e ∙ sym (append-nil puts) }
+
+-- of a reduction that was refused nothing may have been put
+pub none_put : (puts outputs : List Out) → AppendsFront puts puts outputs
+none_put puts outputs = record { front = []; rest = outputs; cut = refl; appended = sym (append-nil puts) }
 
 -- a value that is given changes nothing and puts nothing
 pub given_does : (s : Stores) (v : Val) (got : Result Val Fail) (puts : List Out) → Reads (gives s v) got → Does (gives s v) got s s puts puts

@@ -1,5 +1,5 @@
 -- What calls leave that find what the call of a function becomes, and that put it.
-use Rattle.std.specs.Prelude.{◌≡◌, List, [], Result, Ok, Err, ⊤}
+use Rattle.std.specs.Prelude.{◌≡◌, [], Result, Ok, Err, ⊤}
 use Rattle.ff_tree.specs.declared.tree.Expr.{Expr}
 use Rattle.ff_value.specs.declared.fault.Fault.{Fault}
 use Rattle.ff_value.specs.declared.ids.ActId.{ActId}

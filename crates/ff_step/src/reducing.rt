@@ -78,12 +78,14 @@ fn reduce_redex<C: Ledger>(
             control.local(alloc)?;
             Ok(Reduced::Moved)
         }
-        Redex::Test(Val::Bool(yes)) => {
-            let yes = *yes;
-            control.choose(alloc, yes)?;
-            Ok(Reduced::Moved)
-        }
-        Redex::Test(_) => Ok(Reduced::Failed(Fault::Kind)),
+        Redex::Test(v) => match v {
+            Val::Bool(yes) => {
+                let yes = *yes;
+                control.choose(alloc, yes)?;
+                Ok(Reduced::Moved)
+            }
+            _ => Ok(Reduced::Failed(Fault::Kind)),
+        },
         Redex::Set(x, v) => {
             let got = assign(stores, a, x, v, copies);
             finish(alloc, control, got)
