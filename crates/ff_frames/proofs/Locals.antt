@@ -1,5 +1,5 @@
 -- What no store decides, and the branches.
-use Rattle.std.proofs.Common.{◌≡◌, ◌<◌, ◌++◌, ◌∷◌, [], ℕ, zero, suc, Bool, List, Option, true, false, drop, length, refl, add-one, arith, Some, None, slice_get}
+use Rattle.std.proofs.Common.{◌≡◌, ◌<◌, ◌++◌, ◌∷◌, [], ℕ, zero, suc, List, true, false, drop, length, refl, add-one, arith, Some, None, slice_get}
 use Rattle.ff_tree.specs.declared.tree.Doc.{Doc}
 use Rattle.ff_tree.specs.declared.tree.Expr.{Expr, out-Expr}
 use Rattle.ff_tree.specs.declared.tree.Expr.TheVariants as expr

@@ -31,7 +31,7 @@ use Rattle.ff_frames.specs.declared.hand.Hand.{Hand}
 use Rattle.ff_frames.specs.declared.stack.Stack.{Stack}
 use Rattle.ff_frames.specs.Frames.{around, wrap, outside, base_of, plug, shown, is_call, calls}
 use Rattle.ff_frames.specs.Heads.{IsCleared, IsEmptyHanded, IsHolding, IsLaid, all_held, at_hand, focus_of, frames, frames_of, held, last_or, value_of, with_values}
-use Rattle.ff_frames.specs.Rewrites.{IsDo, IsIf, IsCallFrame, IsLocalOut, IsNoCall, IsPutOn, IsRedex, IsTested, taken, with_frame, within}
+use Rattle.ff_frames.specs.Rewrites.{IsDo, IsIf, IsCallFrame, IsLocalOut, IsNoCall, IsPutOn, IsTested, taken, with_frame, within}
 use Rattle.ff_frames.specs.Seeking.{IsFull, IsRow, IsSettled, IsThere, IsTopFull}
 use Rattle.ff_frames.specs.Stacks.{frames_in, focus_in, with_part, evaluation, out_of, IsCounted, IsValid, IsWithoutRedex}
 use Rattle.ff_frames.proofs.Heads.{Holds, all_held-snoc, empty-holds, frames-snoc, holds-at, holds-frames, holds-laid}

@@ -1,8 +1,4 @@
-use Rattle.std.proofs.Common.{sym, ◌∙◌}
 use Rattle.std.proofs.lemmas.Result.{on_ok_weaker}
-use Rattle.ff_tree.specs.declared.tree.Expr.{out-Expr}
-use Rattle.ff_value.specs.declared.value.Val.TheVariants as val
-use Rattle.ff_frames.specs.Rewrites.{test_of}
 use Rattle.ff_frames.proofs.Locals.{put-test, put-untested}
 use Rattle.ff_frames.proofs.row.put_form.Goals as goal
 
