@@ -1,5 +1,5 @@
 -- A stack with its redex rewritten.
-use Rattle.std.proofs.Common.{◌≡◌, ◌≤◌, ◌<◌, ◌+◌, ◌++◌, ◌∷◌, ◌⊎◌, inl, inr, List, [], Option, None, Some, Result, Ok, Err, OnOk, MatchOption, Bor, false, true, length, drop, refl, sym, ap, ◌∙◌, arith}
+use Rattle.std.proofs.Common.{ℕ, ◌-◌, ◌≡◌, ◌≤◌, ◌<◌, ◌+◌, ◌++◌, ◌∷◌, ◌⊎◌, inl, inr, List, [], Option, None, Some, Result, Ok, Err, OnOk, MatchOption, Bor, false, true, length, drop, refl, sym, ap, ◌∙◌, arith}
 use Rattle.std.proofs.lemmas.List.{append-nil, append_assoc, length-append}
 use Rattle.std.specs.Option.{option_copied}
 use Rattle.ff_tree.specs.declared.tree.Expr.{Expr, out-Expr}
@@ -31,10 +31,10 @@ use Rattle.ff_frames.specs.declared.hand.Hand.{Hand}
 use Rattle.ff_frames.specs.declared.stack.Stack.{Stack}
 use Rattle.ff_frames.specs.Frames.{around, wrap, outside, base_of, plug, shown, is_call, calls}
 use Rattle.ff_frames.specs.Heads.{IsCleared, IsEmptyHanded, IsHolding, IsLaid, all_held, at_hand, focus_of, frames, frames_of, held, last_or, value_of, with_values}
-use Rattle.ff_frames.specs.Rewrites.{IsDo, IsIf, IsCallFrame, IsLocalOut, IsPut, IsRedex, IsTested, taken, within}
-use Rattle.ff_frames.specs.Seeking.{IsFull, IsRow, IsThere, IsTopFull}
+use Rattle.ff_frames.specs.Rewrites.{IsDo, IsIf, IsCallFrame, IsLocalOut, IsNoCall, IsPutOn, IsTested, taken, with_frame, within}
+use Rattle.ff_frames.specs.Seeking.{IsFull, IsRow, IsSettled, IsThere, IsTopFull}
 use Rattle.ff_frames.specs.Stacks.{frames_in, focus_in, with_part, evaluation, out_of, IsCounted, IsValid, IsWithoutRedex}
-use Rattle.ff_frames.proofs.Heads.{all_held-snoc, empty-holds, frames-snoc, holds-at, holds-frames}
+use Rattle.ff_frames.proofs.Heads.{Holds, all_held-snoc, empty-holds, frames-snoc, holds-at, holds-frames, holds-laid}
 use Rattle.ff_frames.proofs.Plugs.{plug_value, wrap_value, base-snoc, plug-snoc, calls-snoc, plug_insides, plug_innermost, plug_around}
 use Rattle.ff_frames.proofs.Taking.{form-open, form-rewritten, form-redex, frame-base, frame-full, frame-calls, frame-rewritten, frame-redex}
 use Rattle.ff_frames.proofs.Walk.{Topped, topped, enough-held}
@@ -251,12 +251,6 @@ pub framed-counted : (t u : Stack) (f : Frame) → is_call f ≡ 0 → IsCounted
 framed-counted t u f p c is depth =
     let q = pushed-calls t u f c is in let r = c.small in record { depth = omega arith; small = omega arith }
 
--- what is put, in a frame that is no call
-pub framed : (t u v : Stack) (f : Frame) (x : Running) (a : ActId) → is_call f ≡ 0 → frames_in u ≡ frames_in t ++ f ∷ []
-    → u.act ≡ t.act → evaluation v ≡ with_part u x → evaluation v ≡ with_part t (wrap f a x)
-framed t u v f x a p is act e =
-    e ∙ pushed t u f x is (outside-none f u.act p ∙ act) ∙ ap (with_part t) (wrap-none f u.act a x p)
-
 -- a call
 pub called-counted : (s t u : Stack) (b : ActId) → IsValid s → IsWithoutRedex s t → insides (evaluation s).expr < MOST_CALLS
     → frames_in u ≡ frames_in t ++ frame.Inside b ∷ [] → u.depth ≡ t.depth + 1 → IsCounted u
@@ -281,13 +275,6 @@ one-call s t f code v call heads values e =
       alone head.Last h = refl
       alone (head.Inside a) h = cc
 
--- what is put for the redex that was taken out
-pub rewrote : (g : Running → Running) (s t u : Stack) (r : Taken) (p : Option Head × Focus) (vs : List Val) → IsWithoutRedex s t → redex (evaluation s).expr ≡ taken vs r s.act
-    → IsPut (λ a. g (taken vs r a)) p → ((a : ActId) → evaluation u ≡ with_part t (within p.0 a (shown p.1)))
-    → evaluation u ≡ rewritten_in (λ _. g (redex (evaluation s).expr)) (evaluation s)
-rewrote g s t u r p vs o is put e =
-    e s.act ∙ ap (with_part t) (put.same s.act) ∙ o.rewrites (g (taken vs r s.act)) ∙ ap (λ y. rewritten_in (λ _. g y) (evaluation s)) (sym is)
-
 -- ---- the redex read off the stack
 
 -- the redex by its layer
@@ -311,11 +298,28 @@ row-test : (l : Expr-F Doc Expr Handler) → IsRow l → IsTest (layer l) → �
 row-test (Expr-F.If e f g) r h = r
 row-test _ r h = h
 
--- a test stands in an `if`
-pub tested : (r : Taken) (vs : List Val) (a : ActId) → IsRedex r → IsTest (taken vs r a) → IsTested r
-tested (taken_out.Form e) vs a row h = row-test (out-Expr e) row h
-tested (taken_out.Full (head.Part e n) v) vs a row h = test-if (out-Expr e) vs v h
-tested (taken_out.Full _ v) vs a row h = absurd h
+-- a form at hand is no test
+pub form-no-test : (s : Stack) (e : Expr) → s.hand.form ≡ Some e → IsValid s → IsTest (redex (evaluation s).expr) → ⊥
+form-no-test s e h v t = row-test (out-Expr e) (form-row s e h v) (rw (form-layer s e e h refl v) at t)
+
+-- so a test has a value at hand
+pub test-free : (s : Stack) → IsValid s → IsTest (redex (evaluation s).expr) → s.hand.form ≡ None
+test-free s v t = by s.hand.form refl where
+  by : (form : Option Expr) → s.hand.form ≡ form → s.hand.form ≡ None
+  by None h = h
+  by (Some e) h = absurd (form-no-test s e h v t)
+
+-- and stands in an `if`
+pub tested : (f : Head) (vs : List Val) (a : ActId) (v : Val) → IsTest (wrap (with_values f vs) a (Done v)) → IsTested f
+tested (head.Part e n) vs a v h = test-if (out-Expr e) vs v h
+tested (head.Do es n) vs a v h = absurd h
+tested (head.Loop e) vs a v h = absurd h
+tested head.Last vs a v h = absurd h
+tested (head.Inside b) vs a v h = absurd h
+
+-- a form's frame is left as if it were no frame
+pub out-part : (s t : Stack) (f : Head) (e : Expr) (n : ℕ) → f ≡ head.Part e n → t ≡ s → t ≡ out_of f s
+out-part s t f e n h is = rw (h, is) (let p : s.depth ≡ s.depth - 0 = omega arith in ap (λ (d : ℕ). record s { depth = d }) p)
 
 -- a form around a value that is no store's is a `do`
 local-do : (l : Expr-F Doc Expr Handler) (vs : List Val) (v : Val) → IsLocal (around l vs (Done v)) → IsDo l
@@ -369,6 +373,63 @@ module _ (s t : Stack) (h : Hand) (x : Focus) (empty : IsEmptyHanded s.heads.ite
         at = there.at;
         counted = record { depth = depth ∙ counted.depth ∙ sym same; small = rw depth counted.small };
       }
+
+-- ---- what is put in place, and the walk from there
+
+put-count : (hs : List Head) (p : Option Head) → IsNoCall p → all_held (with_frame hs p) ≡ all_held hs
+put-count hs None n = refl
+put-count hs (Some g) n = let q = all_held-snoc hs g in let r = n.1 in omega arith
+
+module _ (s m : Stack) (act : m.act ≡ s.act) (depth : m.depth ≡ s.depth) (empty : IsEmptyHanded s.heads.items s.hand) where
+  -- what stands in a frame more
+  put-within : (p : Option Head) (a : ActId) (x : Running) → IsNoCall p → frames_in m ≡ frames_of (with_frame s.heads.items p) s.hand.values.items
+      → with_part m x ≡ with_part s (within p a x)
+  put-within None a x n is = rw (is, act) refl
+  put-within (Some g) a x n is =
+      pushed s m (with_values g []) x (is ∙ frames-pushed s.heads.items _ s.hand g empty n.1 refl) (outside-none (with_values g []) m.act n.0 ∙ act)
+      ∙ ap (with_part s) (wrap-none (with_values g []) m.act a x n.0)
+
+  put-counted : (p : Option Head) → IsNoCall p → frames_in m ≡ frames_of (with_frame s.heads.items p) s.hand.values.items → IsCounted s → IsCounted m
+  put-counted None n is c = record { depth = rw is (depth ∙ c.depth); small = rw depth c.small }
+  put-counted (Some g) n is c = framed-counted s m (with_values g []) n.0 c (is ∙ frames-pushed s.heads.items _ s.hand g empty n.1 refl) depth
+
+  module _ (t : ActId → Running) (on : IsPutOn t s.heads.items s.hand m.heads.items m.hand) where
+    put-holds : Holds m.heads.items m.hand s.hand.values.items on.put.1
+    put-holds = record { count = rw on.heads (empty.count ∙ sym (put-count s.heads.items on.put.0 on.is.no_call)); hand = on.hand }
+
+    put-at : focus_in m ≡ on.put.1
+    put-at = holds-at m.heads.items m.hand s.hand.values.items on.put.1 put-holds
+
+    put-frames : frames_in m ≡ frames_of (with_frame s.heads.items on.put.0) s.hand.values.items
+    put-frames = holds-frames m.heads.items m.hand s.hand.values.items on.put.1 put-holds ∙ ap (λ hs. frames_of hs s.hand.values.items) on.heads
+
+    pub put-laid : IsLaid m.heads.items m.hand
+    put-laid = holds-laid m.heads.items m.hand s.hand.values.items on.put.1 put-holds
+
+    pub put-settled : IsSettled (focus_in m)
+    put-settled = rw put-at on.is.settled
+
+    put-is : (a : ActId) → evaluation m ≡ with_part s (t a)
+    put-is a = ap (λ x. with_part m (shown x)) put-at ∙ put-within on.put.0 a (shown on.put.1) on.is.no_call put-frames ∙ ap (with_part s) (on.is.same a)
+
+    module _ (u : Stack) (later : u.act ≡ s.act) (there : IsThere (frames_in m) (shown (focus_in m)) (frames_in u) (focus_in u)) where
+      walked-same : evaluation u ≡ evaluation m
+      walked-same = let alike = there.alike in rw (later, act) (both _ _ _ _ (alike.base s.act) (alike.expr s.act))
+
+      -- it stands for the redex that was taken out
+      pub rewrote : (g : Running → Running) (r : Stack) (a : ActId) (x : Running) → IsWithoutRedex r s → redex (evaluation r).expr ≡ x → t a ≡ g x
+          → evaluation u ≡ rewritten_in (λ _. g (redex (evaluation r).expr)) (evaluation r)
+      rewrote g r a x o is same =
+          walked-same ∙ put-is a ∙ ap (with_part s) same ∙ o.rewrites (g x) ∙ ap (λ y. rewritten_in (λ _. g y) (evaluation r)) (sym is)
+
+      pub put-valid : u.depth ≡ s.depth → IsCounted s → IsLaid u.heads.items u.hand → IsValid u
+      put-valid deeper counted laid =
+          let c = put-counted on.put.0 on.is.no_call put-frames counted in let d = c.depth in let e = c.small in let same = there.alike.calls in
+          record {
+            laid = inr laid;
+            at = there.at;
+            counted = record { depth = deeper ∙ sym depth ∙ d ∙ sym same; small = rw (deeper, ← depth) e };
+          }
 
 -- what two facts say of a good answer
 pub both_ok : {X E : Type 0} {A B C : Type 0} (r : Result X E) → (A → B → C) → OnOk r A → OnOk r B → OnOk r C

@@ -1,12 +1,13 @@
 -- What is put for a redex.
-use Rattle.std.specs.Prelude.{◌≡◌, ◌+◌, ℕ, List, [], ◌∷◌, drop, Option, Some, None}
+use Rattle.std.specs.Prelude.{◌≡◌, ◌+◌, ℕ, List, [], ◌∷◌, ◌++◌, drop, Option, Some, None}
 use Rattle.ff_tree.specs.declared.tree.Doc.{Doc}
 use Rattle.ff_tree.specs.declared.tree.Expr.{Expr, out-Expr}
 use Rattle.ff_tree.specs.declared.tree.Handler.{Handler}
 use Rattle.ff_tree.specs.declared.tree.Doc.TheOpen.{Expr-F}
 use Rattle.ff_frames.specs.declared.frame.Head.{Head}
 use Rattle.ff_frames.specs.declared.frame.Head.TheVariants as head
-use Rattle.ff_frames.specs.Heads.{held, with_values}
+use Rattle.ff_frames.specs.declared.hand.Hand.{Hand}
+use Rattle.ff_frames.specs.Heads.{IsHolding, held, with_values}
 use Rattle.ff_frames.specs.declared.frame.Focus.{Focus}
 use Rattle.ff_frames.specs.declared.frame.Taken.{Taken}
 use Rattle.ff_frames.specs.declared.frame.Taken.TheVariants as taken_out
@@ -46,6 +47,18 @@ pub record IsPut (t : ActId → Running) (p : Option Head × Focus) : Type 0 whe
   pub settled : IsSettled p.1
   pub no_call : IsNoCall p.0
 
+-- perhaps with a frame more
+abbrev pub with_frame : List Head → Option Head → List Head
+with_frame hs None = hs
+with_frame hs (Some h) = hs ++ h ∷ []
+
+-- what stands for t is put behind what is there: a part at hand, perhaps with a frame more
+pub record IsPutOn (t : ActId → Running) (hs : List Head) (h : Hand) (gs : List Head) (k : Hand) : Type 0 where
+  pub put : Option Head × Focus
+  pub heads : gs ≡ with_frame hs put.0
+  pub hand : IsHolding h.values.items put.1 k
+  pub is : IsPut t put
+
 -- the parts of a `do` after a place stand after the part at hand
 pub record IsRest (es : List Expr) (n : ℕ) (h : Head) : Type 0 where
   pub same : (a : ActId) (x : Running) → wrap (with_values h []) a x ≡ Do (more x (wholes (drop (n + 1) es)))
@@ -66,9 +79,9 @@ IsIf (Expr-F.And e f) = Unit {0}
 IsIf (Expr-F.Or e f) = Unit {0}
 IsIf _ = ⊥
 
--- a value in its place around a test
-abbrev pub IsTested : Taken → Type 0
-IsTested (taken_out.Full (head.Part e n) v) = IsIf (out-Expr e)
+-- a frame around a test
+abbrev pub IsTested : Head → Type 0
+IsTested (head.Part e n) = IsIf (out-Expr e)
 IsTested _ = ⊥
 
 -- a form that stands for a `do` around the part at hand

@@ -131,12 +131,33 @@ impl Hand {
         Ok(())
     }
 
+    /// Puts a value at hand.
+    pub fn hold_value(&mut self, value: Val) -> Result<(), NoMemory>
+        requires { self.old.form ≡ None }
+        ensures { OnOk result (IsHolding self.old.values.items (focus.Value value) self.new) }
+    {
+        self.values.push(value)?;
+        Ok(())
+    }
+
     /// Puts the value of a literal at hand.
     fn hold_literal(&mut self, lit: &Lit) -> Result<(), NoMemory>
         requires { self.old.form ≡ None }
         ensures { OnOk result (IsHolding self.old.values.items (focus.Value (the_literal lit.now)) self.new) }
     {
         self.values.push(literal(lit)?)?;
+        Ok(())
+    }
+
+    /// Puts an expression at hand.
+    pub fn hold_source(&mut self, expr: Source) -> Result<(), NoMemory>
+        requires { self.old.form ≡ None }
+        ensures { OnOk result ((x : Focus) × Shows expr x × IsHolding self.old.values.items x self.new) }
+    {
+        match expr.get() {
+            Expr::Lit(lit) => self.hold_literal(lit)?,
+            _ => self.form = Some(expr),
+        }
         Ok(())
     }
 
@@ -153,7 +174,7 @@ impl Hand {
     }
 
     /// Puts the expression at a place of a list at hand; answers whether there is one.
-    fn hold_item(&mut self, list: &Exprs, at: usize) -> Result<bool, NoMemory>
+    pub fn hold_item(&mut self, list: &Exprs, at: usize) -> Result<bool, NoMemory>
         requires { self.old.form ≡ None }
         ensures { IfOk result (λ there. IsHeld (slice_get list.now at) self.old there self.new) }
     {

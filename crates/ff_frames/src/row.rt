@@ -1,92 +1,130 @@
-ghost use Rattle.std.specs.Prelude.{◌≡◌, ◌<◌, List, IfOk, drop, length};
+ghost use Rattle.std.specs.Prelude.{◌≡◌, ◌<◌, List, None, IfOk, OnOk, drop, length};
 ghost use Rattle.ff_tree.specs.declared.tree.Expr.{out-Expr};
 ghost use Rattle.ff_value.specs.declared.ids.ActId.{ActId};
-ghost use Rattle.ff_value.specs.declared.value.Val.{Val};
-ghost use Rattle.ff_term.specs.Running.{Do, Done, more};
+ghost use Rattle.ff_value.specs.declared.value.Val.{Val as Value};
+ghost use Rattle.ff_term.specs.Running.{Do, Done, more, none};
 ghost use Rattle.ff_term.specs.Rows.{IsLocal, branch, local_row};
-ghost use Rattle.ff_term.specs.Whole.{layer, wholes};
+ghost use Rattle.ff_term.specs.Whole.{layer, whole, wholes};
 ghost use Rattle.ff_frames.specs.Frames.{around, wrap};
 ghost use Rattle.ff_frames.specs.Heads.{with_values};
-ghost use Rattle.ff_frames.specs.Seeking.{AreShown, IsRow};
-ghost use Rattle.ff_frames.specs.Rewrites.{IsDo, IsEnding, IsIf, IsLocalOut, IsPut, IsRedex, IsRest, IsTested, taken, test_of};
+ghost use Rattle.ff_frames.specs.Seeking.{IsHeld, IsRow};
+ghost use Rattle.ff_frames.specs.Rewrites.{IsDo, IsEnding, IsIf, IsLocalOut, IsPutOn, IsRedex, IsRest, taken, test_of};
 
-use crate::frame::{Focus, Head, Taken};
-use crate::operand::{focus_on, focus_on_body, focus_on_item};
+use crate::frame::{Head, Taken};
+use crate::hand::Hand;
 use crate::source::Source;
 use ff_tree::{Expr, Exprs};
 use ff_value::{NoMemory, Val};
 
-/// What is put for a redex that no store decides: the part at hand, and perhaps a frame around it.
-pub fn local_of(redex: Taken) -> Result<(Option<Head>, Focus), NoMemory>
+/// Puts what stands for a redex that no store decides: a part at hand, and perhaps a frame around
+/// it. Nothing is at hand before.
+pub fn put_local(redex: Taken, heads: &mut Vec<Head>, hand: &mut Hand) -> Result<(), NoMemory>
     requires redex { IsRedex redex }
     requires local { IsLocalOut redex }
-    ensures { IfOk result (λ p. (vs : List Val) → IsPut (λ a. local_row (taken vs redex a)) p) }
+    requires free { hand.old.form ≡ None }
+    ensures { OnOk result ((vs : List Value) → IsPutOn (λ a. local_row (taken vs redex a)) heads.old.items hand.old heads.new.items hand.new) }
 {
     match redex {
-        Taken::Form(form) => local_form(form),
-        Taken::Full(frame, value) => local_frame(frame, value),
+        Taken::Full(frame, value) => put_frame(frame, value, heads, hand),
+        Taken::Form(form) => put_form(form, heads, hand),
     }
 }
 
-/// The same for a form.
-fn local_form(form: Source) -> Result<(Option<Head>, Focus), NoMemory>
+/// The same for a form: the test of the `if` that it becomes, or else `null`.
+fn put_form(form: Source, heads: &mut Vec<Head>, hand: &mut Hand) -> Result<(), NoMemory>
     requires row { IsRow (out-Expr form) }
     requires local { IsLocal (layer (out-Expr form)) }
-    ensures { IfOk result (IsPut (λ a. local_row (layer (out-Expr form)))) }
+    requires free { hand.old.form ≡ None }
+    ensures { OnOk result (IsPutOn (λ a. local_row (layer (out-Expr form))) heads.old.items hand.old heads.new.items hand.new) }
 {
-    match test(form.get())? {
-        None => Ok((None, Focus::Value(Val::Null))),
-        Some(part) => Ok((Some(Head::Part(form, 0)), part)),
+    let held = hold_test(hand, form.get())?;
+    if held {
+        heads.push(Head::Part(form, 0))?;
+        Ok(())
+    } else {
+        hand.hold_value(Val::Null)
     }
 }
 
-/// The test of a form that becomes an `if`, as the part at hand.
-fn test(form: &Expr) -> Result<Option<Focus>, NoMemory>
-    ensures { IfOk result (AreShown (test_of (out-Expr form.now))) }
+/// Puts the test of a form that becomes an `if` at hand; answers whether it is one.
+fn hold_test(hand: &mut Hand, form: &Expr) -> Result<bool, NoMemory>
+    requires { hand.old.form ≡ None }
+    ensures { IfOk result (λ there. IsHeld (test_of (out-Expr form.now)) hand.old there hand.new) }
 {
     match form {
         Expr::While(test, _) | Expr::And(test, _) | Expr::Or(test, _) => {
-            Ok(Some(focus_on_body(test)?))
+            hand.hold_body(test)?;
+            Ok(true)
         }
-        _ => Ok(None),
+        _ => Ok(false),
     }
 }
 
-/// What is put for a value and the frame around it.
-fn local_frame(frame: Head, value: Val) -> Result<(Option<Head>, Focus), NoMemory>
-    requires { IsEnding frame }
-    ensures { IfOk result (λ p. (vs : List Val) → IsPut (λ a. local_row (wrap (with_values frame vs) a (Done value))) p) }
+/// Puts what stands for a value and the frame around it.
+fn put_frame(
+    frame: Head,
+    value: Val,
+    heads: &mut Vec<Head>,
+    hand: &mut Hand,
+) -> Result<(), NoMemory>
+    requires ending { IsEnding frame }
+    requires free { hand.old.form ≡ None }
+    ensures { OnOk result ((vs : List Value) → IsPutOn (λ a. local_row (wrap (with_values frame vs) a (Done value))) heads.old.items hand.old heads.new.items hand.new) }
 {
     match frame {
-        Head::Part(form, _) => after_first(form.get(), value),
-        Head::Do(parts, at) => after_part(&parts, at, value),
-        Head::Loop(again) => Ok((Some(Head::Last), focus_on(again)?)),
-        Head::Last => Ok((None, Focus::Value(value))),
-        Head::Inside(_) => Ok((None, Focus::Value(value))),
+        Head::Part(form, _) => put_second(form.get(), value, heads, hand),
+        Head::Do(parts, at) => put_next(&parts, at, value, heads, hand),
+        Head::Loop(again) => put_again(again, heads, hand),
+        Head::Last => hand.hold_value(value),
+        Head::Inside(_) => hand.hold_value(value),
     }
 }
 
-/// What is put for the value of the first part of a form.
-fn after_first(form: &Expr, value: Val) -> Result<(Option<Head>, Focus), NoMemory>
-    requires { IsDo (out-Expr form.now) }
-    ensures { IfOk result (λ p. (vs : List Val) → IsPut (λ a. local_row (around (out-Expr form.now) vs (Done value))) p) }
+/// Puts a loop for a turn of it that is over.
+fn put_again(again: Source, heads: &mut Vec<Head>, hand: &mut Hand) -> Result<(), NoMemory>
+    requires { hand.old.form ≡ None }
+    ensures { OnOk result ((v : Value) → IsPutOn (λ a. local_row (Do (more (Done v) (more (whole again) none)))) heads.old.items hand.old heads.new.items hand.new) }
+{
+    hand.hold_source(again)?;
+    heads.push(Head::Last)?;
+    Ok(())
+}
+
+/// Puts what stands for the value of the first part of a form.
+fn put_second(
+    form: &Expr,
+    value: Val,
+    heads: &mut Vec<Head>,
+    hand: &mut Hand,
+) -> Result<(), NoMemory>
+    requires form { IsDo (out-Expr form.now) }
+    requires free { hand.old.form ≡ None }
+    ensures { OnOk result ((vs : List Value) → IsPutOn (λ a. local_row (around (out-Expr form.now) vs (Done value))) heads.old.items hand.old heads.new.items hand.new) }
 {
     match form {
-        Expr::Do(parts) => after_part(parts, 1, value),
-        _ => Ok((None, Focus::Value(value))),
+        Expr::Do(parts) => put_next(parts, 1, value, heads, hand),
+        _ => hand.hold_value(value),
     }
 }
 
-/// What is put for the value of a part of a `do`, where the next is at a place.
-fn after_part(parts: &Exprs, at: usize, value: Val) -> Result<(Option<Head>, Focus), NoMemory>
-    ensures { IfOk result (IsPut (λ a. local_row (Do (more (Done value) (wholes (drop at parts.now)))))) }
+/// Puts the part of a `do` at a place for the one before, which is a value; past the last, the value.
+fn put_next(
+    parts: &Exprs,
+    at: usize,
+    value: Val,
+    heads: &mut Vec<Head>,
+    hand: &mut Hand,
+) -> Result<(), NoMemory>
+    requires { hand.old.form ≡ None }
+    ensures { OnOk result (IsPutOn (λ a. local_row (Do (more (Done value) (wholes (drop at parts.now))))) heads.old.items hand.old heads.new.items hand.new) }
 {
-    match focus_on_item(parts, at)? {
-        None => Ok((None, Focus::Value(value))),
-        Some(next) => {
-            let frame = rest_of(parts, at)?;
-            Ok((Some(frame), next))
-        }
+    let there = hand.hold_item(parts, at)?;
+    if there {
+        let frame = rest_of(parts, at)?;
+        heads.push(frame)?;
+        Ok(())
+    } else {
+        hand.hold_value(value)
     }
 }
 
@@ -103,50 +141,40 @@ fn rest_of(parts: &Exprs, at: usize) -> Result<Head, NoMemory>
     }
 }
 
-/// What is put for an `if` whose test is evaluated.
-pub fn branch_of(redex: Taken, yes: bool) -> Result<(Option<Head>, Focus), NoMemory>
-    requires { IsTested redex }
-    ensures { IfOk result (λ p. (vs : List Val) → IsPut (λ a. branch yes (taken vs redex a)) p) }
-{
-    match redex {
-        Taken::Form(_) => unreachable!(),
-        Taken::Full(frame, _) => match frame {
-            Head::Part(form, _) => branch_in(form, yes),
-            _ => unreachable!(),
-        },
-    }
-}
-
-/// The same of the form.
-fn branch_in(form: Source, yes: bool) -> Result<(Option<Head>, Focus), NoMemory>
-    requires { IsIf (out-Expr form) }
-    ensures { IfOk result (λ p. (vs : List Val) (v : Val) → IsPut (λ a. branch yes (around (out-Expr form) vs (Done v))) p) }
+/// Puts the branch of an `if`, or of a form that becomes one, whose test is evaluated.
+pub fn put_branch(
+    form: Source,
+    yes: bool,
+    heads: &mut Vec<Head>,
+    hand: &mut Hand,
+) -> Result<(), NoMemory>
+    requires test { IsIf (out-Expr form) }
+    requires free { hand.old.form ≡ None }
+    ensures { OnOk result ((vs : List Value) (v : Value) → IsPutOn (λ a. branch yes (around (out-Expr form) vs (Done v))) heads.old.items hand.old heads.new.items hand.new) }
 {
     match form.get() {
-        Expr::If(_, left, right) => {
-            let part = focus_on_body(if yes { left } else { right })?;
-            Ok((None, part))
-        }
+        Expr::If(_, left, right) => hand.hold_body(if yes { left } else { right }),
         Expr::While(_, body) => {
             if yes {
-                let part = focus_on_body(body)?;
-                Ok((Some(Head::Loop(form)), part))
+                hand.hold_body(body)?;
+                heads.push(Head::Loop(form))?;
+                Ok(())
             } else {
-                Ok((None, Focus::Value(Val::Null)))
+                hand.hold_value(Val::Null)
             }
         }
         Expr::And(_, right) => {
             if yes {
-                Ok((None, focus_on_body(right)?))
+                hand.hold_body(right)
             } else {
-                Ok((None, Focus::Value(Val::Bool(false))))
+                hand.hold_value(Val::Bool(false))
             }
         }
         Expr::Or(_, right) => {
             if yes {
-                Ok((None, Focus::Value(Val::Bool(true))))
+                hand.hold_value(Val::Bool(true))
             } else {
-                Ok((None, focus_on_body(right)?))
+                hand.hold_body(right)
             }
         }
         _ => unreachable!(),

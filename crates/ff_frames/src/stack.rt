@@ -1,5 +1,5 @@
-ghost use Rattle.std.specs.Prelude.{◌≡◌, ◌≤◌, ◌<◌, ◌++◌, ◌∷◌, [], List, None, MatchOption, false, IfOk, OnOk};
-ghost use Rattle.ff_value.specs.declared.ids.ActId.{ActId};
+ghost use Rattle.std.specs.Prelude.{ℕ, ◌≡◌, ◌≤◌, ◌<◌, ◌++◌, ◌∷◌, [], List, None, MatchOption, false, IfOk, OnOk};
+ghost use Rattle.ff_tree.specs.declared.tree.Expr.{out-Expr};
 ghost use Rattle.ff_value.specs.declared.value.Val.{Val as Value};
 ghost use Rattle.ff_value.specs.declared.value.Val.TheVariants as val;
 ghost use Rattle.ff_term.specs.Redexes.{IsRedexOf};
@@ -7,10 +7,11 @@ ghost use Rattle.ff_term.specs.Rows.{IsLocal, IsTest, branch, local_row};
 ghost use Rattle.ff_term.specs.Running.{Apply, none, more, Done, Inside, insides, is_value, redex, rewritten_in};
 ghost use Rattle.ff_term.specs.Whole.{whole};
 ghost use Rattle.ff_frames.specs.declared.frame.Head.{Head};
-ghost use Rattle.ff_frames.specs.Frames.{is_call, shown};
+ghost use Rattle.ff_frames.specs.declared.frame.Head.TheVariants as head;
+ghost use Rattle.ff_frames.specs.Frames.{around, is_call, shown};
 ghost use Rattle.ff_frames.specs.Heads.{IsEmptyHanded, with_values};
 ghost use Rattle.ff_frames.specs.Lent.{named};
-ghost use Rattle.ff_frames.specs.Rewrites.{IsCallFrame, IsNoCall, IsRedex, taken, within};
+ghost use Rattle.ff_frames.specs.Rewrites.{IsCallFrame, IsIf, IsRedex, IsTested, taken};
 ghost use Rattle.ff_frames.specs.Seeking.{IsSettled};
 ghost use Rattle.ff_frames.specs.Stacks.{evaluation, with_part, out_of, IsCounted, IsValid, IsWithoutRedex};
 
@@ -18,7 +19,7 @@ use crate::frame::{Focus, Head, Taken};
 use crate::hand::Hand;
 use crate::operand::focus_on_body;
 use crate::redex::{Redex, read_form, read_frame};
-use crate::row::{branch_of, local_of};
+use crate::row::{put_branch, put_local};
 use crate::seek::seek;
 use crate::source::Source;
 use ff_shared::SharedList;
@@ -45,6 +46,18 @@ fn call_frame(alloc: Global, code: &Code) -> Result<Head, NoMemory>
     let no_args = SharedList::from_vec(alloc, Vec::new(alloc))?;
     let form = Source::made(alloc, Expr::Apply(code.body.copy()?, no_args))?;
     Ok(Head::Part(form, 1))
+}
+
+/// The form of a frame around a test.
+fn form_of(frame: Head) -> Source
+    requires { IsTested frame }
+    ensures is { (n : ℕ) × (frame ≡ head.Part result n) }
+    ensures test { IsIf (out-Expr result) }
+{
+    match frame {
+        Head::Part(form, _) => form,
+        _ => unreachable!(),
+    }
 }
 
 impl Stack {
@@ -148,6 +161,24 @@ impl Stack {
         }
     }
 
+    /// Takes an `if` out whose test is evaluated, or a form that became one; gives the form.
+    fn take_test(&mut self) -> Source
+        requires valid { IsValid self.old }
+        requires open { is_value (evaluation self.old).expr ≡ false }
+        requires test { IsTest (redex (evaluation self.old).expr) }
+        ensures out { IsWithoutRedex self.old self.new }
+        ensures is { (vs : List Value) × (v : Value) × (redex (evaluation self.old).expr ≡ around (out-Expr result) vs (Done v)) }
+        ensures test { IsIf (out-Expr result) }
+    {
+        match self.heads.pop() {
+            None => unreachable!(),
+            Some(head) => {
+                self.hand.drop_values(&head);
+                form_of(head)
+            }
+        }
+    }
+
     /// Takes the redex out, and drops it.
     fn drop_redex(&mut self)
         requires valid { IsValid self.old }
@@ -176,24 +207,6 @@ impl Stack {
     {
         self.hand.hold(part)?;
         seek(&mut self.heads, &mut self.hand)
-    }
-
-    /// The same, perhaps with a frame around the part that is no call and holds no value.
-    fn put(&mut self, frame: Option<Head>, part: Focus) -> Result<(), NoMemory>
-        requires empty { IsEmptyHanded self.old.heads.items self.old.hand }
-        requires counted { IsCounted self.old }
-        requires settled { IsSettled part }
-        requires no_call { IsNoCall frame }
-        ensures same { OnOk result ((a : ActId) → evaluation self.new ≡ with_part self.old (within frame a (shown part))) }
-        ensures valid { OnOk result (IsValid self.new) }
-    {
-        match frame {
-            None => self.walk_from(part),
-            Some(head) => {
-                self.heads.push(head)?;
-                self.walk_from(part)
-            }
-        }
     }
 
     /// Puts a call that runs in an activation of its own for the redex.
@@ -232,8 +245,8 @@ impl Stack {
         ensures valid { OnOk result (IsValid self.new) }
     {
         let redex = self.take_redex();
-        let (frame, part) = local_of(redex)?;
-        self.put(frame, part)
+        put_local(redex, &mut self.heads, &mut self.hand)?;
+        seek(&mut self.heads, &mut self.hand)
     }
 
     /// Takes a branch of an `if` whose test is evaluated.
@@ -244,9 +257,9 @@ impl Stack {
         ensures rewrites { OnOk result (evaluation self.new ≡ rewritten_in (λ _. branch yes (redex (evaluation self.old).expr)) (evaluation self.old)) }
         ensures valid { OnOk result (IsValid self.new) }
     {
-        let redex = self.take_redex();
-        let (frame, part) = branch_of(redex, yes)?;
-        self.put(frame, part)
+        let form = self.take_test();
+        put_branch(form, yes, &mut self.heads, &mut self.hand)?;
+        seek(&mut self.heads, &mut self.hand)
     }
 
     /// The innermost frame, or `None` where nothing stands around the part at hand.
