@@ -42,6 +42,7 @@ pub(crate) fn digits_of(name: &Name) -> u32
 }
 
 /// Where the search for an activation's variable ends.
+#[inline(always)]
 pub(crate) fn search(
     acts: &CowVec<ActCell>,
     vars: &CowVec<VarCell>,

@@ -103,7 +103,7 @@ impl Browser {
         match self.parts.begin(input, outs, copies) {
             Ok(()) => Ok(()),
             Err(refused) => {
-                self.parts = Parts::new(self.parts.alloc, budget);
+                self.parts.reset(budget);
                 Err(refused)
             }
         }
@@ -134,7 +134,7 @@ impl Browser {
         match self.parts.turn(outs, copies) {
             Ok(()) => Ok(()),
             Err(refused) => {
-                self.parts = Parts::new(self.parts.alloc, budget);
+                self.parts.reset(budget);
                 Err(refused)
             }
         }

@@ -51,6 +51,15 @@ impl Parts {
         }
     }
 
+    /// All that was made is dropped, and nothing is left to do.
+    #[cold]
+    #[inline(never)]
+    pub(crate) fn reset(&mut self, budget: u32)
+        ensures { self.new ≡ state.empty budget }
+    {
+        *self = Parts::new(self.alloc, budget);
+    }
+
     /// An equal state: no cell of the stores is copied.
     pub(crate) fn fork<C: Ledger>(&self, copies: &mut Steps<C>) -> Result<Parts, NoMemory>
         ensures equal { IfOk result (λ fork. fork ≡ self.now) }

@@ -1,5 +1,5 @@
 //! One turn of a browser that isn't quiet.
-ghost use Rattle.std.specs.Prelude.{◌≡◌, ◌+◌, ◌-◌, ◌<◌, ◌≤◌, ◌↔◌, List, [], All, IsTrue, None};
+ghost use Rattle.std.specs.Prelude.{◌≡◌, ◌+◌, ◌-◌, ◌<◌, ◌≤◌, ◌↔◌, List, [], All, IsTrue, None, drop};
 ghost use Rattle.ff_machine.specs.Answers.{Makes};
 ghost use Rattle.ff_machine.specs.State as state;
 ghost use Rattle.ff_machine.specs.Stores as stores;
@@ -50,6 +50,7 @@ impl Parts {
     }
 
     /// What was changed is shown, no fuel is left, and the browser is quiet.
+    #[inline(never)]
     fn settle(&mut self, outs: &mut Vec<Out>) -> Result<(), NoMemory>
         ensures { Makes self.old self.new outs.old.items outs.new.items (turns.settle self.old) result }
     {
@@ -75,6 +76,7 @@ impl Parts {
     }
 
     /// All tasks are dropped, and then the browser settles.
+    #[inline(never)]
     fn stop(&mut self, outs: &mut Vec<Out>) -> Result<(), NoMemory>
         ensures { Makes self.old self.new outs.old.items outs.new.items (turns.stop self.old) result }
     {
@@ -97,7 +99,7 @@ impl Parts {
         match self.tasks.front_mut() {
             Some(task) => {
                 if !task.work(self.alloc, &mut self.stores, outs, copies)? {
-                    self.tasks.pop_front();
+                    self.drop_first();
                 }
                 Ok(())
             }
@@ -105,8 +107,17 @@ impl Parts {
         }
     }
 
+    /// The first task is dropped.
+    #[inline(never)]
+    fn drop_first(&mut self)
+        ensures { self.new ≡ record self.old { tasks = drop 1 self.old.tasks } }
+    {
+        self.tasks.pop_front();
+    }
+
     /// Where there is no task, the first script that may run, if there is one, is taken out of its
     /// queue and is the one task.
+    #[inline(never)]
     fn begin_script<C: Ledger>(&mut self, copies: &mut Steps<C>) -> Result<(), NoMemory>
         requires { self.old.tasks ≡ [] }
         ensures step { (puts : List Out) → Makes self.old self.new puts puts (state.given self.old (stores.take_ready self.old.stores) (turns.begin_script self.old)) result }

@@ -14,10 +14,6 @@ some_cell (cell ∷ cells) (suc i) within after = some_cell cells i (omega arith
 pub edited_at-cell : {V : Type 0} (f : V → V) (cells : List V) (i : ℕ) (cell : V) → slice_get cells i ≡ Some cell → edited_at f i cells ≡ set cells i (f cell)
 edited_at-cell f cells i cell is = ap (edited_cell f i cells) is
 
--- a change into one value is a write of it
-pub edited_at-put : {V : Type 0} (value : V) (cells : List V) (i : ℕ) → i < length cells → edited_at (λ _. value) i cells ≡ set cells i value
-edited_at-put value cells i within = some_cell cells i within (λ cell is. edited_at-cell (λ _. value) cells i cell is)
-
 -- no place is lost and none is new
 pub length-edited : {V : Type 0} (f : V → V) (cells : List V) (i : ℕ) → i < length cells → length (edited_at f i cells) ≡ length cells
 length-edited f cells i within =

@@ -1,4 +1,5 @@
 mod Packed
 mod Places
 mod Edits
+mod Roots
 mod Shared

@@ -1,5 +1,5 @@
 // A higher layer: up to sixteen nodes of the layer below, each of which other lists may share.
-ghost use Rattle.std.specs.Prelude.{◌≡◌, ◌+◌, ◌*◌, ◌/◌, ◌<◌, ◌≤◌, [], ◌∷◌, ◌++◌, map, length, IfErr, OnOk, OnErr};
+ghost use Rattle.std.specs.Prelude.{◌≡◌, ◌+◌, ◌*◌, ◌/◌, ◌<◌, ◌≤◌, [], ◌∷◌, ◌++◌, map, length, IfErr, IfOk, OnOk, OnErr};
 ghost use Rattle.std.specs.Rc.{rc_value};
 ghost use Rattle.std.proofs.Common.{arith};
 ghost use Rattle.ff_cow.specs.Nodes.{cells_of, AreNodes};
@@ -17,6 +17,22 @@ use std::sync::ledger::Ledger;
 #[derive(Drop)]
 pub(crate) struct Branch<T> {
     kids: Vec<Rc<T>>,
+}
+
+impl<T> Branch<T> {
+    // A node above one node.
+    pub(crate) fn above<V>(alloc: Global, kid: T) -> Result<Branch<T>, NoMemory>
+    where
+        T: Layer<V> + Drop,
+        requires valid { T.is_valid kid }
+        requires fits { length (T.cells kid) ≤ T.capacity }
+        ensures cells { IfOk result (λ node. branch_cells T.cells node ≡ T.cells kid) }
+        ensures valid { IfOk result (λ node. IsBranch T.capacity T.cells T.is_valid node) }
+    {
+        let mut kids = Vec::new(alloc);
+        kids.push(Rc::new(alloc, kid)?)?;
+        Ok(Branch { kids })
+    }
 }
 
 impl<V, T: Layer<V>> Layer<V> for Branch<T> {

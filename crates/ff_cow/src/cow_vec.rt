@@ -3,11 +3,10 @@ ghost use Rattle.std.specs.Prelude.{◌≡◌, ◌+◌, ◌<◌, ◌≤◌, ◌�
 ghost use Rattle.std.specs.Option.{option_copied};
 ghost use Rattle.ff_cow.specs.Push.{returned, is_full};
 
-use crate::branch::Branch;
 use crate::cell::{Cell, NoMemory};
 use crate::edit::{Edit, Put};
 use crate::layer::{Layer, Writable};
-use crate::leaf::Leaf;
+use crate::root::Root;
 use ff_steps::Steps;
 use std::alloc::Global;
 use std::marker::Model;
@@ -30,7 +29,7 @@ pub enum PushFail<V> {
 pub struct CowVec<V> {
     alloc: Global,
     count: u32,
-    root: Branch<Branch<Branch<Branch<Leaf<V>>>>>,
+    root: Root<V>,
 }
 
 impl<V> Model for CowVec<V> {
@@ -41,12 +40,12 @@ impl<V> Model for CowVec<V> {
 
     ghost coded = { coded_list V.code };
 
-    ghost use Rattle.ff_cow.specs.Tower.{tower_cells, IsTower};
+    ghost use Rattle.ff_cow.specs.Tower.{root_cells, IsRoot};
     ghost use Rattle.ff_cow.specs.declared.cow_vec.TheConstants.{MOST_CELLS};
 
-    ghost view = { λ a. tower_cells a.root };
+    ghost view = { λ a. root_cells a.root };
 
-    ghost invariant = { λ a. IsTower a.root × (a.count ≡ length (tower_cells a.root)) × (a.count ≤ MOST_CELLS) };
+    ghost invariant = { λ a. IsRoot a.root × (a.count ≡ length (root_cells a.root)) × (a.count ≤ MOST_CELLS) };
 }
 
 impl<V> CowVec<V> {
@@ -57,7 +56,7 @@ impl<V> CowVec<V> {
         CowVec {
             alloc,
             count: 0,
-            root: Branch::empty(alloc),
+            root: Root::empty(alloc),
         }
     }
 

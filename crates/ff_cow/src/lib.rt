@@ -1,7 +1,8 @@
 //! A list that is shared between forks, and copied only where one of them writes.
 //!
-//! A [`CowVec`] is a list in contracts. It is held as a tree of `Rc` nodes, sixteen to a node and
-//! five layers high, so it has at most [`MOST_CELLS`] cells. A fork shares the nodes with the list
+//! A [`CowVec`] is a list in contracts. It is held as a tree of `Rc` nodes, sixteen to a node: two
+//! layers high while it has no more than 256 cells, and then five, so it has at most [`MOST_CELLS`]
+//! cells. A fork shares the nodes with the list
 //! that it came from: it copies no cell. A write copies only the shared nodes between the root and
 //! its cell, and with them the cells of at most one leaf. A counter of type `Steps` says how many
 //! cells were copied.
@@ -9,7 +10,8 @@
 //! A cell is written where it lies: an [`Edit`] goes down to it and changes what it has to, so that
 //! what stays the same is neither copied nor moved. To put a whole cell is one such edit.
 //!
-//! A read or a write goes down one node of each layer: the root, three branches and a leaf. After a
+//! A read or a write goes down one node of each layer: the root and a leaf, and in a long list three
+//! branches between. After a
 //! shared node was copied it has one owner, which no clause of `Rc` can tell: the arm for a second
 //! owner does not come, and answers want of memory.
 //!
@@ -23,6 +25,7 @@ mod cow_vec;
 mod edit;
 mod layer;
 mod leaf;
+mod root;
 
 pub use cell::{Cell, NoMemory};
 pub use cow_vec::{CowVec, MOST_CELLS, PushFail};

@@ -1,13 +1,18 @@
 -- Frames whose values lie behind one another, and the part at hand behind them.
 use Rattle.std.proofs.Common.{◌≡◌, ◌+◌, ◌≤◌, ◌++◌, ◌∷◌, ℕ, suc, List, [], length, take, drop, Option, Some, None, refl, sym, ap, ◌∙◌, arith}
 use Rattle.std.proofs.lemmas.List.{append-nil, drop_at, drop-append-le, length-drop, length-take-le, take-append-drop, take-append-le, take_all}
-use Rattle.ff_tree.specs.declared.tree.Expr.{Expr}
+use Rattle.std.specs.List.{AllByRecursion}
+use Rattle.ff_tree.specs.declared.tree.Doc.{Doc}
+use Rattle.ff_tree.specs.declared.tree.Expr.{Expr, out-Expr}
+use Rattle.ff_tree.specs.declared.tree.Handler.{Handler}
+use Rattle.ff_tree.specs.declared.tree.Doc.TheOpen.{Expr-F}
 use Rattle.ff_value.specs.declared.value.Val.{Val}
 use Rattle.ff_frames.specs.declared.frame.Focus.{Focus}
 use Rattle.ff_frames.specs.declared.frame.Focus.TheVariants as focus
 use Rattle.ff_frames.specs.declared.frame.Head.{Head}
+use Rattle.ff_frames.specs.declared.frame.Head.TheVariants as head
 use Rattle.ff_frames.specs.declared.hand.Hand.{Hand}
-use Rattle.ff_frames.specs.Heads.{IsEmptyHanded, IsHolding, IsLaid, all_held, at_hand, behind, focus_of, form_in, frames, frames_of, held, value_in, with_values}
+use Rattle.ff_frames.specs.Heads.{IsEmptyHanded, IsFew, IsFit, IsHolding, IsLaid, all_held, at_hand, behind, focus_of, form_in, frames, frames_of, held, value_in, with_values}
 
 -- ---- frames and their values
 
@@ -50,6 +55,31 @@ parted vs m n h = record {
   in_front = length-take-le m vs (omega (arith, h));
   in_back = length-drop m vs ∙ omega (arith, h);
 }
+
+-- ---- frames that hold no value but where it is an operand of a call or an operator
+
+few-none : (l : Expr-F Doc Expr Handler) → IsFew l 0
+few-none (Expr-F.Apply e es) = tt
+few-none (Expr-F.Prim op es) = tt
+few-none _ = refl
+
+-- a frame that holds none is fit
+pub fit-none : (f : Head) → held f ≡ 0 → IsFit f
+fit-none (head.Part e n) h = rw h (few-none (out-Expr e))
+fit-none (head.Do es n) h = tt
+fit-none (head.Loop e) h = tt
+fit-none head.Last h = tt
+fit-none (head.Inside a) h = tt
+
+-- a fit frame more
+pub fit-snoc : (hs : List Head) (f : Head) → AllByRecursion IsFit hs → IsFit f → AllByRecursion IsFit (hs ++ f ∷ [])
+fit-snoc [] f all is = (is, tt)
+fit-snoc (h ∷ hs) f all is = (all.0, fit-snoc hs f all.1 is)
+
+-- the others and the last are
+pub fit-last : (hs : List Head) (f : Head) → AllByRecursion IsFit (hs ++ f ∷ []) → AllByRecursion IsFit hs × IsFit f
+fit-last [] f all = (tt, all.0)
+fit-last (h ∷ hs) f all = let r = fit-last hs f all.1 in ((all.0, r.0), r.1)
 
 -- ---- heads and a hand
 

@@ -1,5 +1,5 @@
 -- What is put at hand, and the value that is there.
-use Rattle.std.proofs.Common.{◌≡◌, ◌∷◌, ◌-◌, suc, List, [], length, refl, ap, true, arith, Option, Some, slice_get}
+use Rattle.std.proofs.Common.{◌≡◌, ◌<◌, ◌++◌, ◌∷◌, ◌-◌, ℕ, zero, suc, Bool, List, [], length, refl, ap, true, arith, Option, Some, slice_get}
 use Rattle.std.proofs.lemmas.List.{append-nil}
 use Rattle.ff_tree.specs.declared.tree.Expr.{Expr, out-Expr}
 use Rattle.ff_value.specs.declared.value.Val.{Val}
@@ -9,7 +9,7 @@ use Rattle.ff_frames.specs.declared.frame.Focus.TheVariants as focus
 use Rattle.ff_frames.specs.declared.hand.Hand.{Hand}
 use Rattle.ff_frames.specs.Heads.{IsHolding, last_or}
 use Rattle.ff_frames.specs.Loads.{inner}
-use Rattle.ff_frames.specs.Seeking.{IsHeld, IsOpen, Shows}
+use Rattle.ff_frames.specs.Seeking.{IsHeld, IsHeldFor, IsOpen, Shows}
 
 -- the value at the last place is the last
 pub last-read : (vs : List Val) (v w : Val) → Some w ≡ slice_get vs (length vs - 1) → w ≡ last_or v vs
@@ -34,3 +34,12 @@ holds-Part vs s k h f = record { values = rw append-nil h; form = f }
 -- an expression that is there is at hand
 pub held-shown : (o : Option Expr) (e : Expr) (x : Focus) (h k : Hand) → Some e ≡ o → Shows e x → IsHolding h.values.items x k → IsHeld o h true k
 held-shown o e x h k p s i = rw (← p) (refl, (x, s, i))
+
+-- an expression of a list is put at hand for the last values, which were dropped
+pub held-for : (es : List Expr) (n count : ℕ) (h j k : Hand) (there : Bool) → n < length es
+    → ((kept last : List Val) → h.values.items ≡ kept ++ last → length last ≡ count → j.values.items ≡ kept)
+    → IsHeld (slice_get es n) j there k → (e : Expr) × (slice_get es n ≡ Some e) × IsHeldFor count e h k
+held-for [] n count h j k there less dropped is = absurd (omega (arith, less))
+held-for (e ∷ es) zero count h j k there less dropped is =
+    (e, refl, λ kept last values many. let s = is.1 in (s.0, s.1, rw (dropped kept last values many) at s.2))
+held-for (e ∷ es) (suc n) count h j k there less dropped is = held-for es n count h j k there (omega (arith, less)) dropped is

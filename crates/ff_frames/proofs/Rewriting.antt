@@ -1,6 +1,7 @@
 -- A stack with its redex rewritten.
 use Rattle.std.proofs.Common.{ℕ, ◌-◌, ◌≡◌, ◌≤◌, ◌<◌, ◌+◌, ◌++◌, ◌∷◌, ◌⊎◌, inl, inr, List, [], Option, None, Some, Result, Ok, Err, OnOk, MatchOption, Bor, false, true, length, drop, refl, sym, ap, ◌∙◌, arith}
 use Rattle.std.proofs.lemmas.List.{append-nil, append_assoc, length-append}
+use Rattle.std.specs.List.{AllByRecursion}
 use Rattle.std.specs.Option.{option_copied}
 use Rattle.ff_tree.specs.declared.tree.Expr.{Expr, out-Expr}
 use Rattle.ff_tree.specs.declared.tree.Doc.{Doc}
@@ -12,7 +13,7 @@ use Rattle.ff_value.specs.declared.value.Val.{Val}
 use Rattle.ff_value.specs.declared.value.Val.TheVariants as val
 use Rattle.ff_term.specs.declared.TheConstants.{MOST_CALLS}
 use Rattle.ff_term.specs.Calls.{calls_around}
-use Rattle.ff_term.specs.Rows.{IsLocal, IsTest}
+use Rattle.ff_term.specs.Rows.{IsLocal, IsTest, local_row}
 use Rattle.ff_term.specs.Running.{Running, Apply, Done, Inside, none, more, Evaluation, insides, innermost, is_value, redex, rewritten_in}
 use Rattle.ff_term.specs.Whole.{whole, layer}
 use Rattle.ff_term.proofs.Calls.{whole-around}
@@ -25,16 +26,15 @@ use Rattle.ff_frames.specs.declared.frame.Focus.{Focus}
 use Rattle.ff_frames.specs.declared.frame.Focus.TheVariants as focus
 use Rattle.ff_frames.specs.declared.frame.Head.{Head}
 use Rattle.ff_frames.specs.declared.frame.Head.TheVariants as head
-use Rattle.ff_frames.specs.declared.frame.Taken.{Taken}
-use Rattle.ff_frames.specs.declared.frame.Taken.TheVariants as taken_out
 use Rattle.ff_frames.specs.declared.hand.Hand.{Hand}
 use Rattle.ff_frames.specs.declared.stack.Stack.{Stack}
+use Rattle.ff_frames.specs.Bindings.{IsBinding, bound}
 use Rattle.ff_frames.specs.Frames.{around, wrap, outside, base_of, plug, shown, is_call, calls}
-use Rattle.ff_frames.specs.Heads.{IsCleared, IsEmptyHanded, IsHolding, IsLaid, all_held, at_hand, focus_of, frames, frames_of, held, last_or, value_of, with_values}
-use Rattle.ff_frames.specs.Rewrites.{IsDo, IsIf, IsCallFrame, IsLocalOut, IsNoCall, IsPutOn, IsTested, taken, with_frame, within}
+use Rattle.ff_frames.specs.Heads.{IsCleared, IsEmptyHanded, IsFew, IsFit, IsHolding, IsLaid, IsTopBare, all_held, focus_of, frames, frames_of, held, last_or, value_of, with_values}
+use Rattle.ff_frames.specs.Rewrites.{IsDo, IsEnding, IsIf, IsCallFrame, IsNoCall, IsPutOn, IsTested, IsTurned, with_frame, within}
 use Rattle.ff_frames.specs.Seeking.{IsFull, IsRow, IsSettled, IsThere, IsTopFull}
-use Rattle.ff_frames.specs.Stacks.{frames_in, focus_in, with_part, evaluation, out_of, IsCounted, IsValid, IsWithoutRedex}
-use Rattle.ff_frames.proofs.Heads.{Holds, all_held-snoc, empty-holds, frames-snoc, holds-at, holds-frames, holds-laid}
+use Rattle.ff_frames.specs.Stacks.{frames_in, focus_in, in_frames, with_part, evaluation, out_of, IsCounted, IsReady, IsRewritten, IsValid, IsWithoutRedex}
+use Rattle.ff_frames.proofs.Heads.{Holds, all_held-snoc, fit-last, fit-none, fit-snoc, frames-snoc, holds-at, holds-frames, holds-laid}
 use Rattle.ff_frames.proofs.Plugs.{plug_value, wrap_value, base-snoc, plug-snoc, calls-snoc, plug_insides, plug_innermost, plug_around}
 use Rattle.ff_frames.proofs.Taking.{form-open, form-rewritten, form-redex, frame-base, frame-full, frame-calls, frame-rewritten, frame-redex}
 use Rattle.ff_frames.proofs.Walk.{Topped, topped, enough-held}
@@ -63,6 +63,7 @@ form-gone s t e h heads hand act depth v =
     record {
       rewrites = λ x. rw (h, heads, hand, act) (both _ _ _ _ refl (sym (form-rewritten (λ _. x) (frames_in s) s.act e row)));
       empty = record { form = rw hand refl; count = rw (heads, hand) (laid-form s e h v) };
+      fit = rw heads v.fit;
       counted = record { depth = rw (heads, hand, depth) v.counted.depth; small = rw depth v.counted.small };
       no_deeper = rw depth (omega arith);
     }
@@ -72,6 +73,13 @@ pub form-is : (s : Stack) (e : Expr) → s.hand.form ≡ Some e → IsValid s �
 form-is s e h v = rw h (form-redex (frames_in s) s.act e (row-of s e (focus-form s e h) v))
 
 -- ---- the innermost frame
+
+-- frames and their values, and how many calls they are
+pub record Around (hs : List Head) (vs : List Val) (d : ℕ) : Type 0 where
+  pub count : length vs ≡ all_held hs
+  pub fit : AllByRecursion IsFit hs
+  pub depth : d ≡ calls (frames_of hs vs)
+  pub small : d ≤ MOST_CALLS
 
 laid-frame : (s : Stack) (rest : List Head) (f : Head) → s.heads.items ≡ rest ++ f ∷ [] → IsValid s → IsLaid s.heads.items s.hand
 laid-frame s rest f was v = by v.laid where
@@ -115,19 +123,29 @@ module _ (s : Stack) (rest : List Head) (f : Head) (top : Topped s.heads.items r
       let p = frame-calls (frames_in s) (frames_of rest top.below) (with_values f top.own) top.framed in
       let q = v.counted.depth in let r = call-bare f top.own in omega arith
 
-  -- a frame that a value completes is taken off
-  pub frame-gone : (u t : Stack) → u.heads.items ≡ rest → u.hand.values.items ≡ top.below → u.hand.form ≡ None
-      → u.act ≡ s.act → u.depth ≡ s.depth → t ≡ out_of f u → IsWithoutRedex s t
-  frame-gone u t heads values form act depth is =
+  -- the frames around it with their values
+  pub frame-around : s.heads.items ≡ rest ++ f ∷ [] → Around rest top.below (s.depth - is_call (with_values f []))
+  frame-around was =
+      let p = frame-calls (frames_in s) (frames_of rest top.below) (with_values f top.own) top.framed in
+      let q = v.counted.depth in let r = v.counted.small in let o = call-bare f top.own in
+      record { count = top.under; fit = (fit-last rest f (rw was at v.fit)).0; depth = omega arith; small = omega arith }
+
+  -- what is put in them is rewritten where it stands
+  pub frame-rewrites : (x : Running) → in_frames (frames_of rest top.below) (outside (with_values f []) s.act) x ≡ rewritten_in (λ _. x) (evaluation s)
+  frame-rewrites x =
       let fs = frames_in s in let gs = frames_of rest top.below in let g = with_values f top.own in
-      let p = frame-calls fs gs g top.framed in let q = v.counted.depth in let r = v.counted.small in
-      let o = call-bare f top.own in
+      rw (top.focused, ← outside-bare f top.own s.act) (both _ _ _ _ (frame-base fs gs g top.framed s.act) (sym (frame-rewritten fs gs g top.framed (λ _. x) s.act top.value full-of)))
+
+  -- a frame that a value completes is taken off
+  pub frame-gone : s.heads.items ≡ rest ++ f ∷ [] → (u t : Stack) → u.heads.items ≡ rest → u.hand.values.items ≡ top.below → u.hand.form ≡ None
+      → u.act ≡ s.act → u.depth ≡ s.depth → t ≡ out_of f u → IsWithoutRedex s t
+  frame-gone was u t heads values form act depth is =
+      let around = frame-around was in
       rw is (record {
-        rewrites = λ x. rw (top.focused, act, heads, values, ← outside-bare f top.own s.act) (both _ _ _ _
-            (frame-base fs gs g top.framed s.act)
-            (sym (frame-rewritten fs gs g top.framed (λ _. x) s.act top.value full-of)));
-        empty = record { form = form; count = rw (heads, values) top.under };
-        counted = record { depth = rw (depth, heads, values) (omega arith); small = rw depth (omega arith) };
+        rewrites = λ x. rw (act, heads, values) (frame-rewrites x);
+        empty = record { form = form; count = rw (heads, values) around.count };
+        fit = rw heads around.fit;
+        counted = record { depth = rw (depth, heads, values) around.depth; small = rw depth around.small };
         no_deeper = rw depth (omega arith);
       })
 
@@ -224,12 +242,11 @@ active s = sym (plug_innermost (frames_in s) s.act (shown (focus_in s)) ∙ show
 -- ---- a frame around what is put for the redex
 
 -- what is put stands in a frame more
-pub pushed : (t u : Stack) (f : Frame) (x : Running) → frames_in u ≡ frames_in t ++ f ∷ [] → outside f u.act ≡ t.act
-    → with_part u x ≡ with_part t (wrap f u.act x)
-pushed t u f x is act =
+in-pushed : (fs gs : List Frame) (f : Frame) (a b : ActId) (x : Running) → gs ≡ fs ++ f ∷ [] → outside f b ≡ a → in_frames gs b x ≡ in_frames fs a (wrap f b x)
+in-pushed fs gs f a b x is act =
     both _ _ _ _
-    (rw is (base-snoc (frames_in t) f u.act) ∙ ap (base_of (frames_in t)) act)
-    (rw is (plug-snoc (frames_in t) f u.act x) ∙ ap (λ a. plug (frames_in t) a (wrap f u.act x)) act)
+    (rw is (base-snoc fs f b) ∙ ap (base_of fs) act)
+    (rw is (plug-snoc fs f b x) ∙ ap (λ c. plug fs c (wrap f b x)) act)
 
 -- whose call is counted
 pub pushed-calls : (t u : Stack) (f : Frame) → IsCounted t → frames_in u ≡ frames_in t ++ f ∷ [] → calls (frames_in u) ≡ t.depth + is_call f
@@ -238,18 +255,6 @@ pushed-calls t u f c is = let p = calls-snoc (frames_in t) f in let q = c.depth 
 outside-none : (f : Frame) (a : ActId) → is_call f ≡ 0 → outside f a ≡ a
 outside-none (frame.Inside b) a h = absurd (omega arith)
 outside-none _ a h = refl
-
-wrap-none : (f : Frame) (a b : ActId) (x : Running) → is_call f ≡ 0 → wrap f a x ≡ wrap f b x
-wrap-none (frame.Inside c) a b x h = absurd (omega arith)
-wrap-none (frame.Part e vs) a b x h = refl
-wrap-none (frame.Do es n) a b x h = refl
-wrap-none (frame.Loop e) a b x h = refl
-wrap-none frame.Last a b x h = refl
-
--- a frame that is no call
-pub framed-counted : (t u : Stack) (f : Frame) → is_call f ≡ 0 → IsCounted t → frames_in u ≡ frames_in t ++ f ∷ [] → u.depth ≡ t.depth → IsCounted u
-framed-counted t u f p c is depth =
-    let q = pushed-calls t u f c is in let r = c.small in record { depth = omega arith; small = omega arith }
 
 -- a call
 pub called-counted : (s t u : Stack) (b : ActId) → IsValid s → IsWithoutRedex s t → insides (evaluation s).expr < MOST_CALLS
@@ -261,7 +266,7 @@ called-counted s t u b v o less is depth =
 -- what is put, in a call
 pub called : (s t u v : Stack) (x y : Running) → IsWithoutRedex s t → frames_in u ≡ frames_in t ++ frame.Inside t.act ∷ []
     → x ≡ y → evaluation v ≡ with_part u x → evaluation v ≡ rewritten_in (λ _. Inside u.act y) (evaluation s)
-called s t u v x y o is same e = e ∙ ap (with_part u) same ∙ pushed t u (frame.Inside t.act) y is refl ∙ o.rewrites (Inside u.act y)
+called s t u v x y o is same e = e ∙ ap (with_part u) same ∙ in-pushed (frames_in t) (frames_in u) (frame.Inside t.act) t.act u.act y is refl ∙ o.rewrites (Inside u.act y)
 
 -- a call with its one argument
 pub one-call : (s t : Stack) (f : Head) (code : Code) (v : Val) → IsCallFrame code f → t.heads.items ≡ f ∷ [] → t.hand.values.items ≡ val.Code code ∷ []
@@ -332,18 +337,35 @@ local-do (Expr-F.Make xs e) vs v h = tt
 local-do (Expr-F.Tree d) vs v h = tt
 local-do _ vs v h = absurd h
 
--- the same of a redex
-pub local-out : (r : Taken) (vs : List Val) (a : ActId) → IsLocal (taken vs r a) → IsLocalOut r
-local-out (taken_out.Form e) vs a h = h
-local-out (taken_out.Full (head.Part e n) v) vs a h = local-do (out-Expr e) vs v h
-local-out (taken_out.Full _ v) vs a h = tt
+-- so is its frame
+pub local-ending : (f : Head) (vs : List Val) (a : ActId) (v : Val) → IsLocal (wrap (with_values f vs) a (Done v)) → IsEnding f
+local-ending (head.Part e n) vs a v h = local-do (out-Expr e) vs v h
+local-ending (head.Do es n) vs a v h = tt
+local-ending (head.Loop e) vs a v h = tt
+local-ending head.Last vs a v h = tt
+local-ending (head.Inside b) vs a v h = tt
+
+few-do : (l : Expr-F Doc Expr Handler) (n : ℕ) → IsDo l → IsFew l n → n ≡ 0
+few-do (Expr-F.Apply e es) n d h = absurd d
+few-do (Expr-F.Prim op es) n d h = absurd d
+few-do _ n d h = h
+
+-- it holds no value
+pub ending-bare : (f : Head) → IsEnding f → IsFit f → held f ≡ 0
+ending-bare (head.Part e n) is fit = few-do (out-Expr e) n is fit
+ending-bare (head.Do es n) is fit = refl
+ending-bare (head.Loop e) is fit = refl
+ending-bare head.Last is fit = refl
+ending-bare (head.Inside a) is fit = refl
 
 -- ---- what is put
 
 -- a frame that holds no value stands inside of the others
+framed-more : (hs : List Head) (vs : List Val) (g : Head) → length vs ≡ all_held hs → held g ≡ 0 → frames_of (hs ++ g ∷ []) vs ≡ frames_of hs vs ++ with_values g [] ∷ []
+framed-more hs vs g count bare = ap (frames_of (hs ++ g ∷ [])) (sym (append-nil vs)) ∙ frames-snoc hs g vs [] count (sym bare)
+
 pub frames-pushed : (hs gs : List Head) (h : Hand) (g : Head) → IsEmptyHanded hs h → held g ≡ 0 → gs ≡ hs ++ g ∷ [] → frames gs h ≡ frames hs h ++ with_values g [] ∷ []
-frames-pushed hs gs h g empty zero_held is =
-    rw is (ap (frames_of (hs ++ g ∷ [])) (sym (append-nil h.values.items)) ∙ frames-snoc hs g h.values.items [] empty.count (sym zero_held))
+frames-pushed hs gs h g empty zero_held is = rw is (framed-more hs h.values.items g empty.count zero_held)
 
 -- and nothing is at hand still
 pub empty-pushed : (hs gs : List Head) (h : Hand) (g : Head) → IsEmptyHanded hs h → held g ≡ 0 → gs ≡ hs ++ g ∷ [] → IsEmptyHanded gs h
@@ -352,89 +374,193 @@ empty-pushed hs gs h g empty zero_held is = record {
   count = rw is (empty.count ∙ (let p = all_held-snoc hs g in omega (arith, p, zero_held)));
 }
 
--- the walk from what was put at hand
-module _ (s t : Stack) (h : Hand) (x : Focus) (empty : IsEmptyHanded s.heads.items s.hand) (holding : IsHolding s.hand.values.items x h) where
-  walk-at : at_hand s.heads.items h ≡ x
-  walk-at = holds-at s.heads.items h s.hand.values.items x (empty-holds s.heads.items s.hand h x empty holding)
-
-  walk-frames : frames s.heads.items h ≡ frames_in s
-  walk-frames = holds-frames s.heads.items h s.hand.values.items x (empty-holds s.heads.items s.hand h x empty holding)
-
-  pub walked : t.act ≡ s.act → IsThere (frames s.heads.items h) (shown (at_hand s.heads.items h)) (frames_in t) (focus_in t) → evaluation t ≡ with_part s (shown x)
-  walked act there =
-      let alike = (rw (walk-at, walk-frames) at there).alike in
-      rw act (both _ _ _ _ (alike.base s.act) (alike.expr s.act))
-
-  pub walked-valid : IsCounted s → t.depth ≡ s.depth → IsThere (frames s.heads.items h) (shown (at_hand s.heads.items h)) (frames_in t) (focus_in t) → IsLaid t.heads.items t.hand → IsValid t
-  walked-valid counted depth there laid =
-      let same = (rw (walk-at, walk-frames) at there).alike.calls in
-      record {
-        laid = inr laid;
-        at = there.at;
-        counted = record { depth = depth ∙ counted.depth ∙ sym same; small = rw depth counted.small };
-      }
-
--- ---- what is put in place, and the walk from there
-
 put-count : (hs : List Head) (p : Option Head) → IsNoCall p → all_held (with_frame hs p) ≡ all_held hs
 put-count hs None n = refl
 put-count hs (Some g) n = let q = all_held-snoc hs g in let r = n.1 in omega arith
 
-module _ (s m : Stack) (act : m.act ≡ s.act) (depth : m.depth ≡ s.depth) (empty : IsEmptyHanded s.heads.items s.hand) where
-  -- what stands in a frame more
-  put-within : (p : Option Head) (a : ActId) (x : Running) → IsNoCall p → frames_in m ≡ frames_of (with_frame s.heads.items p) s.hand.values.items
-      → with_part m x ≡ with_part s (within p a x)
-  put-within None a x n is = rw (is, act) refl
-  put-within (Some g) a x n is =
-      pushed s m (with_values g []) x (is ∙ frames-pushed s.heads.items _ s.hand g empty n.1 refl) (outside-none (with_values g []) m.act n.0 ∙ act)
-      ∙ ap (with_part s) (wrap-none (with_values g []) m.act a x n.0)
+put-fit : (hs : List Head) (p : Option Head) → IsNoCall p → AllByRecursion IsFit hs → AllByRecursion IsFit (with_frame hs p)
+put-fit hs None n fit = fit
+put-fit hs (Some g) n fit = fit-snoc hs g fit (fit-none g n.1)
 
-  put-counted : (p : Option Head) → IsNoCall p → frames_in m ≡ frames_of (with_frame s.heads.items p) s.hand.values.items → IsCounted s → IsCounted m
-  put-counted None n is c = record { depth = rw is (depth ∙ c.depth); small = rw depth c.small }
-  put-counted (Some g) n is c = framed-counted s m (with_values g []) n.0 c (is ∙ frames-pushed s.heads.items _ s.hand g empty n.1 refl) depth
+module _ (hs : List Head) (vs : List Val) (d : ℕ) (around : Around hs vs d) where
+  put-within : (p : Option Head) (fs : List Frame) (a : ActId) (x : Running) → IsNoCall p → fs ≡ frames_of (with_frame hs p) vs
+      → in_frames fs a x ≡ in_frames (frames_of hs vs) a (within p a x)
+  put-within None fs a x n is = rw is refl
+  put-within (Some g) fs a x n is =
+      in-pushed (frames_of hs vs) fs (with_values g []) a a x (is ∙ framed-more hs vs g around.count n.1) (outside-none (with_values g []) a n.0)
 
-  module _ (t : ActId → Running) (on : IsPutOn t s.heads.items s.hand m.heads.items m.hand) where
-    put-holds : Holds m.heads.items m.hand s.hand.values.items on.put.1
-    put-holds = record { count = rw on.heads (empty.count ∙ sym (put-count s.heads.items on.put.0 on.is.no_call)); hand = on.hand }
+  put-calls : (p : Option Head) → IsNoCall p → calls (frames_of (with_frame hs p) vs) ≡ d
+  put-calls None n = sym around.depth
+  put-calls (Some g) n =
+      ap calls (framed-more hs vs g around.count n.1) ∙ calls-snoc (frames_of hs vs) (with_values g []) ∙ (let p = around.depth in let q = n.0 in omega arith)
+
+  module _ (m : Stack) (depth : m.depth ≡ d) (t : ActId → Running) (on : IsPutOn t hs vs m.heads.items m.hand) where
+    put-holds : Holds m.heads.items m.hand vs on.put.1
+    put-holds = record { count = rw on.heads (around.count ∙ sym (put-count hs on.put.0 on.is.no_call)); hand = on.hand }
 
     put-at : focus_in m ≡ on.put.1
-    put-at = holds-at m.heads.items m.hand s.hand.values.items on.put.1 put-holds
+    put-at = holds-at m.heads.items m.hand vs on.put.1 put-holds
 
-    put-frames : frames_in m ≡ frames_of (with_frame s.heads.items on.put.0) s.hand.values.items
-    put-frames = holds-frames m.heads.items m.hand s.hand.values.items on.put.1 put-holds ∙ ap (λ hs. frames_of hs s.hand.values.items) on.heads
+    put-frames : frames_in m ≡ frames_of (with_frame hs on.put.0) vs
+    put-frames = holds-frames m.heads.items m.hand vs on.put.1 put-holds ∙ ap (λ gs. frames_of gs vs) on.heads
 
-    pub put-laid : IsLaid m.heads.items m.hand
-    put-laid = holds-laid m.heads.items m.hand s.hand.values.items on.put.1 put-holds
+    -- one walks from what is put
+    pub put-ready : IsReady m
+    put-ready = record {
+      laid = holds-laid m.heads.items m.hand vs on.put.1 put-holds;
+      fit = rw on.heads (put-fit hs on.put.0 on.is.no_call around.fit);
+      settled = rw put-at on.is.settled;
+      counted = record { depth = depth ∙ sym (put-calls on.put.0 on.is.no_call) ∙ ap calls (sym put-frames); small = rw depth around.small };
+    }
 
-    pub put-settled : IsSettled (focus_in m)
-    put-settled = rw put-at on.is.settled
+    -- it stands in the frames
+    pub put-same : (a : ActId) → m.act ≡ a → evaluation m ≡ in_frames (frames_of hs vs) a (t a)
+    put-same a act =
+        rw (act, put-at) (put-within on.put.0 (frames_in m) a (shown on.put.1) on.is.no_call put-frames ∙ ap (in_frames (frames_of hs vs) a) (on.is.same a))
 
-    put-is : (a : ActId) → evaluation m ≡ with_part s (t a)
-    put-is a = ap (λ x. with_part m (shown x)) put-at ∙ put-within on.put.0 a (shown on.put.1) on.is.no_call put-frames ∙ ap (with_part s) (on.is.same a)
+-- a part at hand, in the frames that are there
+module _ (s m : Stack) (x : Focus) (empty : IsEmptyHanded s.heads.items s.hand) (fit : AllByRecursion IsFit s.heads.items) (counted : IsCounted s) (settled : IsSettled x)
+    (heads : m.heads.items ≡ s.heads.items) (holding : IsHolding s.hand.values.items x m.hand) (act : m.act ≡ s.act) (depth : m.depth ≡ s.depth) where
+  held-around : Around s.heads.items s.hand.values.items s.depth
+  held-around = record { count = empty.count; fit = fit; depth = counted.depth; small = counted.small }
 
-    module _ (u : Stack) (later : u.act ≡ s.act) (there : IsThere (frames_in m) (shown (focus_in m)) (frames_in u) (focus_in u)) where
-      walked-same : evaluation u ≡ evaluation m
-      walked-same = let alike = there.alike in rw (later, act) (both _ _ _ _ (alike.base s.act) (alike.expr s.act))
+  held-on : IsPutOn (λ a. shown x) s.heads.items s.hand.values.items m.heads.items m.hand
+  held-on = record { put = (None, x); heads = heads; hand = holding; is = record { same = λ a. refl; settled = settled; no_call = tt } }
 
-      -- it stands for the redex that was taken out
-      pub rewrote : (g : Running → Running) (r : Stack) (a : ActId) (x : Running) → IsWithoutRedex r s → redex (evaluation r).expr ≡ x → t a ≡ g x
-          → evaluation u ≡ rewritten_in (λ _. g (redex (evaluation r).expr)) (evaluation r)
-      rewrote g r a x o is same =
-          walked-same ∙ put-is a ∙ ap (with_part s) same ∙ o.rewrites (g x) ∙ ap (λ y. rewritten_in (λ _. g y) (evaluation r)) (sym is)
+  pub held-ready : IsReady m
+  held-ready = put-ready s.heads.items s.hand.values.items s.depth held-around m depth (λ a. shown x) held-on
 
-      pub put-valid : u.depth ≡ s.depth → IsCounted s → IsLaid u.heads.items u.hand → IsValid u
-      put-valid deeper counted laid =
-          let c = put-counted on.put.0 on.is.no_call put-frames counted in let d = c.depth in let e = c.small in let same = there.alike.calls in
-          record {
-            laid = inr laid;
-            at = there.at;
-            counted = record { depth = deeper ∙ sym depth ∙ d ∙ sym same; small = rw (deeper, ← depth) e };
-          }
+  pub held-same : evaluation m ≡ with_part s (shown x)
+  held-same = put-same s.heads.items s.hand.values.items s.depth held-around m depth (λ a. shown x) held-on s.act act
 
--- what two facts say of a good answer
-pub both_ok : {X E : Type 0} {A B C : Type 0} (r : Result X E) → (A → B → C) → OnOk r A → OnOk r B → OnOk r C
-both_ok (Ok x) f a b = f a b
-both_ok (Err e) f a b = tt
+-- what is put for a redex that was taken out
+pub rewrote : (s t m : Stack) (x : Running) (f : ActId → Running) → IsWithoutRedex s t → m.act ≡ t.act → m.depth ≡ t.depth
+    → IsPutOn f t.heads.items t.hand.values.items m.heads.items m.hand → f t.act ≡ x → IsRewritten x s m
+rewrote s t m x f out act depth on is =
+    let around : Around t.heads.items t.hand.values.items t.depth = record { count = out.empty.count; fit = out.fit; depth = out.counted.depth; small = out.counted.small } in
+    record {
+      same = put-same t.heads.items t.hand.values.items t.depth around m depth f on t.act act ∙ ap (with_part t) is ∙ out.rewrites x;
+      ready = put-ready t.heads.items t.hand.values.items t.depth around m depth f on;
+    }
+
+-- a value
+pub rewrote-value : (s t m : Stack) (v : Val) → IsWithoutRedex s t → m.heads.items ≡ t.heads.items → IsHolding t.hand.values.items (focus.Value v) m.hand
+    → m.act ≡ t.act → m.depth ≡ t.depth → IsRewritten (Done v) s m
+rewrote-value s t m v out heads holding act depth =
+    rewrote s t m (Done v) (λ a. Done v) out act depth
+    (record { put = (None, focus.Value v); heads = heads; hand = holding; is = record { same = λ a. refl; settled = tt; no_call = tt } }) refl
+
+-- ---- a frame and the value at hand, rewritten where they stand
+
+module _ (s m : Stack) (rest : List Head) (f : Head) (was : s.heads.items ≡ rest ++ f ∷ []) (top : Topped s.heads.items rest f s.hand) (v : IsValid s) where
+  -- another frame and another part
+  pub turned-there : (g : Head) → m.heads.items ≡ rest ++ g ∷ [] → IsTurned f s.hand true g m.hand → m.act ≡ s.act → m.depth ≡ s.depth
+      → IsRewritten (local_row (redex (evaluation s).expr)) s m
+  turned-there g heads is act depth =
+      let around = frame-around s rest f top v was in
+      let t : ActId → Running = λ a. local_row (wrap (with_values f top.own) a (Done top.value)) in
+      let p = is.1 top.below top.own top.value top.values top.many in
+      let on : IsPutOn t rest top.below m.heads.items m.hand = record { put = (Some g, p.0); heads = heads; hand = p.1; is = p.2 } in
+      let deep : m.depth ≡ s.depth - is_call (with_values f []) = let q = is.0 in rw (depth, q) (omega arith) in
+      record {
+        same = put-same rest top.below _ around m deep t on s.act act ∙ ap (λ a. in_frames (frames_of rest top.below) a (t s.act)) (sym (outside-none (with_values f []) s.act is.0))
+            ∙ frame-rewrites s rest f top v (t s.act) ∙ ap (λ x. rewritten_in (λ _. local_row x) (evaluation s)) (sym (frame-is s rest f top v));
+        ready = put-ready rest top.below _ around m deep t on;
+      }
+
+  -- the value alone, and the frame is taken off
+  pub left : (u : Stack) → held f ≡ 0 → u.heads.items ≡ rest → u.hand ≡ s.hand → u.act ≡ s.act → u.depth ≡ s.depth → s.hand.form ≡ None → m ≡ out_of f u
+      → IsRewritten (shown (focus_in s)) s m
+  left u bare heads hand act depth free is =
+      let around = frame-around s rest f top v was in
+      let t : ActId → Running = λ a. Done top.value in
+      let values : m.hand.values.items ≡ top.below ++ top.value ∷ [] = rw (is, hand) (top.values ∙ ap (λ ws. top.below ++ ws ++ top.value ∷ []) (no-values top.own (top.many ∙ bare)) ∙ ap (λ ws. ws ++ top.value ∷ []) (append-nil top.below)) in
+      let on : IsPutOn t rest top.below m.heads.items m.hand = record {
+        put = (None, focus.Value top.value);
+        heads = rw is heads;
+        hand = record { values = values; form = rw (is, hand) free };
+        is = record { same = λ a. refl; settled = tt; no_call = tt };
+      } in
+      let deep : m.depth ≡ s.depth - is_call (with_values f []) = rw (is, depth) refl in
+      let away : m.act ≡ outside (with_values f []) s.act = rw (is, act) refl in
+      record {
+        same = put-same rest top.below _ around m deep t on _ away ∙ frame-rewrites s rest f top v (Done top.value) ∙ rw top.focused refl;
+        ready = put-ready rest top.below _ around m deep t on;
+      } where
+        no-values : (ws : List Val) → length ws ≡ 0 → ws ≡ []
+        no-values [] h = refl
+        no-values (w ∷ ws) h = absurd (omega (arith, h))
+
+-- the redex of a frame that no store decides
+module _ (s : Stack) (rest : List Head) (f : Head) (was : s.heads.items ≡ rest ++ f ∷ []) (free : s.hand.form ≡ None) (v : IsValid s) (local : IsLocal (redex (evaluation s).expr)) where
+  top-there : Topped s.heads.items rest f s.hand
+  top-there = top-of s rest f was free v
+
+  pub local-frame : IsEnding f
+  local-frame = let is = frame-is s rest f top-there v in local-ending f top-there.own s.act top-there.value (rw is at local)
+
+  pub local-bare : held f ≡ 0
+  local-bare = ending-bare f local-frame (fit-last rest f (rw was at v.fit)).1
+
+  -- another part is put
+  pub turned-on : (m : Stack) (g : Head) → m.heads.items ≡ rest ++ g ∷ [] → IsTurned f s.hand true g m.hand → m.act ≡ s.act → m.depth ≡ s.depth
+      → IsRewritten (local_row (redex (evaluation s).expr)) s m
+  turned-on m = turned-there s m rest f was top-there v
+
+-- nothing but the value is left of it, and nothing has changed
+module _ (s t : Stack) (rest : List Head) (f g : Head) (was : s.heads.items ≡ rest ++ f ∷ []) (free : s.hand.form ≡ None) (v : IsValid s) (local : IsLocal (redex (evaluation s).expr))
+    (heads : t.heads.items ≡ rest ++ g ∷ []) (is : IsTurned f s.hand false g t.hand) (act : t.act ≡ s.act) (depth : t.depth ≡ s.depth) where
+  same-heads : t.heads.items ≡ s.heads.items
+  same-heads = heads ∙ ap (λ h. rest ++ h ∷ []) is.0 ∙ sym was
+
+  same-hand : t.hand ≡ s.hand
+  same-hand = is.1
+
+  pub still-free : t.hand.form ≡ None
+  still-free = rw same-hand free
+
+  pub still-valid : IsValid t
+  still-valid = record {
+    laid = inr (rw (same-heads, same-hand) (laid-frame s rest f was v));
+    fit = rw same-heads v.fit;
+    at = rw (same-heads, same-hand) v.at;
+    counted = record { depth = rw (same-heads, same-hand, depth) v.counted.depth; small = rw depth v.counted.small };
+  }
+
+  pub still-bare : IsTopBare t.heads.items
+  still-bare = λ hs h there. local-bare t hs h there still-free still-valid (rw (same-heads, same-hand, act) local)
+
+  -- so the frame is taken off
+  pub turned-off : (m : Stack) → IsRewritten (shown (focus_in t)) t m → IsRewritten (local_row (redex (evaluation s).expr)) s m
+  turned-off m r =
+      let top = top-of s rest f was free v in
+      let value : local_row (redex (evaluation s).expr) ≡ shown (focus_in s) = rw (frame-is s rest f top v, top.focused) (is.2 top.own s.act top.value) in
+      let put : rewritten_in (λ _. shown (focus_in t)) (evaluation t) ≡ rewritten_in (λ _. local_row (redex (evaluation s).expr)) (evaluation s) =
+      rw (same-heads, same-hand, act) (ap (λ x. rewritten_in (λ _. x) (evaluation s)) (sym value)) in
+      record { same = r.same ∙ put; ready = r.ready }
+
+-- ---- the walk
+
+-- the walk leaves the expression as it is
+pub walked-same : (m u : Stack) → u.act ≡ m.act → IsThere (frames_in m) (shown (focus_in m)) (frames_in u) (focus_in u) → evaluation u ≡ evaluation m
+walked-same m u act there = let alike = there.alike in rw act (both _ _ _ _ (alike.base m.act) (alike.expr m.act))
+
+-- and the stack valid
+pub walked-valid : (m u : Stack) → u.depth ≡ m.depth → IsCounted m → AllByRecursion IsFit u.heads.items
+    → IsThere (frames_in m) (shown (focus_in m)) (frames_in u) (focus_in u) → IsLaid u.heads.items u.hand → IsValid u
+walked-valid m u depth counted fit there laid =
+    let same = there.alike.calls in
+    record {
+      laid = inr laid;
+      fit = fit;
+      at = there.at;
+      counted = record { depth = depth ∙ counted.depth ∙ sym same; small = rw depth counted.small };
+    }
+
+-- what three facts say of a good answer
+pub all_ok : {X E : Type 0} {A B C D : Type 0} (r : Result X E) → (A → B → C → D) → OnOk r A → OnOk r B → OnOk r C → OnOk r D
+all_ok (Ok x) f a b c = f a b c
+all_ok (Err e) f a b c = tt
 
 -- an equal stack
 module _ (s t : Stack) (heads : t.heads.items ≡ s.heads.items) (values : t.hand.values.items ≡ s.hand.values.items) (form : t.hand.form ≡ s.hand.form) (act : t.act ≡ s.act) where
@@ -444,6 +570,7 @@ module _ (s t : Stack) (heads : t.heads.items ≡ s.heads.items) (values : t.han
   pub copied-valid : t.hand.null ≡ val.Null → t.depth ≡ s.depth → IsValid s → IsValid t
   copied-valid null depth v = record {
     laid = by v.laid;
+    fit = rw heads v.fit;
     at = rw (heads, values, form) v.at;
     counted = record { depth = rw (heads, values, depth) v.counted.depth; small = rw depth v.counted.small };
   } where
@@ -465,3 +592,42 @@ pub kept-by : {T E : Type 0} (g : Running → Running) (done : Result T E) (resu
     → OnOk result (evaluation u ≡ rewritten_in g e)
 kept-by g (Ok x) result s t u e is kept by same = rw is (ap evaluation kept ∙ put-by g (evaluation t) (evaluation s) e by same)
 kept-by g (Err x) result s t u e is kept by same = rw is tt
+
+-- ---- a variable's value
+
+row-binding : (l : Expr-F Doc Expr Handler) → IsRow l → IsBinding (layer l) → ⊥
+row-binding (Expr-F.Let x e) h b = h
+row-binding (Expr-F.Set x e) h b = h
+row-binding _ h b = b
+
+-- it has a value at hand
+pub binding-free : (s : Stack) → IsValid s → IsBinding (redex (evaluation s).expr) → s.hand.form ≡ None
+binding-free s v b = by s.hand.form refl where
+  by : (form : Option Expr) → s.hand.form ≡ form → s.hand.form ≡ None
+  by None h = h
+  by (Some e) h = absurd (row-binding (out-Expr e) (form-row s e h v) (rw (form-layer s e e h refl v) at b))
+
+around-bound : (l : Expr-F Doc Expr Handler) (vs : List Val) (v : Val) (n : ℕ) → IsBinding (around l vs (Done v)) → IsFew l n → (n ≡ 0) × (bound (around l vs (Done v)) ≡ Done v)
+around-bound (Expr-F.Let x e) vs v n h few = (few, refl)
+around-bound (Expr-F.Set x e) vs v n h few = (few, refl)
+around-bound (Expr-F.Apply e es) [] v n h few = absurd h
+around-bound (Expr-F.Apply e es) (w ∷ vs) v n h few = absurd h
+around-bound _ vs v n h few = absurd h
+
+-- its frame holds none, and it becomes the value
+pub frame-bound : (f : Head) (vs : List Val) (a : ActId) (v : Val) → IsBinding (wrap (with_values f vs) a (Done v)) → IsFit f
+    → (held f ≡ 0) × (bound (wrap (with_values f vs) a (Done v)) ≡ Done v)
+frame-bound (head.Part e n) vs a v h fit = around-bound (out-Expr e) vs v n h fit
+frame-bound (head.Do es n) vs a v h fit = absurd h
+frame-bound (head.Loop e) vs a v h fit = absurd h
+frame-bound head.Last vs a v h fit = absurd h
+frame-bound (head.Inside b) vs a v h fit = absurd h
+
+-- of a stack, in its innermost frame
+pub binding-bare : (s : Stack) (rest : List Head) (f : Head) → s.heads.items ≡ rest ++ f ∷ [] → IsValid s → IsBinding (redex (evaluation s).expr)
+    → (held f ≡ 0) × (bound (redex (evaluation s).expr) ≡ shown (focus_in s))
+binding-bare s rest f was v b =
+    let top = top-of s rest f was (binding-free s v b) v in
+    let is = frame-is s rest f top v in
+    let r = frame-bound f top.own s.act top.value (rw is at b) (fit-last rest f (rw was at v.fit)).1 in
+    (r.0, rw (is, top.focused) r.1)

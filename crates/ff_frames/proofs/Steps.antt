@@ -40,13 +40,6 @@ pub some-shown : (o : Option Expr) (x : Focus) → AreShown o (Some x) → (e : 
 some-shown None x h = absurd h
 some-shown (Some e) x h = (e, refl, h)
 
-pub at-shown : (o : Option Expr) (e : Expr) (x : Focus) → Some e ≡ o → Shows e x → AreShown o (Some x)
-at-shown o e x h s = rw (← h) s
-
-pub none-shown : (o : Option Expr) → AreShown o None → o ≡ None
-none-shown None h = refl
-none-shown (Some e) h = absurd h
-
 -- the item at a place begins the rest from there
 pub drop-get : {A : Type 0} (xs : List A) (n : ℕ) (x : A) → slice_get xs n ≡ Some x → drop n xs ≡ x ∷ drop (suc n) xs
 drop-get [] n x h = cc

@@ -1,7 +1,11 @@
 -- The walk to the redex, step by step.
 use Rattle.std.proofs.Common.{◌≡◌, ◌+◌, ◌<◌, ◌++◌, ◌∷◌, ℕ, suc, Bool, true, false, List, [], length, Option, None, Some, slice_get, refl, sym, ap, ◌∙◌, arith}
 use Rattle.std.proofs.lemmas.List.{append-nil, append_assoc, length-append}
+use Rattle.std.specs.List.{AllByRecursion}
+use Rattle.ff_tree.specs.declared.tree.Doc.{Doc}
 use Rattle.ff_tree.specs.declared.tree.Expr.{Expr, out-Expr}
+use Rattle.ff_tree.specs.declared.tree.Handler.{Handler}
+use Rattle.ff_tree.specs.declared.tree.Doc.TheOpen.{Expr-F}
 use Rattle.ff_value.specs.declared.value.Val.{Val}
 use Rattle.ff_term.specs.Running.{Running, Done}
 use Rattle.ff_term.specs.Whole.{whole}
@@ -14,9 +18,9 @@ use Rattle.ff_frames.specs.Frame as frame
 use Rattle.ff_frames.specs.declared.frame.Head.{Head}
 use Rattle.ff_frames.specs.declared.frame.Head.TheVariants as head
 use Rattle.ff_frames.specs.declared.hand.Hand.{Hand}
-use Rattle.ff_frames.specs.Heads.{IsEmptyHanded, IsHolding, IsLaid, all_held, at_hand, form_in, frames, frames_of, held, value_in, with_values}
+use Rattle.ff_frames.specs.Heads.{IsEmptyHanded, IsFew, IsFit, IsHolding, IsLaid, all_held, at_hand, form_in, frames, frames_of, held, value_in, with_values}
 use Rattle.ff_frames.specs.Seeking.{Alike, Opens, Feeds, IsFed, IsFull, IsHeld, IsTopFull, IsNearer, IsStep, Shows}
-use Rattle.ff_frames.proofs.Heads.{Holds, all_held-snoc, frames-snoc, holds-at, holds-frames, holds-laid, laid-holds, parted}
+use Rattle.ff_frames.proofs.Heads.{Holds, all_held-snoc, fit-last, fit-snoc, frames-snoc, holds-at, holds-frames, holds-laid, laid-holds, parted}
 use Rattle.ff_frames.specs.Frames.{operands}
 use Rattle.ff_frames.proofs.Plugs.{base-snoc, plug-snoc, calls-snoc, full-snoc}
 use Rattle.ff_frames.proofs.Steps.{feeds, length-snoc, opens}
@@ -192,3 +196,28 @@ enough-held hs rest f h was free laid =
     let t = topped hs rest f h was free laid in
     let n : length h.values.items ≡ length (t.below ++ t.own) + length (t.value ∷ []) = ap length t.values ∙ length-append (t.below ++ t.own) (t.value ∷ []) in
     let m = length-append t.below t.own in let o = t.many in omega (arith, n, m, o)
+
+few-more : (l : Expr-F Doc Expr Handler) (n : ℕ) (e : Expr) → slice_get (operands l) (suc n) ≡ Some e → IsFew l (suc n)
+few-more (Expr-F.Apply f es) n e h = tt
+few-more (Expr-F.Prim op es) n e h = tt
+few-more (Expr-F.Let x f) n e h = cc
+few-more (Expr-F.Set x f) n e h = cc
+few-more (Expr-F.If f g g') n e h = cc
+few-more (Expr-F.Do []) n e h = cc
+few-more (Expr-F.Do (f ∷ fs)) n e h = cc
+few-more _ n e h = cc
+
+fed-fit : (f g : Head) (h k : Hand) (on : Bool) → IsFed f h on g k → IsFit f → IsFit g
+fed-fit (head.Part e n) g h k true fed fit =
+    let s = held-some (slice_get (operands (out-Expr e)) (suc n)) h k fed.0 in rw fed.1 (few-more (out-Expr e) n s.0 s.1)
+fed-fit (head.Part e n) g h k false fed fit = rw fed.1 fit
+fed-fit (head.Do es n) g h k on (off, same, kept) fit = rw same tt
+fed-fit (head.Loop e) g h k on (off, same, kept) fit = rw same tt
+fed-fit head.Last g h k on (off, same, kept) fit = rw same tt
+fed-fit (head.Inside a) g h k on (off, same, kept) fit = rw same tt
+
+-- a step leaves all frames fit
+pub went-fit : (hs gs rest : List Head) (f g : Head) (h k : Hand) (on : Bool) → hs ≡ rest ++ f ∷ [] → gs ≡ rest ++ g ∷ [] → IsFed f h on g k
+    → AllByRecursion IsFit hs → AllByRecursion IsFit gs
+went-fit hs gs rest f g h k on was is fed fit =
+    let all = fit-last rest f (rw was at fit) in rw is (fit-snoc rest g all.0 (fed-fit f g h k on fed all.1))

@@ -1,6 +1,9 @@
 -- The frames whose values lie behind one another, and the part at hand behind all of them.
 use Rattle.std.specs.Prelude.{◌≡◌, ◌+◌, ℕ, List, [], ◌∷◌, ◌++◌, length, take, drop, Option, Some, None}
-use Rattle.ff_tree.specs.declared.tree.Expr.{Expr}
+use Rattle.ff_tree.specs.declared.tree.Doc.{Doc}
+use Rattle.ff_tree.specs.declared.tree.Expr.{Expr, out-Expr}
+use Rattle.ff_tree.specs.declared.tree.Handler.{Handler}
+use Rattle.ff_tree.specs.declared.tree.Doc.TheOpen.{Expr-F}
 use Rattle.ff_value.specs.declared.value.Val.{Val}
 use Rattle.ff_value.specs.declared.value.Val.TheVariants as val
 use Rattle.ff_frames.specs.Frame.{Frame}
@@ -20,6 +23,21 @@ held _ = 0
 abbrev pub all_held : List Head → ℕ
 all_held [] = 0
 all_held (h ∷ hs) = held h + all_held hs
+
+-- around a form with one operand at most no value is held
+abbrev pub IsFew : Expr-F Doc Expr Handler → ℕ → Type 0
+IsFew (Expr-F.Apply e es) n = Unit {0}
+IsFew (Expr-F.Prim op es) n = Unit {0}
+IsFew _ n = n ≡ 0
+
+-- nor by a frame of such a form
+abbrev pub IsFit : Head → Type 0
+IsFit (head.Part e n) = IsFew (out-Expr e) n
+IsFit _ = Unit {0}
+
+-- the innermost frame, if there is one, holds no value
+abbrev pub IsTopBare : List Head → Type 0
+IsTopBare hs = (rest : List Head) (f : Head) → hs ≡ rest ++ f ∷ [] → held f ≡ 0
 
 -- a frame with its values
 abbrev pub with_values : Head → List Val → Frame

@@ -1,4 +1,5 @@
 pub mod Places
+pub mod Bindings
 pub mod Frame
 pub mod Heads
 pub mod Frames

@@ -1,5 +1,5 @@
 -- What is put for a redex.
-use Rattle.std.specs.Prelude.{◌≡◌, ◌+◌, ℕ, List, [], ◌∷◌, ◌++◌, drop, Option, Some, None}
+use Rattle.std.specs.Prelude.{◌≡◌, ◌+◌, ℕ, List, [], ◌∷◌, ◌++◌, Bool, true, false, length, drop, Option, Some, None}
 use Rattle.ff_tree.specs.declared.tree.Doc.{Doc}
 use Rattle.ff_tree.specs.declared.tree.Expr.{Expr, out-Expr}
 use Rattle.ff_tree.specs.declared.tree.Handler.{Handler}
@@ -7,29 +7,17 @@ use Rattle.ff_tree.specs.declared.tree.Doc.TheOpen.{Expr-F}
 use Rattle.ff_frames.specs.declared.frame.Head.{Head}
 use Rattle.ff_frames.specs.declared.frame.Head.TheVariants as head
 use Rattle.ff_frames.specs.declared.hand.Hand.{Hand}
-use Rattle.ff_frames.specs.Heads.{IsHolding, held, with_values}
+use Rattle.ff_frames.specs.Heads.{IsFit, IsHolding, held, with_values}
 use Rattle.ff_frames.specs.declared.frame.Focus.{Focus}
-use Rattle.ff_frames.specs.declared.frame.Taken.{Taken}
-use Rattle.ff_frames.specs.declared.frame.Taken.TheVariants as taken_out
 use Rattle.ff_value.specs.declared.ids.ActId.{ActId}
 use Rattle.ff_value.specs.declared.value.Code.{Code}
 use Rattle.ff_value.specs.declared.value.Val.{Val}
 use Rattle.ff_value.specs.declared.value.Val.TheVariants as val
 use Rattle.ff_term.specs.Running.{Running, Apply, Do, Done, none, more}
 use Rattle.ff_frames.specs.Frames.{wrap, is_call, shown}
-use Rattle.ff_frames.specs.Seeking.{IsRow, IsSettled}
-use Rattle.ff_term.specs.Rows.{IsLocal}
-use Rattle.ff_term.specs.Whole.{layer, wholes}
-
--- the redex that was taken out of an activation, where its frame had the values
-abbrev pub taken : List Val → Taken → ActId → Running
-taken vs (taken_out.Form e) a = layer (out-Expr e)
-taken vs (taken_out.Full h v) a = wrap (with_values h vs) a (Done v)
-
--- a form is a redex as it stands
-abbrev pub IsRedex : Taken → Type 0
-IsRedex (taken_out.Form e) = IsRow (out-Expr e)
-IsRedex (taken_out.Full f v) = Unit {0}
+use Rattle.ff_frames.specs.Seeking.{IsSettled}
+use Rattle.ff_term.specs.Rows.{local_row}
+use Rattle.ff_term.specs.Whole.{wholes}
 
 -- x with the frame around it, if there is one
 abbrev pub within : Option Head → ActId → Running → Running
@@ -52,12 +40,19 @@ abbrev pub with_frame : List Head → Option Head → List Head
 with_frame hs None = hs
 with_frame hs (Some h) = hs ++ h ∷ []
 
--- what stands for t is put behind what is there: a part at hand, perhaps with a frame more
-pub record IsPutOn (t : ActId → Running) (hs : List Head) (h : Hand) (gs : List Head) (k : Hand) : Type 0 where
+-- what stands for t is put behind the frames and their values: a part at hand, perhaps with a frame more
+pub record IsPutOn (t : ActId → Running) (hs : List Head) (vs : List Val) (gs : List Head) (k : Hand) : Type 0 where
   pub put : Option Head × Focus
   pub heads : gs ≡ with_frame hs put.0
-  pub hand : IsHolding h.values.items put.1 k
+  pub hand : IsHolding vs put.1 k
   pub is : IsPut t put
+
+-- the frame and the value at hand, which are the redex of a `do` or a call, are rewritten where they
+-- stand; else only the value is left of them, and nothing changes
+abbrev pub IsTurned : Head → Hand → Bool → Head → Hand → Type 0
+IsTurned f h true g k = (is_call (with_values f []) ≡ 0) × ((kept own : List Val) (v : Val) → h.values.items ≡ kept ++ own ++ v ∷ [] → length own ≡ held f
+    → (x : Focus) × IsHolding kept x k × IsPut (λ a. local_row (wrap (with_values f own) a (Done v))) (Some g, x))
+IsTurned f h false g k = (g ≡ f) × (k ≡ h) × ((own : List Val) (a : ActId) (v : Val) → local_row (wrap (with_values f own) a (Done v)) ≡ Done v)
 
 -- the parts of a `do` after a place stand after the part at hand
 pub record IsRest (es : List Expr) (n : ℕ) (h : Head) : Type 0 where
@@ -93,17 +88,18 @@ IsDo (Expr-F.Make xs e) = Unit {0}
 IsDo (Expr-F.Tree d) = Unit {0}
 IsDo _ = ⊥
 
+-- a form's frame that stands for such a `do`
+abbrev pub IsBegun : Head → Type 0
+IsBegun (head.Part e n) = IsDo (out-Expr e)
+IsBegun _ = ⊥
+
 -- a frame whose form has no other operand, and which goes once the part at hand is a value
 abbrev pub IsEnding : Head → Type 0
 IsEnding (head.Part e n) = IsDo (out-Expr e)
 IsEnding _ = Unit {0}
 
--- a redex that no store decides
-abbrev pub IsLocalOut : Taken → Type 0
-IsLocalOut (taken_out.Form e) = IsLocal (layer (out-Expr e))
-IsLocalOut (taken_out.Full f v) = IsEnding f
-
 -- around the one argument of a function
 pub record IsCallFrame (code : Code) (h : Head) : Type 0 where
   pub expr : (a : ActId) (x : Running) → wrap (with_values h (val.Code code ∷ [])) a x ≡ Apply (Done (val.Code code)) (more x none)
   pub one : held h ≡ 1
+  pub fit : IsFit h

@@ -1,5 +1,5 @@
 -- Where the walk to the redex ends, and what it keeps.
-use Rattle.std.specs.Prelude.{◌≡◌, ◌+◌, ◌<◌, Bool, true, false, cond, List, [], ◌∷◌, length, slice_get, Option, None, Some}
+use Rattle.std.specs.Prelude.{◌≡◌, ◌+◌, ◌<◌, ◌++◌, ℕ, Bool, true, false, cond, List, [], ◌∷◌, length, slice_get, Option, None, Some}
 use Rattle.std.proofs.Common.{suc}
 use Rattle.ff_tree.specs.declared.tree.Doc.{Doc}
 use Rattle.ff_tree.specs.declared.tree.Expr.{Expr, out-Expr}
@@ -109,6 +109,10 @@ pub record Feeds (f : Frame) (v : Val) (g : Frame) (x : Focus) : Type 0 where
 abbrev pub IsHeld : Option Expr → Hand → Bool → Hand → Type 0
 IsHeld None h there k = (there ≡ false) × (k ≡ h)
 IsHeld (Some e) h there k = (there ≡ true) × ((x : Focus) × Shows e x × IsHolding h.values.items x k)
+
+-- an expression is put at hand for the n last values
+abbrev pub IsHeldFor : ℕ → Expr → Hand → Hand → Type 0
+IsHeldFor n e h k = (kept last : List Val) → h.values.items ≡ kept ++ last → length last ≡ n → (x : Focus) × Shows e x × IsHolding kept x k
 
 -- the operand after the one whose value is at hand is put there, and the frame has that value; else
 -- nothing changes

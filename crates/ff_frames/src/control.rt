@@ -5,6 +5,7 @@ ghost use Rattle.ff_term.specs.Rows.{IsLocal, IsTest, branch, local_row};
 ghost use Rattle.ff_term.specs.Whole.{whole};
 ghost use Rattle.ff_term.specs.Redexes.{IsRedexOf};
 ghost use Rattle.ff_term.specs.Calls.{calls_around};
+ghost use Rattle.ff_frames.specs.Bindings.{IsBinding, bound};
 ghost use Rattle.ff_frames.specs.Lent.{named};
 ghost use Rattle.ff_frames.specs.Stacks.{IsValid};
 
@@ -40,6 +41,7 @@ impl Model for Control {
 }
 
 /// Keeps a stack whose change was made, and empties one whose change was refused.
+#[inline(always)]
 fn kept(alloc: Global, stack: &mut Stack, done: Result<(), NoMemory>) -> Result<(), NoMemory>
     requires { OnOk done (IsValid stack.old) }
     ensures answer { result ≡ done }
@@ -47,9 +49,18 @@ fn kept(alloc: Global, stack: &mut Stack, done: Result<(), NoMemory>) -> Result<
     ensures kept { OnOk done (stack.new ≡ stack.old) }
 {
     if done.is_err() {
-        *stack = Stack::empty(alloc);
+        clear(alloc, stack);
     }
     done
+}
+
+/// Empties a stack.
+#[cold]
+#[inline(never)]
+fn clear(alloc: Global, stack: &mut Stack)
+    ensures { IsValid stack.new }
+{
+    *stack = Stack::empty(alloc);
 }
 
 impl Control {
@@ -152,6 +163,25 @@ impl Control {
         ensures { OnOk result (self.new ≡ rewritten_in (λ _. Done value) self.old) }
     {
         let done = self.stack.give(value);
+        kept(alloc, &mut self.stack, done)
+    }
+
+    /// Puts a copy of a lent value for the redex.
+    pub fn give_copy(&mut self, alloc: Global, value: &Val) -> Result<(), NoMemory>
+        requires { is_value self.old.expr ≡ false }
+        ensures { OnOk result (self.new ≡ rewritten_in (λ _. Done value.now) self.old) }
+    {
+        let done = self.stack.give_copy(value);
+        kept(alloc, &mut self.stack, done)
+    }
+
+    /// Puts the value of a `let` or `set` for it, once the variable has the value.
+    pub fn keep(&mut self, alloc: Global) -> Result<(), NoMemory>
+        requires unfinished { is_value self.old.expr ≡ false }
+        requires binding { IsBinding (redex self.old.expr) }
+        ensures { OnOk result (self.new ≡ rewritten_in bound self.old) }
+    {
+        let done = self.stack.keep();
         kept(alloc, &mut self.stack, done)
     }
 

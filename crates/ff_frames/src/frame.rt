@@ -27,13 +27,6 @@ pub enum Focus {
     Part(Source),
 }
 
-/// A redex that is taken out of a stack: a form, or a value with the frame that it completes.
-#[derive(Drop)]
-pub enum Taken {
-    Form(Source),
-    Full(Head, Val),
-}
-
 impl Head {
     /// An equal frame.
     pub fn copy(&self) -> Result<Head, NoMemory>

@@ -1,6 +1,6 @@
-ghost use Rattle.std.specs.Prelude.{◌≡◌, ◌+◌, ◌<◌, ◌++◌, ◌∷◌, [], List, None, IfOk, OnOk, length, slice_get};
+ghost use Rattle.std.specs.Prelude.{◌≡◌, ◌+◌, ◌<◌, ◌≤◌, ◌++◌, ◌∷◌, [], List, Some, None, IfOk, OnOk, length, slice_get};
 ghost use Rattle.std.specs.Option.{option_copied};
-ghost use Rattle.ff_tree.specs.declared.tree.Expr.{out-Expr};
+ghost use Rattle.ff_tree.specs.declared.tree.Expr.{Expr, out-Expr};
 ghost use Rattle.ff_value.specs.declared.value.Val.{Val as Value};
 ghost use Rattle.ff_value.specs.declared.value.Val.TheVariants as val;
 ghost use Rattle.ff_term.specs.Whole.{literal as the_literal};
@@ -9,7 +9,7 @@ ghost use Rattle.ff_frames.specs.declared.frame.Focus.TheVariants as focus;
 ghost use Rattle.ff_tree.specs.declared.tree.Doc.TheOpen.{Expr-F};
 ghost use Rattle.ff_frames.specs.Frames.{operands};
 ghost use Rattle.ff_frames.specs.Heads.{IsHolding, held, value_of};
-ghost use Rattle.ff_frames.specs.Seeking.{IsHeld, Shows};
+ghost use Rattle.ff_frames.specs.Seeking.{IsHeld, IsHeldFor, Shows};
 
 use crate::frame::{Focus, Head};
 use crate::operand::literal;
@@ -93,20 +93,14 @@ impl Hand {
         &self.values.as_slice()[kept..]
     }
 
-    /// Takes the value at hand, and drops those of a frame that is taken off.
-    pub fn take_value(&mut self, head: &Head) -> Val
-        requires { held head.now < length self.old.values.items }
-        ensures taken { (kept vs : List Value) (v : Value) → self.old.values.items ≡ kept ++ vs ++ v ∷ [] → length vs ≡ held head.now → (result ≡ v) × (self.new.values.items ≡ kept) }
+    /// Drops the last values.
+    fn drop_last(&mut self, count: usize)
+        requires { count ≤ length self.old.values.items }
+        ensures left { (kept last : List Value) → self.old.values.items ≡ kept ++ last → length last ≡ count → self.new.values.items ≡ kept }
         ensures form { self.new.form ≡ self.old.form }
     {
-        match self.values.pop() {
-            None => unreachable!(),
-            Some(value) => {
-                let kept = self.values.len() - held_by(head);
-                self.values.truncate(kept);
-                value
-            }
-        }
+        let kept = self.values.len() - count;
+        self.values.truncate(kept);
     }
 
     /// Drops the value at hand, and those of a frame that is taken off.
@@ -115,8 +109,7 @@ impl Hand {
         ensures left { (kept all : List Value) → self.old.values.items ≡ kept ++ all → length all ≡ held head.now + 1 → self.new.values.items ≡ kept }
         ensures form { self.new.form ≡ self.old.form }
     {
-        let kept = self.values.len() - held_by(head) - 1;
-        self.values.truncate(kept);
+        self.drop_last(held_by(head) + 1);
     }
 
     /// Puts a part at hand.
@@ -137,6 +130,15 @@ impl Hand {
         ensures { OnOk result (IsHolding self.old.values.items (focus.Value value) self.new) }
     {
         self.values.push(value)?;
+        Ok(())
+    }
+
+    /// Puts a copy of a value at hand.
+    pub fn hold_copy(&mut self, value: &Val) -> Result<(), NoMemory>
+        requires { self.old.form ≡ None }
+        ensures { OnOk result (IsHolding self.old.values.items (focus.Value value.now) self.new) }
+    {
+        self.values.push(value.copy()?)?;
         Ok(())
     }
 
@@ -186,6 +188,28 @@ impl Hand {
             },
         }
         Ok(true)
+    }
+
+    /// Puts the expression at a place of a list at hand for some of the last values.
+    pub fn next_item(&mut self, count: usize, list: &Exprs, at: usize) -> Result<(), NoMemory>
+        requires free { self.old.form ≡ None }
+        requires enough { count ≤ length self.old.values.items }
+        requires within { at < length list.now }
+        ensures { OnOk result ((e : Expr) × (slice_get list.now at ≡ Some e) × IsHeldFor count e self.old self.new) }
+    {
+        self.drop_last(count);
+        self.hold_item(list, at)?;
+        Ok(())
+    }
+
+    /// Puts a copy of an expression at hand for the last value.
+    pub fn next_copy(&mut self, expr: &Source) -> Result<(), NoMemory>
+        requires free { self.old.form ≡ None }
+        requires enough { 1 ≤ length self.old.values.items }
+        ensures { OnOk result (IsHeldFor 1 expr.now self.old self.new) }
+    {
+        self.drop_last(1);
+        self.hold_source(expr.copy()?)
     }
 
     /// Puts the operand at a place at hand; answers whether there is one.

@@ -9,11 +9,12 @@
 //!
 //! - `next` lends what the redex holds where it lies: the operands or arguments are the end of the
 //!   vector of values. It copies nothing and takes no memory.
-//! - `give`, `choose`, `local` and `enter` take off one frame at most with its values, put one part,
-//!   with one frame around it at most, and walk to the next redex. The walk goes from an operand to
-//!   the one after it and down the leftmost parts of what was put, at most as deep as a body nests. A
-//!   form that is entered moves into its frame, a value stays where it was put, and a part of a form
-//!   is a counted reference more.
+//! - `give`, `give_copy`, `keep`, `choose`, `local` and `enter` take off one frame at most with its
+//!   values, put one part, with one frame around it at most, and walk to the next redex. Where a value
+//!   is what is left of a frame, of a `let`, a `do` or a call, it stays where it lies; where a `do` goes
+//!   on to its next part, its frame does. The walk goes from an operand to the one after it and down
+//!   the leftmost parts of what was put, at most as deep as a body nests. A form that is entered moves
+//!   into its frame, a value stays where it was put, and a part of a form is a counted reference more.
 //! - Nothing that is put takes memory but where one of the two vectors is full: a `while`, `and` or
 //!   `or` whose test is at hand is a frame that stands for the `if` that it becomes, and a turn of a
 //!   loop one that stands for the `do` of the body and the loop. As the reduction says, each turn

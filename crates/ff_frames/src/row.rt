@@ -1,41 +1,28 @@
-ghost use Rattle.std.specs.Prelude.{◌≡◌, ◌<◌, List, None, IfOk, OnOk, drop, length};
+ghost use Rattle.std.specs.Prelude.{◌≡◌, ◌<◌, List, None, IfOk, OnOk, length};
 ghost use Rattle.ff_tree.specs.declared.tree.Expr.{out-Expr};
 ghost use Rattle.ff_value.specs.declared.ids.ActId.{ActId};
 ghost use Rattle.ff_value.specs.declared.value.Val.{Val as Value};
-ghost use Rattle.ff_term.specs.Running.{Do, Done, more, none};
+ghost use Rattle.ff_term.specs.Running.{Done};
 ghost use Rattle.ff_term.specs.Rows.{IsLocal, branch, local_row};
-ghost use Rattle.ff_term.specs.Whole.{layer, whole, wholes};
-ghost use Rattle.ff_frames.specs.Frames.{around, wrap};
-ghost use Rattle.ff_frames.specs.Heads.{with_values};
+ghost use Rattle.ff_term.specs.Whole.{layer};
+ghost use Rattle.ff_frames.specs.Frames.{around};
+ghost use Rattle.ff_frames.specs.Heads.{held};
 ghost use Rattle.ff_frames.specs.Seeking.{IsHeld, IsRow};
-ghost use Rattle.ff_frames.specs.Rewrites.{IsDo, IsEnding, IsIf, IsLocalOut, IsPutOn, IsRedex, IsRest, taken, test_of};
+ghost use Rattle.ff_frames.specs.Rewrites.{IsBegun, IsEnding, IsIf, IsPutOn, IsRest, IsTurned, test_of};
 
-use crate::frame::{Head, Taken};
+use crate::frame::Head;
 use crate::hand::Hand;
 use crate::source::Source;
 use ff_tree::{Expr, Exprs};
 use ff_value::{NoMemory, Val};
 
-/// Puts what stands for a redex that no store decides: a part at hand, and perhaps a frame around
-/// it. Nothing is at hand before.
-pub fn put_local(redex: Taken, heads: &mut Vec<Head>, hand: &mut Hand) -> Result<(), NoMemory>
-    requires redex { IsRedex redex }
-    requires local { IsLocalOut redex }
-    requires free { hand.old.form ≡ None }
-    ensures { OnOk result ((vs : List Value) → IsPutOn (λ a. local_row (taken vs redex a)) heads.old.items hand.old heads.new.items hand.new) }
-{
-    match redex {
-        Taken::Full(frame, value) => put_frame(frame, value, heads, hand),
-        Taken::Form(form) => put_form(form, heads, hand),
-    }
-}
-
-/// The same for a form: the test of the `if` that it becomes, or else `null`.
-fn put_form(form: Source, heads: &mut Vec<Head>, hand: &mut Hand) -> Result<(), NoMemory>
+/// Puts what stands for a form that is a redex which no store decides: the test of the `if` that it
+/// becomes, or else `null`. Nothing is at hand before.
+pub fn put_form(form: Source, heads: &mut Vec<Head>, hand: &mut Hand) -> Result<(), NoMemory>
     requires row { IsRow (out-Expr form) }
     requires local { IsLocal (layer (out-Expr form)) }
     requires free { hand.old.form ≡ None }
-    ensures { OnOk result (IsPutOn (λ a. local_row (layer (out-Expr form))) heads.old.items hand.old heads.new.items hand.new) }
+    ensures { OnOk result (IsPutOn (λ a. local_row (layer (out-Expr form))) heads.old.items hand.old.values.items heads.new.items hand.new) }
 {
     let held = hold_test(hand, form.get())?;
     if held {
@@ -60,71 +47,55 @@ fn hold_test(hand: &mut Hand, form: &Expr) -> Result<bool, NoMemory>
     }
 }
 
-/// Puts what stands for a value and the frame around it.
-fn put_frame(
-    frame: Head,
-    value: Val,
-    heads: &mut Vec<Head>,
-    hand: &mut Hand,
-) -> Result<(), NoMemory>
-    requires ending { IsEnding frame }
+/// Puts the next part of a `do` or of a loop at hand for the value there, with its frame; answers
+/// whether there is one. If not, nothing changes.
+pub fn turn(head: &mut Head, hand: &mut Hand) -> Result<bool, NoMemory>
+    requires ending { IsEnding head.old }
     requires free { hand.old.form ≡ None }
-    ensures { OnOk result ((vs : List Value) → IsPutOn (λ a. local_row (wrap (with_values frame vs) a (Done value))) heads.old.items hand.old heads.new.items hand.new) }
+    requires value { held head.old < length hand.old.values.items }
+    ensures { IfOk result (λ on. IsTurned head.old hand.old on head.new hand.new) }
 {
-    match frame {
-        Head::Part(form, _) => put_second(form.get(), value, heads, hand),
-        Head::Do(parts, at) => put_next(&parts, at, value, heads, hand),
-        Head::Loop(again) => put_again(again, heads, hand),
-        Head::Last => hand.hold_value(value),
-        Head::Inside(_) => hand.hold_value(value),
+    match head {
+        Head::Do(parts, at) => {
+            if *at < parts.len() {
+                hand.next_item(1, parts, *at)?;
+                *at += 1;
+                Ok(true)
+            } else {
+                Ok(false)
+            }
+        }
+        Head::Part(_, _) => turn_form(head, hand),
+        Head::Loop(again) => {
+            hand.next_copy(again)?;
+            *head = Head::Last;
+            Ok(true)
+        }
+        Head::Last | Head::Inside(_) => Ok(false),
     }
 }
 
-/// Puts a loop for a turn of it that is over.
-fn put_again(again: Source, heads: &mut Vec<Head>, hand: &mut Hand) -> Result<(), NoMemory>
-    requires { hand.old.form ≡ None }
-    ensures { OnOk result ((v : Value) → IsPutOn (λ a. local_row (Do (more (Done v) (more (whole again) none)))) heads.old.items hand.old heads.new.items hand.new) }
-{
-    hand.hold_source(again)?;
-    heads.push(Head::Last)?;
-    Ok(())
-}
-
-/// Puts what stands for the value of the first part of a form.
-fn put_second(
-    form: &Expr,
-    value: Val,
-    heads: &mut Vec<Head>,
-    hand: &mut Hand,
-) -> Result<(), NoMemory>
-    requires form { IsDo (out-Expr form.now) }
+/// The same of a form.
+fn turn_form(head: &mut Head, hand: &mut Hand) -> Result<bool, NoMemory>
+    requires begun { IsBegun head.old }
     requires free { hand.old.form ≡ None }
-    ensures { OnOk result ((vs : List Value) → IsPutOn (λ a. local_row (around (out-Expr form.now) vs (Done value))) heads.old.items hand.old heads.new.items hand.new) }
+    requires value { held head.old < length hand.old.values.items }
+    ensures { IfOk result (λ on. IsTurned head.old hand.old on head.new hand.new) }
 {
-    match form {
-        Expr::Do(parts) => put_next(parts, 1, value, heads, hand),
-        _ => hand.hold_value(value),
-    }
-}
-
-/// Puts the part of a `do` at a place for the one before, which is a value; past the last, the value.
-fn put_next(
-    parts: &Exprs,
-    at: usize,
-    value: Val,
-    heads: &mut Vec<Head>,
-    hand: &mut Hand,
-) -> Result<(), NoMemory>
-    requires { hand.old.form ≡ None }
-    ensures { OnOk result (IsPutOn (λ a. local_row (Do (more (Done value) (wholes (drop at parts.now))))) heads.old.items hand.old heads.new.items hand.new) }
-{
-    let there = hand.hold_item(parts, at)?;
-    if there {
-        let frame = rest_of(parts, at)?;
-        heads.push(frame)?;
-        Ok(())
-    } else {
-        hand.hold_value(value)
+    match head {
+        Head::Part(form, held) => match form.get() {
+            Expr::Do(parts) => {
+                if 1 < parts.len() {
+                    hand.next_item(*held + 1, parts, 1)?;
+                    *head = rest_of(parts, 1)?;
+                    Ok(true)
+                } else {
+                    Ok(false)
+                }
+            }
+            _ => Ok(false),
+        },
+        _ => unreachable!(),
     }
 }
 
@@ -150,7 +121,7 @@ pub fn put_branch(
 ) -> Result<(), NoMemory>
     requires test { IsIf (out-Expr form) }
     requires free { hand.old.form ≡ None }
-    ensures { OnOk result ((vs : List Value) (v : Value) → IsPutOn (λ a. branch yes (around (out-Expr form) vs (Done v))) heads.old.items hand.old heads.new.items hand.new) }
+    ensures { OnOk result ((vs : List Value) (v : Value) → IsPutOn (λ a. branch yes (around (out-Expr form) vs (Done v))) heads.old.items hand.old.values.items heads.new.items hand.new) }
 {
     match form.get() {
         Expr::If(_, left, right) => hand.hold_body(if yes { left } else { right }),

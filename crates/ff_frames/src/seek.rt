@@ -1,8 +1,9 @@
+ghost use Rattle.std.specs.List.{AllByRecursion};
 ghost use Rattle.std.specs.Prelude.{◌≡◌, ◌<◌, IfOk, OnOk, None, length};
 ghost use Rattle.ff_tree.specs.declared.tree.Expr.{out-Expr};
 ghost use Rattle.ff_frames.specs.declared.frame.Focus.TheVariants as focus;
 ghost use Rattle.ff_frames.specs.Frames.{shown};
-ghost use Rattle.ff_frames.specs.Heads.{IsEmptyHanded, IsLaid, at_hand, frames, held};
+ghost use Rattle.ff_frames.specs.Heads.{IsEmptyHanded, IsFit, IsLaid, at_hand, frames, held};
 ghost use Rattle.ff_frames.specs.Seeking.{IsFed, IsOpen, IsSettled, IsStep, IsThere};
 
 use crate::frame::Head;
@@ -33,7 +34,9 @@ fn fed(head: &mut Head, hand: &mut Hand) -> Result<bool, NoMemory>
 /// If not, the form is at hand.
 fn opened(heads: &mut Vec<Head>, hand: &mut Hand, form: Source) -> Result<bool, NoMemory>
     requires empty { IsEmptyHanded heads.old.items hand.old }
+    requires fit { AllByRecursion IsFit heads.old.items }
     requires open { IsOpen (out-Expr form) }
+    ensures fit { IfOk result (λ _. AllByRecursion IsFit heads.new.items) }
     ensures laid { IfOk result (λ _. IsLaid heads.new.items hand.new) }
     ensures step { IfOk result (λ on. IsStep (frames heads.old.items hand.old) (focus.Part form) on (frames heads.new.items hand.new) (at_hand heads.new.items hand.new)) }
 {
@@ -49,7 +52,9 @@ fn opened(heads: &mut Vec<Head>, hand: &mut Hand, form: Source) -> Result<bool, 
 /// One step towards the redex; answers whether one was left to make.
 fn step(heads: &mut Vec<Head>, hand: &mut Hand) -> Result<bool, NoMemory>
     requires laid { IsLaid heads.old.items hand.old }
+    requires fit { AllByRecursion IsFit heads.old.items }
     requires settled { IsSettled (at_hand heads.old.items hand.old) }
+    ensures fit { IfOk result (λ _. AllByRecursion IsFit heads.new.items) }
     ensures laid { IfOk result (λ _. IsLaid heads.new.items hand.new) }
     ensures step { IfOk result (λ on. IsStep (frames heads.old.items hand.old) (at_hand heads.old.items hand.old) on (frames heads.new.items hand.new) (at_hand heads.new.items hand.new)) }
 {
@@ -65,7 +70,9 @@ fn step(heads: &mut Vec<Head>, hand: &mut Hand) -> Result<bool, NoMemory>
 /// Walks from the part at hand to the redex.
 pub fn seek(heads: &mut Vec<Head>, hand: &mut Hand) -> Result<(), NoMemory>
     requires laid { IsLaid heads.old.items hand.old }
+    requires fit { AllByRecursion IsFit heads.old.items }
     requires settled { IsSettled (at_hand heads.old.items hand.old) }
+    ensures fit { OnOk result (AllByRecursion IsFit heads.new.items) }
     ensures laid { OnOk result (IsLaid heads.new.items hand.new) }
     ensures there { OnOk result (IsThere (frames heads.old.items hand.old) (shown (at_hand heads.old.items hand.old)) (frames heads.new.items hand.new) (at_hand heads.new.items hand.new)) }
 {

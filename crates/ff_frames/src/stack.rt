@@ -1,4 +1,5 @@
-ghost use Rattle.std.specs.Prelude.{ℕ, ◌≡◌, ◌≤◌, ◌<◌, ◌++◌, ◌∷◌, [], List, None, MatchOption, false, IfOk, OnOk};
+ghost use Rattle.std.specs.List.{AllByRecursion};
+ghost use Rattle.std.specs.Prelude.{ℕ, ◌≡◌, ◌≤◌, ◌<◌, ◌++◌, ◌∷◌, [], List, None, IsSome, MatchOption, false, IfOk, OnOk};
 ghost use Rattle.ff_tree.specs.declared.tree.Expr.{out-Expr};
 ghost use Rattle.ff_value.specs.declared.value.Val.{Val as Value};
 ghost use Rattle.ff_value.specs.declared.value.Val.TheVariants as val;
@@ -8,18 +9,19 @@ ghost use Rattle.ff_term.specs.Running.{Apply, none, more, Done, Inside, insides
 ghost use Rattle.ff_term.specs.Whole.{whole};
 ghost use Rattle.ff_frames.specs.declared.frame.Head.{Head};
 ghost use Rattle.ff_frames.specs.declared.frame.Head.TheVariants as head;
+ghost use Rattle.ff_frames.specs.Bindings.{IsBinding, bound};
 ghost use Rattle.ff_frames.specs.Frames.{around, is_call, shown};
-ghost use Rattle.ff_frames.specs.Heads.{IsEmptyHanded, with_values};
+ghost use Rattle.ff_frames.specs.Heads.{IsEmptyHanded, IsFit, IsTopBare, with_values};
 ghost use Rattle.ff_frames.specs.Lent.{named};
-ghost use Rattle.ff_frames.specs.Rewrites.{IsCallFrame, IsIf, IsRedex, IsTested, taken};
+ghost use Rattle.ff_frames.specs.Rewrites.{IsCallFrame, IsIf, IsTested};
 ghost use Rattle.ff_frames.specs.Seeking.{IsSettled};
-ghost use Rattle.ff_frames.specs.Stacks.{evaluation, with_part, out_of, IsCounted, IsValid, IsWithoutRedex};
+ghost use Rattle.ff_frames.specs.Stacks.{evaluation, focus_in, with_part, out_of, IsCounted, IsReady, IsRewritten, IsValid, IsWithoutRedex};
 
-use crate::frame::{Focus, Head, Taken};
+use crate::frame::{Focus, Head};
 use crate::hand::Hand;
 use crate::operand::focus_on_body;
 use crate::redex::{Redex, read_form, read_frame};
-use crate::row::{put_branch, put_local};
+use crate::row::{put_branch, put_form, turn};
 use crate::seek::seek;
 use crate::source::Source;
 use ff_shared::SharedList;
@@ -140,27 +142,6 @@ impl Stack {
         }
     }
 
-    /// Takes the redex out.
-    fn take_redex(&mut self) -> Taken
-        requires valid { IsValid self.old }
-        requires open { is_value (evaluation self.old).expr ≡ false }
-        ensures out { IsWithoutRedex self.old self.new }
-        ensures is { (vs : List Value) × (redex (evaluation self.old).expr ≡ taken vs result self.old.act) }
-        ensures redex { IsRedex result }
-    {
-        match self.hand.take_form() {
-            Some(form) => Taken::Form(form),
-            None => match self.heads.pop() {
-                None => unreachable!(),
-                Some(head) => {
-                    let value = self.hand.take_value(&head);
-                    self.go_out_of(&head);
-                    Taken::Full(head, value)
-                }
-            },
-        }
-    }
-
     /// Takes an `if` out whose test is evaluated, or a form that became one; gives the form.
     fn take_test(&mut self) -> Source
         requires valid { IsValid self.old }
@@ -197,16 +178,41 @@ impl Stack {
         }
     }
 
+    /// Takes the innermost frame off, which holds no value; the value at hand stays.
+    fn leave(&mut self)
+        requires valid { IsValid self.old }
+        requires open { is_value (evaluation self.old).expr ≡ false }
+        requires free { self.old.hand.form ≡ None }
+        requires bare { IsTopBare self.old.heads.items }
+        ensures framed { (rest : List Head) × (f : Head) × (self.old.heads.items ≡ rest ++ f ∷ []) }
+        ensures rewrites { IsRewritten (shown (focus_in self.old)) self.old self.new }
+    {
+        match self.heads.pop() {
+            None => unreachable!(),
+            Some(head) => self.go_out_of(&head),
+        }
+    }
+
+    /// Walks to the redex from the part at hand.
+    fn walk(&mut self) -> Result<(), NoMemory>
+        requires { IsReady self.old }
+        ensures same { OnOk result (evaluation self.new ≡ evaluation self.old) }
+        ensures valid { OnOk result (IsValid self.new) }
+    {
+        seek(&mut self.heads, &mut self.hand)
+    }
+
     /// Puts a part at hand, and walks to the redex from there.
     fn walk_from(&mut self, part: Focus) -> Result<(), NoMemory>
         requires empty { IsEmptyHanded self.old.heads.items self.old.hand }
+        requires fit { AllByRecursion IsFit self.old.heads.items }
         requires counted { IsCounted self.old }
         requires settled { IsSettled part }
         ensures same { OnOk result (evaluation self.new ≡ with_part self.old (shown part)) }
         ensures valid { OnOk result (IsValid self.new) }
     {
         self.hand.hold(part)?;
-        seek(&mut self.heads, &mut self.hand)
+        self.walk()
     }
 
     /// Puts a call that runs in an activation of its own for the redex.
@@ -233,7 +239,32 @@ impl Stack {
         ensures valid { OnOk result (IsValid self.new) }
     {
         self.drop_redex();
-        self.walk_from(Focus::Value(value))
+        self.hand.hold_value(value)?;
+        self.walk()
+    }
+
+    /// Puts a copy of a value for the redex.
+    pub fn give_copy(&mut self, value: &Val) -> Result<(), NoMemory>
+        requires valid { IsValid self.old }
+        requires open { is_value (evaluation self.old).expr ≡ false }
+        ensures rewrites { OnOk result (evaluation self.new ≡ rewritten_in (λ _. Done value.now) (evaluation self.old)) }
+        ensures valid { OnOk result (IsValid self.new) }
+    {
+        self.drop_redex();
+        self.hand.hold_copy(value)?;
+        self.walk()
+    }
+
+    /// Puts the value of a `let` or `set` for it.
+    pub fn keep(&mut self) -> Result<(), NoMemory>
+        requires valid { IsValid self.old }
+        requires open { is_value (evaluation self.old).expr ≡ false }
+        requires binding { IsBinding (redex (evaluation self.old).expr) }
+        ensures rewrites { OnOk result (evaluation self.new ≡ rewritten_in (λ _. bound (redex (evaluation self.old).expr)) (evaluation self.old)) }
+        ensures valid { OnOk result (IsValid self.new) }
+    {
+        self.leave();
+        self.walk()
     }
 
     /// Reduces a redex that no store decides.
@@ -244,9 +275,44 @@ impl Stack {
         ensures rewrites { OnOk result (evaluation self.new ≡ rewritten_in (λ _. local_row (redex (evaluation self.old).expr)) (evaluation self.old)) }
         ensures valid { OnOk result (IsValid self.new) }
     {
-        let redex = self.take_redex();
-        put_local(redex, &mut self.heads, &mut self.hand)?;
-        seek(&mut self.heads, &mut self.hand)
+        if self.hand.form.is_some() {
+            self.reduce_form()?;
+        } else {
+            self.reduce_frame()?;
+        }
+        self.walk()
+    }
+
+    /// Puts what stands for the form at hand.
+    fn reduce_form(&mut self) -> Result<(), NoMemory>
+        requires valid { IsValid self.old }
+        requires form { IsSome self.old.hand.form }
+        requires local { IsLocal (redex (evaluation self.old).expr) }
+        ensures { OnOk result (IsRewritten (local_row (redex (evaluation self.old).expr)) self.old self.new) }
+    {
+        match self.hand.take_form() {
+            None => unreachable!(),
+            Some(form) => put_form(form, &mut self.heads, &mut self.hand),
+        }
+    }
+
+    /// Puts what stands for the value at hand and the innermost frame.
+    fn reduce_frame(&mut self) -> Result<(), NoMemory>
+        requires valid { IsValid self.old }
+        requires open { is_value (evaluation self.old).expr ≡ false }
+        requires free { self.old.hand.form ≡ None }
+        requires local { IsLocal (redex (evaluation self.old).expr) }
+        ensures { OnOk result (IsRewritten (local_row (redex (evaluation self.old).expr)) self.old self.new) }
+    {
+        match self.heads.last_mut() {
+            None => unreachable!(),
+            Some(head) => {
+                if !turn(head, &mut self.hand)? {
+                    self.leave()
+                }
+                Ok(())
+            }
+        }
     }
 
     /// Takes a branch of an `if` whose test is evaluated.
@@ -259,7 +325,7 @@ impl Stack {
     {
         let form = self.take_test();
         put_branch(form, yes, &mut self.heads, &mut self.hand)?;
-        seek(&mut self.heads, &mut self.hand)
+        self.walk()
     }
 
     /// The innermost frame, or `None` where nothing stands around the part at hand.

@@ -17,9 +17,9 @@ use Rattle.ff_machine.specs.declared.records.Dst.TheVariants as dst
 use Rattle.ff_machine.specs.declared.records.Shape.{Shape}
 use Rattle.ff_machine.specs.declared.records.Shape.TheVariants as shape
 use Rattle.ff_machine.specs.Nodes as nodes
-use Rattle.ff_machine.specs.Nodes.{Node, node_at, joined}
+use Rattle.ff_machine.specs.Nodes.{Node, node_at}
 use Rattle.ff_machine.specs.Windows as windows
-use Rattle.ff_machine.specs.Windows.{Windows, Page, page_at, is_live}
+use Rattle.ff_machine.specs.Windows.{Windows, Page, page_at}
 use Rattle.ff_machine.specs.Stores as stores
 use Rattle.ff_machine.specs.Stores.{Stores}
 use Rattle.ff_machine.specs.References.{Grows, made}

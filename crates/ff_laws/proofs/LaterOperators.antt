@@ -35,7 +35,7 @@ use Rattle.ff_machine.specs.Net as net
 use Rattle.ff_machine.specs.Stores as stores
 use Rattle.ff_machine.specs.Stores.{Stores}
 use Rattle.ff_machine.specs.Operators as operators
-use Rattle.ff_machine.specs.Operators.{Did, Outcome, operate, unless, does, does_or_limit, with_mass}
+use Rattle.ff_machine.specs.Operators.{Outcome, operate, unless, does, does_or_limit, with_mass}
 use Rattle.ff_laws.specs.Later.{AreLater}
 use Rattle.ff_laws.proofs.LaterWindows as windows_later
 use Rattle.ff_laws.proofs.Later.{unchanged, both, MaybeLater, node_set, sent, send, go}

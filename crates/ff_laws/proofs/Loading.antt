@@ -18,7 +18,7 @@ use Rattle.ff_machine.specs.declared.limits.TheConstants.{MOST_WINDOWS}
 use Rattle.ff_machine.specs.declared.records.Dst.TheVariants as dst
 use Rattle.ff_machine.specs.Nodes as nodes
 use Rattle.ff_machine.specs.Windows as windows
-use Rattle.ff_machine.specs.Windows.{Window, Page, no_window, no_page, nth_window, nth_page, window_at}
+use Rattle.ff_machine.specs.Windows.{Window, Page, no_window, nth_page, window_at}
 use Rattle.ff_machine.specs.Stores as stores
 use Rattle.ff_machine.specs.Stores.{Stores}
 use Rattle.ff_machine.specs.Alone.{IsWindow, AreOpen}

@@ -9,7 +9,7 @@ use Rattle.ff_machine.specs.declared.records.Shape.{Shape}
 use Rattle.ff_machine.specs.declared.records.Shape.TheVariants as shape
 use Rattle.ff_machine.specs.Shapes.{page_of, is_started, with_text, as_started}
 use Rattle.ff_machine.specs.Nodes as nodes
-use Rattle.ff_machine.specs.Nodes.{Node, no_node, node_at, children, parent, depth, depth_within, at_parent, set_node, handler_fault}
+use Rattle.ff_machine.specs.Nodes.{Node, no_node, node_at, children, parent, set_node}
 use Rattle.ff_machine.specs.Windows.{Page, nth_page}
 use Rattle.ff_machine.specs.Stores.{Stores}
 use Rattle.ff_machine.specs.Alone.{IsNode}

@@ -22,14 +22,14 @@ use Rattle.ff_value.specs.declared.value.Val.TheVariants as val
 use Rattle.ff_machine.specs.declared.records.Dst.TheVariants as dst
 use Rattle.ff_machine.specs.Shapes.{kind_of, text_of}
 use Rattle.ff_machine.specs.Nodes as nodes
-use Rattle.ff_machine.specs.Nodes.{Node, no_node, node_at, children, walk_within, Walk}
+use Rattle.ff_machine.specs.Nodes.{Node, no_node, node_at, children, Walk}
 use Rattle.ff_machine.specs.Windows as windows
 use Rattle.ff_machine.specs.Windows.{Page, Window, no_page, no_window, page_at, window_at, is_open}
 use Rattle.ff_machine.specs.Net as net
 use Rattle.ff_machine.specs.Stores as stores
 use Rattle.ff_machine.specs.Stores.{Stores}
 use Rattle.ff_machine.specs.Operators as operators
-use Rattle.ff_machine.specs.Operators.{Outcome, operate, unless, does, does_or_limit}
+use Rattle.ff_machine.specs.Operators.{operate, does_or_limit}
 use Rattle.ff_machine.specs.Alone.{IsShape, IsPage, IsWindow}
 use Rattle.ff_machine.specs.References.{made, PageRefers}
 use Rattle.ff_machine.specs.Valid.{IsCode, IsVal, IsStores}

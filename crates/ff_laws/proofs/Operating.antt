@@ -21,7 +21,7 @@ use Rattle.ff_operators.specs.Operands.{with_operands, no_operands, one_str, two
 use Rattle.ff_machine.specs.Stores.{Stores}
 use Rattle.ff_machine.specs.Windows.{is_open}
 use Rattle.ff_machine.specs.Operators as operators
-use Rattle.ff_machine.specs.Operators.{Outcome, unless, does, does_or_limit, with_mass, gives}
+use Rattle.ff_machine.specs.Operators.{Outcome, unless, does_or_limit, with_mass, gives}
 use Rattle.ff_machine.specs.References.{made}
 use Rattle.ff_machine.specs.Valid.{IsCode, IsVal, IsStores}
 use Rattle.ff_laws.specs.Keeps.{Keeps, KeepsIfMade}

@@ -23,7 +23,7 @@ use Rattle.ff_machine.specs.Nodes as nodes
 use Rattle.ff_machine.specs.Nodes.{Node, no_node, node_at}
 use Rattle.ff_machine.specs.Documents.{Laid, numbers, lay_all, laid}
 use Rattle.ff_machine.specs.Windows as windows
-use Rattle.ff_machine.specs.Windows.{Windows, Window, Page, Activation, no_page, no_act, nth_page, new_page, act_at}
+use Rattle.ff_machine.specs.Windows.{Window, Page, no_page, no_act, nth_page, new_page}
 use Rattle.ff_machine.specs.Stores as stores
 use Rattle.ff_machine.specs.Stores.{Stores}
 use Rattle.ff_machine.specs.Alone.{IsWindow, AreOpen, AreOwn}

@@ -17,7 +17,7 @@ use Rattle.ff_machine.specs.Shapes.{text_of}
 use Rattle.ff_machine.specs.Nodes.{Node, Walk}
 use Rattle.ff_machine.specs.Net as net
 use Rattle.ff_machine.specs.Operators as operators
-use Rattle.ff_machine.specs.Operators.{Outcome, operate, unless, does, does_or_limit}
+use Rattle.ff_machine.specs.Operators.{does}
 use Rattle.ff_machine.specs.Alone.{IsShape, AreTrees}
 
 -- the domain of a well spelled address is one

@@ -6,7 +6,7 @@ use Rattle.ff_tree.specs.Spelled.{IsWellSpelledExpr}
 use Rattle.ff_value.specs.declared.ids.PageId.{PageId}
 use Rattle.ff_value.specs.declared.ids.WinId.{WinId}
 use Rattle.ff_machine.specs.Windows as windows
-use Rattle.ff_machine.specs.Windows.{Page, page_at, is_slot, fill_entry, is_win}
+use Rattle.ff_machine.specs.Windows.{page_at, fill_entry}
 use Rattle.ff_machine.specs.Stores as stores
 use Rattle.ff_machine.specs.Stores.{Stores}
 use Rattle.ff_machine.specs.Alone.{IsQueue}

@@ -27,7 +27,7 @@ use Rattle.ff_machine.specs.declared.records.Shape.{Shape}
 use Rattle.ff_machine.specs.declared.records.Shape.TheVariants as shape
 use Rattle.ff_machine.specs.Shapes.{is_started, is_unstarted, as_started}
 use Rattle.ff_machine.specs.Nodes as nodes
-use Rattle.ff_machine.specs.Nodes.{Node, no_node, node_at, set_node, Walk}
+use Rattle.ff_machine.specs.Nodes.{Node, no_node, node_at, Walk}
 use Rattle.ff_machine.specs.Windows.{Page, no_page, page_at}
 use Rattle.ff_machine.specs.Stores as stores
 use Rattle.ff_machine.specs.Stores.{Stores}

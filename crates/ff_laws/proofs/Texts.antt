@@ -8,7 +8,7 @@ use Rattle.ff_value.specs.declared.value.Code.{Code}
 use Rattle.ff_machine.specs.Faults.{limit_unless, first_fault}
 use Rattle.ff_machine.specs.Shapes.{with_text}
 use Rattle.ff_machine.specs.Nodes as nodes
-use Rattle.ff_machine.specs.Nodes.{Node, no_node, node_at, handler_fault}
+use Rattle.ff_machine.specs.Nodes.{no_node, node_at, handler_fault}
 use Rattle.ff_machine.specs.Stores as stores
 use Rattle.ff_machine.specs.Stores.{Stores, may_weigh}
 use Rattle.ff_machine.specs.Alone.{IsNode}

@@ -14,7 +14,6 @@ use Rattle.ff_value.specs.declared.ids.ActId.{ActId}
 use Rattle.ff_value.specs.declared.value.Val.{Val}
 use Rattle.ff_value.specs.Spelled.{IsWellSpelledVal}
 use Rattle.ff_machine.specs.declared.limits.TheConstants.{MOST_ACTS, MOST_VARS}
-use Rattle.ff_machine.specs.Faults.{limit_unless}
 use Rattle.ff_machine.specs.Windows.{Activation, Vars, act_at, vars_of, no_act, set_var, may_declare, declare_fault, count_vars, holder_within, holder, assigned, with_act, call_fault}
 use Rattle.ff_machine.specs.Alone.{IsAct, AreActs}
 use Rattle.ff_machine.proofs.Changes.{within}

@@ -36,7 +36,7 @@ use Rattle.ff_machine.specs.Windows.{is_open, is_win, page_at, window_at, no_pag
 use Rattle.ff_machine.specs.Stores as stores
 use Rattle.ff_machine.specs.Stores.{Stores}
 use Rattle.ff_machine.specs.Operators as operators
-use Rattle.ff_machine.specs.Operators.{Outcome, operate, gives, does, does_or_limit, becomes, unless, with_mass, or_null, if_open, at_url, page_domain, item_at}
+use Rattle.ff_machine.specs.Operators.{Outcome, operate, gives, does, does_or_limit, becomes, unless, with_mass, or_null, if_open, at_url, page_domain}
 use Rattle.ff_machine.specs.Alone.{IsShape}
 use Rattle.ff_machine.specs.References.{made as made_of}
 use Rattle.ff_machine.specs.Valid.{IsVal, IsStores, GivesVal}

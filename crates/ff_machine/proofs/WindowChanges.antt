@@ -17,7 +17,7 @@ use Rattle.ff_value.specs.declared.ids.WinId.{WinId}
 use Rattle.ff_machine.specs.declared.limits.TheConstants.{MOST_WINDOWS, MOST_PAGES, MOST_ACTS, MOST_ENTRIES, MOST_SLOTS}
 use Rattle.ff_machine.specs.declared.records.Entry.{Entry}
 use Rattle.ff_machine.specs.Windows as windows
-use Rattle.ff_machine.specs.Windows.{Windows, Window, Page, Activation, no_window, no_page, no_act, nth_window, nth_page, window_at, page_at, new_page, is_win, is_slot, fill_entry}
+use Rattle.ff_machine.specs.Windows.{Windows, Window, Page, Activation, no_window, no_page, no_act, nth_window, nth_page, window_at, page_at, new_page, is_win}
 use Rattle.ff_machine.specs.Alone.{IsWindow, IsPage, IsQueue, AreOpen, AreOwn, AreActs, AreWindows}
 use Rattle.ff_machine.proofs.Lists.{at_set}
 use Rattle.ff_machine.proofs.Queues.{no_queue}

@@ -69,11 +69,6 @@ abbrev pub Reduces : {E : Type 0} → Reduction → Result Reduced E → Evaluat
 Reduces r (Ok a) t s puts puts' = (a ≡ r.answer) × (t ≡ r.running) × (s ≡ r.after) × (puts' ≡ puts ++ r.outputs)
 Reduces r (Err e) t s puts puts' = AppendsFront puts puts' r.outputs
 
--- the same of a reduction that puts nothing
-abbrev pub Turned : {E : Type 0} → Reduction → Result Reduced E → Evaluation → Stores → Type 0
-Turned r (Ok a) t s = (a ≡ r.answer) × (t ≡ r.running) × (s ≡ r.after) × (r.outputs ≡ [])
-Turned r (Err e) t s = r.outputs ≡ []
-
 -- a call that puts the value that a row gave for the redex, or hands on why the row gave none
 abbrev pub Finishes : {E : Type 0} → Evaluation → Result Val Fail → Result Reduced E → Evaluation → Type 0
 Finishes t (Ok v) (Ok a) t' = (a ≡ answer.Moved) × (t' ≡ rewritten_in (λ _. Done v) t)

@@ -29,7 +29,7 @@ use Rattle.ff_machine.specs.Windows as windows
 use Rattle.ff_machine.specs.Windows.{is_open, page_at, window_at}
 use Rattle.ff_machine.specs.Net as net
 use Rattle.ff_machine.specs.Stores as stores
-use Rattle.ff_machine.specs.Stores.{Stores, may_weigh, weighed}
+use Rattle.ff_machine.specs.Stores.{Stores}
 
 -- what an operator does: a value, the stores after it, and its outputs
 pub record Did : Type 0 where

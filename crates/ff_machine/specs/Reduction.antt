@@ -16,7 +16,7 @@ use Rattle.ff_machine.specs.Nodes as nodes
 use Rattle.ff_machine.specs.Documents as documents
 use Rattle.ff_machine.specs.Windows as windows
 use Rattle.ff_machine.specs.Stores.{Stores, may_weigh, nothing}
-use Rattle.ff_term.specs.Running.{Running, Runnings, Done, Var, Let, Set, If, While, Do, And, Or, Make, Apply, Tree, Prim, Inside, Evaluation, none, more, rewritten_in, innermost, value_of}
+use Rattle.ff_term.specs.Running.{Running, Done, Var, Let, Set, Make, Apply, Tree, Prim, Inside, Evaluation, more, rewritten_in, innermost, value_of}
 use Rattle.ff_term.specs.Running as term
 use Rattle.ff_term.specs.declared.TheConstants.{MOST_CALLS}
 use Rattle.ff_term.specs.Calls.{calls_around}

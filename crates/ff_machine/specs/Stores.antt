@@ -31,7 +31,7 @@ use Rattle.ff_machine.specs.Nodes as nodes
 use Rattle.ff_machine.specs.Nodes.{Node, node_at, page_root_of}
 use Rattle.ff_machine.specs.Documents as documents
 use Rattle.ff_machine.specs.Windows as windows
-use Rattle.ff_machine.specs.Windows.{Windows, is_live, is_open, page_at, window_at}
+use Rattle.ff_machine.specs.Windows.{Windows, is_live, page_at, window_at}
 use Rattle.ff_machine.specs.Net as net
 use Rattle.ff_machine.specs.Net.{Jar, Requests}
 

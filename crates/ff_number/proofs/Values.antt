@@ -1,5 +1,5 @@
 -- The number that bytes spell is the one whose text they are.
-use Rattle.std.proofs.Common.{◌≡◌, ◌<◌, ◌^◌, ◌↔◌, ◌==◌, ◌&&◌, ℕ, ℤ, pos, neg_ℤ, negsuc, suc, Bool, true, false, List, [], ◌∷◌, arith, refl, sym, ap, ◌∙◌, Option, Some, None, IfSome, FitsSigned, bytes_eq, cond}
+use Rattle.std.proofs.Common.{◌≡◌, ◌↔◌, ◌==◌, ◌&&◌, ℕ, ℤ, pos, neg_ℤ, negsuc, suc, Bool, true, false, List, [], ◌∷◌, arith, refl, sym, ap, ◌∙◌, Option, Some, None, IfSome, FitsSigned, bytes_eq, cond}
 use Rattle.std.specs.Int.{w64}
 use Rattle.std.specs.List.{list_all}
 use Rattle.std.specs.Char.{is_ascii_digit}

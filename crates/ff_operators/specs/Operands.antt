@@ -1,5 +1,5 @@
 -- The operands of operators: those of the kinds, from left to right, that a name says.
-use Rattle.std.specs.Prelude.{ℕ, ℤ, Bool, Option, Some, None, Result, Ok, Err, List, [], ◌∷◌}
+use Rattle.std.specs.Prelude.{ℕ, ℤ, Bool, Option, Some, None, Result, Err, List, [], ◌∷◌}
 use Rattle.ff_value.specs.declared.fault.Fault.{Fault}
 use Rattle.ff_value.specs.declared.fault.Fault.TheVariants as fault
 use Rattle.ff_value.specs.declared.ids.WinId.{WinId}

@@ -1,5 +1,5 @@
 -- The pairs of different levels give back the order that they come from.
-use Rattle.std.proofs.Common.{◌≡◌, ◌≢◌, ◌⊎◌, inl, inr, ℕ, zero, suc, ◌<◌, ◌≤◌, ◌↔◌, Bool, true, false, cond, not, ◌&&◌, ◌==◌, List, [], ◌∷◌, ◌++◌, length, get_or, flat_map, All, refl, sym, ap, subst, ◌∙◌, arith}
+use Rattle.std.proofs.Common.{◌≡◌, ◌≢◌, ◌⊎◌, inl, inr, ℕ, zero, suc, ◌<◌, ◌↔◌, Bool, true, false, cond, not, ◌==◌, List, [], ◌∷◌, ◌++◌, length, get_or, flat_map, All, refl, sym, ap, subst, ◌∙◌, arith}
 use Rattle.std.proofs.lemmas.Bool.{and_parts, and_from, cases_eq, cases_lt}
 use Rattle.std.proofs.lemmas.Bool.Decides.{nat_tests}
 use Rattle.std.proofs.lemmas.List.Elements.{All-nil, All-cons, All-push, All-weaker, All-append, All-head, All-tail, All-get_or}
@@ -7,7 +7,7 @@ use Rattle.ff_lattice.specs.declared.pair.Pair.{Pair}
 use Rattle.ff_lattice.specs.Bounds.{Chain}
 use Rattle.ff_lattice.specs.Bounds.Chain.{here, step}
 use Rattle.ff_lattice.specs.LevelSet.{below}
-use Rattle.ff_lattice.specs.Levels.{nth, pair_at, IsGiven, Reaches, IsKnown, AreLevels, IsLatticeOf}
+use Rattle.ff_lattice.specs.Levels.{pair_at, IsGiven, Reaches, IsKnown, AreLevels, IsLatticeOf}
 use Rattle.ff_lattice.specs.Order.{Order, size, leq, name, AtOrBelow, IsOrder}
 use Rattle.ff_lattice.proofs.Orders.{IsLattice-agree}
 use Rattle.ff_policy.specs.Printing.{is_under, pair_if, pairs_from, pairs_in}

@@ -1,10 +1,10 @@
 -- What is printed of a policy is read back as that policy.
-use Rattle.std.proofs.Common.{◌≡◌, ℕ, zero, suc, ◌<◌, ◌≤◌, ◌+◌, ◌^◌, max, ◌||◌, false, List, [], ◌∷◌, ◌++◌, length, get_or, map, codes, Option, Some, None, option_map, option_and_then, Result, Ok, Err, IsUtf8, rules, refl, sym, ap, subst, ◌∙◌, arith}
+use Rattle.std.proofs.Common.{◌≡◌, ℕ, suc, ◌<◌, ◌≤◌, ◌+◌, max, ◌||◌, false, List, [], ◌∷◌, ◌++◌, length, map, codes, Option, Some, option_map, Result, Ok, IsUtf8, rules, refl, sym, ap, subst, ◌∙◌, arith}
 use Rattle.std.specs.Option.{ok_or}
 use Rattle.std.proofs.lemmas.Str.{IsUtf8-append}
 use Rattle.json.specs.Tree.{HasNumbers, ItemsHaveNumbers, MembersHaveNumbers}
 use Rattle.json.proofs.Printed.Decimals.{IsNumber-decimal}
-use Rattle.serde_json.specs.Data.{Data, number, string, array, object, unsigned, Items, no_items, item, Members, no_members, member, depth, items_depth, members_depth}
+use Rattle.serde_json.specs.Data.{Data, string, depth, items_depth, members_depth}
 use Rattle.serde_json.specs.Read.{read, max_depth}
 use Rattle.serde_json.specs.View.{items_of}
 use Rattle.serde_json.specs.Written.{outline, items_outline, members_outline, has_float, items_have_float, members_have_float, compact_text}
@@ -17,12 +17,12 @@ use Rattle.ff_policy.specs.declared.fault.PolicyFault.{PolicyFault}
 use Rattle.ff_policy.specs.declared.fault.PolicyFault.TheVariants.{UnknownLevel, BadShape}
 use Rattle.ff_policy.specs.declared.limits.TheConstants.{MOST_FUEL, MOST_POLICY_BYTES}
 use Rattle.ff_policy.specs.declared.version.Version.TheVariants.{Two}
-use Rattle.ff_policy.specs.Assignment.{KindLevels, Kinds, Key, Assignment, key_at, AreKeys, IsWithin, IsAssignment}
+use Rattle.ff_policy.specs.Assignment.{KindLevels, Key, Assignment, key_at, IsWithin, IsAssignment}
 use Rattle.ff_policy.specs.Members.{Named, NamedKind, Plan, ◌>>=◌, texts, texts_of, pairs, pairs_of, named, named_of, required, optional, in_kinds, known, shaped, plan_of, plan_in}
 use Rattle.ff_policy.specs.Naming.{numbered, level_at, keys_named, levels_or_bottom, kinds_named, assigned}
 use Rattle.ff_policy.specs.Printing.{pairs_in, pair_data, pairs_data, keys_data, kind_data, kinds_data, data_of, printed}
 use Rattle.ff_policy.specs.Reading as reading
-use Rattle.ff_policy.specs.Reading.{IsValueOf, whole, lattice, planned, valued, IsPolicyOf}
+use Rattle.ff_policy.specs.Reading.{whole, lattice, planned, valued, IsPolicyOf}
 use Rattle.ff_policy.proofs.Given.{lattice_again}
 use Rattle.ff_policy.proofs.Newlines.{same_value}
 

@@ -1,8 +1,7 @@
 -- The parts of a pool as a world of copies: what each change of the parts makes of the world.
-use Rattle.std.proofs.Common.{◌≡◌, ◌≢◌, ℕ, ◌+◌, ◌<◌, ◌≤◌, Bool, true, false, cond, not, ◌==◌, ◌||◌, Option, List, [], ◌∷◌, ◌++◌, length, All, get_or, set, refl, sym, ap, ap₂, subst, ◌∙◌, arith, length-set, get_or-set_same, get_or-set_other}
-use Rattle.std.proofs.lemmas.Bool.{eqb-true, eqb-false, eq-eqb}
+use Rattle.std.proofs.Common.{◌≡◌, ℕ, ◌+◌, ◌<◌, ◌≤◌, Bool, true, false, cond, ◌==◌, Option, List, [], ◌++◌, length, All, get_or, set, refl, sym, ap, ap₂, subst, ◌∙◌, arith, length-set, get_or-set_same, get_or-set_other}
+use Rattle.std.proofs.lemmas.Bool.{eqb-true, eqb-false}
 use Rattle.std.proofs.lemmas.List.{get_or_default}
-use Rattle.std.specs.List.{cons_option}
 use Rattle.ff_lattice.specs.declared.names.TheConstants.{MOST_LEVELS}
 use Rattle.ff_value.specs.Spelled.{IsWellSpelledInput}
 use Rattle.ff_value.specs.declared.input.Input.{Input}
@@ -11,7 +10,7 @@ use Rattle.ff_machine.specs.State.{State}
 use Rattle.ff_machine.specs.Valid.{IsState}
 use Rattle.ff_machine.specs.Machine.{reactor}
 use Rattle.ff_core.proofs.Keeping.{keeps, fuelled}
-use Rattle.ff_reactive.specs.Worlds.{Copy, World, leader, offer, each, levels, copy_at, step_copy, offered, emptied, has_work, works, step_turns, keep_together, new_leader, split, new_world, world_arrive, world_turn, world_take, Ends, IsCopy, AreLeaders, IsWorld, AreOffers}
+use Rattle.ff_reactive.specs.Worlds.{Copy, leader, offer, each, copy_at, step_copy, offered, emptied, has_work, step_turns, new_leader, split, new_world, world_arrive, world_turn, world_take, Ends, AreOffers}
 use Rattle.ff_reactive.proofs.Below.{length-each, get_or-each, each_agree}
 use Rattle.ff_reactive.proofs.Finishing.{ends_by_fuel}
 use Rattle.ff_reactive.proofs.Classes.{together_parts, new_leader_within, new_leader_together, new_leader_itself, leader-split, length-split}

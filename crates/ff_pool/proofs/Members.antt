@@ -1,5 +1,5 @@
 -- The levels of a class, level by level.
-use Rattle.std.proofs.Common.{◌≡◌, ◌≢◌, ℕ, ◌+◌, ◌<◌, ◌≤◌, Bool, true, false, ◌==◌, ◌&&◌, ◌||◌, List, [], length, refl, sym, ap, ap₂, ◌∙◌, arith, ltb, eqb, ◌⊎◌, inl, inr}
+use Rattle.std.proofs.Common.{◌≡◌, ℕ, ◌+◌, ◌<◌, Bool, true, false, ◌==◌, ◌&&◌, ◌||◌, List, [], length, refl, sym, ap, ap₂, ◌∙◌, arith, ltb, eqb, ◌⊎◌, inl, inr}
 use Rattle.std.proofs.lemmas.Bool.{cases_order, eqb-true, lt-ltb, le-ltb, eq-eqb, ne_eqb}
 use Rattle.ff_lattice.specs.LevelSet.{has, levels_where}
 use Rattle.ff_lattice.proofs.LevelSets.{levels_same, has_in_range, levels_where_none}

@@ -1,11 +1,10 @@
 -- How classes part, level by level.
-use Rattle.std.proofs.Common.{◌≡◌, ℕ, ◌+◌, ◌<◌, ◌≤◌, Bool, true, false, Option, List, [], ◌∷◌, ◌++◌, length, refl, sym, ap, ◌∙◌, arith}
+use Rattle.std.proofs.Common.{◌≡◌, ℕ, ◌+◌, ◌<◌, ◌≤◌, Bool, true, false, Option, List, [], ◌∷◌, ◌++◌, length, sym, ap, ◌∙◌}
 use Rattle.std.specs.Prelude.{IsTrue, ◌↔◌}
-use Rattle.std.specs.Bool.{Decides}
 use Rattle.ff_shared.specs.Content.{same_content-Decides, same_content-is}
 use Rattle.ff_value.specs.declared.input.Input.{Input}
 use Rattle.ff_value.specs.contracts.input.Input as input
-use Rattle.ff_reactive.specs.Worlds.{leader, offer, keep_together, new_leader, split, each}
+use Rattle.ff_reactive.specs.Worlds.{keep_together, new_leader, split, each}
 use Rattle.ff_reactive.proofs.Below.{each_more, first_is}
 use Rattle.ff_reactive.proofs.Classes.{IsSame}
 use Rattle.ff_pool.specs.Heads.{same_input}

@@ -1,13 +1,11 @@
 -- What is read of a pool's parts, as slices, is what is seen of the pool.
-use Rattle.std.proofs.Common.{◌≡◌, ℕ, ◌+◌, ◌<◌, ◌≤◌, Bool, true, false, Option, List, [], length, All, get_or, set, refl, sym, ap, subst, ◌∙◌, arith}
+use Rattle.std.proofs.Common.{◌≡◌, ℕ, ◌<◌, Bool, false, Option, List, length, All, get_or, set, sym, ap, subst, ◌∙◌}
 use Rattle.ff_value.specs.Spelled.{IsWellSpelledInput}
 use Rattle.ff_value.specs.declared.input.Input.{Input}
 use Rattle.ff_value.specs.declared.output.Out.{Out}
-use Rattle.ff_machine.specs.Machine.{reactor}
-use Rattle.ff_reactive.specs.Worlds.{leader, split, AreOffers, world_turn}
+use Rattle.ff_reactive.specs.Worlds.{leader, split}
 use Rattle.ff_reactive.proofs.Classes.{length-split}
-use Rattle.ff_pool.specs.Heads.{Head, HasArrived, same_input, new_head, head_at, step_of, step_head, head_turns, head_works, given, gathered, IsKept}
-use Rattle.ff_pool.specs.Pooled as pooled
+use Rattle.ff_pool.specs.Heads.{Head, HasArrived, same_input, new_head, head_at, step_of, step_head, head_turns, head_works, given, IsKept}
 use Rattle.ff_pool.specs.Pooled.{Pooled, seen, size, has_work, step_turns, arrived, turned, AreOffersTo}
 use Rattle.ff_pool.proofs.Parting.{same_input_decides}
 use Rattle.ff_pool.proofs.Gathering.{head_default, spelled_at, work_at, turns_at, gathered-turn, kept-turn, gathered-arrive, kept-arrive}

@@ -1,5 +1,5 @@
 -- A pool on its way to rest.
-use Rattle.std.specs.Prelude.{◌≡◌, ◌+◌, ◌<◌, ℕ, false}
+use Rattle.std.specs.Prelude.{◌≡◌, ◌+◌, ℕ, false}
 use Rattle.ff_machine.specs.Machine.{reactor}
 use Rattle.ff_reactive.specs.Worlds.{world_steps}
 use Rattle.ff_pool.specs.Pooled.{Pooled, size, drained, left, IsPool}

@@ -1,6 +1,6 @@
 -- The parts of a pool: a browser and an inbox for each class, the outputs of each level, and which
 -- level leads which class; and the world of copies that these are.
-use Rattle.std.specs.Prelude.{◌≡◌, ◌<◌, ◌≤◌, ℕ, false, Option, List, [], length, slice_index_or, refl}
+use Rattle.std.specs.Prelude.{◌≡◌, ◌<◌, ◌≤◌, ℕ, Option, List, [], length, slice_index_or, refl}
 use Rattle.std.specs.List.{cons_option}
 use Rattle.std.specs.Prelude.{◌++◌, ◌+◌, ◌==◌, ◌&&◌, nat_lt, Bool, cond}
 use Rattle.std.specs.Coded.{Coded, code_by, coded×, coded_list}

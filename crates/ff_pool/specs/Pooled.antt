@@ -1,5 +1,5 @@
 -- What clauses see of a pool, and what its calls make of it.
-use Rattle.std.specs.Prelude.{◌≡◌, ◌+◌, ◌<◌, ℕ, Bool, true, false, Option, List, refl, map}
+use Rattle.std.specs.Prelude.{◌+◌, ℕ, Bool, false, Option, List, refl}
 use Rattle.std.specs.Coded.{Coded, code_by, coded×, coded_ℕ, coded_bool, coded_list}
 use Rattle.ff_value.specs.Spelled.{IsWellSpelledInput}
 use Rattle.ff_value.specs.declared.input.Input.{Input}
@@ -10,7 +10,7 @@ use Rattle.ff_machine.specs.State.{State}
 use Rattle.ff_machine.specs.Machine.{reactor}
 use Rattle.ff_core.specs.contracts.browser.Browser as browser
 use Rattle.ff_reactive.specs.Worlds as worlds
-use Rattle.ff_reactive.specs.Worlds.{Copy, World, Event, leader, new_world, world_arrive, world_turn, world_take, world_drain, world_left, play_events, AreOffers, EventOk}
+use Rattle.ff_reactive.specs.Worlds.{Copy, World, Event, new_world, world_arrive, world_turn, world_take, world_drain, world_left, play_events, AreOffers}
 use Rattle.ff_pool.specs.Heads.{Head, same_input, gathered, IsWorldOf}
 
 -- a pool: the fuel that each input brings, whether a call found no memory, and the copies of all

@@ -1,8 +1,8 @@
 -- The numbers below n, and lists with an entry for each of them.
-use Rattle.std.proofs.Common.{◌≡◌, ℕ, zero, suc, ◌+◌, ◌<◌, ◌≤◌, Bool, true, false, not, ◌&&◌, List, [], ◌∷◌, ◌++◌, length, map, get_or, refl, sym, ap, ap₂, ◌∙◌, arith, ◌⊎◌, inl, inr, add-one, append-nil, cond}
+use Rattle.std.proofs.Common.{◌≡◌, ℕ, zero, suc, ◌+◌, ◌<◌, ◌≤◌, Bool, true, false, not, ◌&&◌, List, [], ◌∷◌, ◌++◌, length, get_or, refl, sym, ap, ap₂, ◌∙◌, arith, ◌⊎◌, inl, inr, add-one}
 use Rattle.std.specs.List.{position_or_len, sum_by, list_all}
-use Rattle.std.proofs.lemmas.Bool.{cases_lt, cases_eq, not_from_false, not_from_true}
-use Rattle.std.proofs.lemmas.List.{length_push, get_or_push, get_or_append_left, same_lists, length-map, get_or-map, map_push, map-append}
+use Rattle.std.proofs.lemmas.Bool.{cases_lt, cases_eq}
+use Rattle.std.proofs.lemmas.List.{length_push, get_or_push, get_or_append_left, same_lists, length-map, get_or-map, map-append}
 use Rattle.std.proofs.lemmas.List.Sums.{position_or_len_is, fails_before_first, passes_at_first, prefix_len-le-length, sum_by_push}
 use Rattle.std.proofs.lemmas.List.Folds.{list_all-append}
 use Rattle.ff_reactive.specs.Copies.{below}

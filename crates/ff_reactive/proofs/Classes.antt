@@ -1,11 +1,10 @@
 -- Classes of levels: how they part, and their leaders.
-use Rattle.std.proofs.Common.{◌≡◌, ℕ, zero, suc, ◌<◌, ◌≤◌, Bool, true, false, ◌&&◌, ◌==◌, Option, Some, None, List, length, refl, sym, ap, ap₂, ◌∙◌, arith, ◌⊎◌, inl, inr, true≢false}
+use Rattle.std.proofs.Common.{◌≡◌, ℕ, ◌<◌, ◌≤◌, Bool, true, ◌==◌, Option, Some, None, List, length, refl, sym, ap, ◌∙◌, arith, ◌⊎◌, inl, inr, true≢false}
 use Rattle.std.specs.Bool.{Decides}
 use Rattle.std.specs.Option.{option_eq}
-use Rattle.std.proofs.lemmas.Bool.{and_parts, and_from, eqb-true, eq-eqb, cases_lt, cases_order, false_from_ne_true, cases_Bool}
-use Rattle.ff_reactive.specs.Copies.{below}
-use Rattle.ff_reactive.specs.Worlds.{leader, offer, keep_together, new_leader, split, each, AreLeaders}
-use Rattle.ff_reactive.proofs.Below.{length-each, get_or-each, first_is, first_within, first_fails, first_passes}
+use Rattle.std.proofs.lemmas.Bool.{and_parts, and_from, eqb-true, eq-eqb, cases_lt}
+use Rattle.ff_reactive.specs.Worlds.{leader, offer, keep_together, new_leader, split, AreLeaders}
+use Rattle.ff_reactive.proofs.Below.{length-each, get_or-each, first_within, first_fails, first_passes}
 
 -- the test is true exactly where the inputs are equal
 abbrev pub IsSame : {I : Type 0} → (I → I → Bool) → Type 0

@@ -1,20 +1,19 @@
 -- The bridge from worlds of copies to runs: between two inputs of a run the world is at rest, and
 -- an input that arrives, is drained and is taken gives the run's entry and its part of the work.
-use Rattle.std.proofs.Common.{◌≡◌, ℕ, zero, suc, ◌+◌, ◌<◌, ◌≤◌, Bool, true, false, cond, not, ◌&&◌, ◌||◌, ◌==◌, Option, Some, None, List, [], ◌∷◌, ◌++◌, length, All, flat_map, sum_by, refl, sym, ap, ap₂, subst, ◌∙◌, arith, true≢false, ◌⊎◌, inl, inr, append-nil, zero-add}
-use Rattle.std.specs.List.{list_all}
+use Rattle.std.proofs.Common.{◌≡◌, ℕ, ◌+◌, ◌<◌, ◌≤◌, Bool, true, false, cond, not, ◌&&◌, ◌||◌, ◌==◌, Option, Some, None, List, [], ◌∷◌, ◌++◌, length, sum_by, refl, sym, ap, ap₂, subst, ◌∙◌, arith, true≢false, ◌⊎◌, inl, inr, zero-add}
 use Rattle.std.specs.Option.{option_eq}
-use Rattle.std.proofs.lemmas.Bool.{cases_lt, cases_Bool, eqb-true, eq-eqb, ne_eqb, eqb-false, and_parts, and_from, false_from_ne_true}
+use Rattle.std.proofs.lemmas.Bool.{cases_lt, eqb-true, eq-eqb, ne_eqb, and_parts, and_from}
 use Rattle.std.proofs.lemmas.List.Folds.{list_all-append, list_all_at}
 use Rattle.ff_reactive.specs.Runs.{Machine, after}
 use Rattle.ff_reactive.specs.Copies.{Levels, below, seen, at_level, copy_entry}
 use Rattle.ff_reactive.specs.Turns.{Reactor, machine_of}
 use Rattle.ff_reactive.specs.Loops.{handle_seen}
 use Rattle.ff_reactive.specs.Sharing.{see_alike, is_least, copy_turns, work_entry}
-use Rattle.ff_reactive.specs.Worlds.{Copy, World, leader, offer, levels, each, keep_together, new_leader, split, new_copy, copy_at, new_world, step_copy, offered, emptied, has_work, world_arrive, world_take, world_drain, world_left, finish, left, Ends, IsWorld, AreOffers, OfferOk, AreAtRest, offers_of, IsRested, IsTaking, puts}
+use Rattle.ff_reactive.specs.Worlds.{Copy, World, leader, offer, levels, new_leader, copy_at, new_world, offered, emptied, has_work, world_arrive, world_take, world_drain, world_left, finish, left, Ends, IsWorld, AreOffers, OfferOk, offers_of, IsRested, IsTaking}
 use Rattle.ff_reactive.proofs.Below.{length-each, length-below, get_or-below, get_or-each, sum_agree_below, list_all_below}
 use Rattle.ff_reactive.proofs.Runs.{after_start}
 use Rattle.ff_reactive.proofs.Copies.{copy_entry_is, copy_after_more}
-use Rattle.ff_reactive.proofs.Finishing.{finish_rest, finish_offered, left_rest, left_offered, new_copy_ok}
+use Rattle.ff_reactive.proofs.Finishing.{finish_rest, finish_offered, left_rest, left_offered}
 use Rattle.ff_reactive.proofs.Classes.{IsSame, option_same, option_equal, leader-split, length-split, new_leader_same, new_leader_apart, together_parts, together}
 use Rattle.ff_reactive.proofs.Worlds.{copy-arrive, copy-take, copy-drain, copy-new, leader-new, levels-new, leaders-arrive, leaders-take, leaders-drain, arrive_ok, drained_rests}
 

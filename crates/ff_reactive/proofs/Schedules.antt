@@ -1,19 +1,16 @@
 -- The law of every schedule: what a world of copies comes to, whatever the order of arrivals and
 -- turns was.
-use Rattle.std.proofs.Common.{◌≡◌, ◌↔◌, ℕ, zero, suc, ◌+◌, ◌<◌, ◌≤◌, Bool, true, false, cond, not, ◌||◌, ◌&&◌, ◌==◌, Option, Some, None, List, [], ◌∷◌, ◌++◌, length, All, get_or, refl, sym, ap, ap₂, subst, ◌∙◌, arith, ◌⊎◌, inl, inr, append-nil, append_assoc}
+use Rattle.std.proofs.Common.{◌≡◌, ◌↔◌, ℕ, ◌<◌, Bool, true, false, cond, not, ◌||◌, ◌==◌, Option, Some, None, List, [], ◌∷◌, ◌++◌, length, All, refl, sym, ap, ap₂, subst, ◌∙◌, arith, append-nil, append_assoc}
 use Rattle.std.specs.List.{cons_option}
-use Rattle.std.specs.Prelude.{⊤}
-use Rattle.std.proofs.lemmas.List.{get_or_default}
 use Rattle.std.proofs.lemmas.List.Elements.{All-head, All-tail}
 use Rattle.ff_reactive.specs.Runs.{joined, after, plain}
 use Rattle.ff_reactive.specs.Turns.{Reactor, settle, machine_of}
-use Rattle.ff_reactive.specs.Text.{BeginsWith}
 use Rattle.ff_reactive.specs.Loops.{handle_seen}
-use Rattle.ff_reactive.specs.Worlds.{Copy, World, Event, leader, offer, levels, keep_together, new_leader, split, new_copy, copy_at, new_world, step_copy, offered, has_work, world_arrive, world_turn, finish, play_event, play_events, offered_to, OfferedAlike, Ends, IsWorld, OfferOk, AreOffers, EventOk, IsPlayed}
+use Rattle.ff_reactive.specs.Worlds.{Copy, World, Event, leader, offer, levels, new_leader, split, new_copy, copy_at, new_world, step_copy, offered, has_work, world_arrive, world_turn, finish, play_event, play_events, offered_to, OfferedAlike, Ends, IsWorld, EventOk, IsPlayed}
 use Rattle.ff_reactive.specs.Worlds.Event.{arrive, turn}
 use Rattle.ff_reactive.proofs.Lists.{joined_push, BeginsWith-same}
 use Rattle.ff_reactive.proofs.Runs.{after_start, after_more, plain_start, plain_more}
-use Rattle.ff_reactive.proofs.Finishing.{finish_rest, finish_step, finish_offered, finish_begins, new_copy_ok}
+use Rattle.ff_reactive.proofs.Finishing.{finish_rest, finish_step, finish_offered, finish_begins}
 use Rattle.ff_reactive.proofs.Classes.{IsSame, together_parts, together, leader-split, length-split, new_leader_same, new_leader_apart}
 use Rattle.ff_reactive.proofs.Worlds.{copy-arrive, copy-turn, copy-new, leader-new, levels-new, leaders-arrive, leaders-turn, new_world_ok, arrive_ok, turn_ok}
 

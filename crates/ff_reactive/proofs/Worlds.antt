@@ -1,17 +1,16 @@
 -- Worlds of copies: each step keeps them well formed, leaves what they come to as it is, and counts
 -- the turns that are left down.
-use Rattle.std.proofs.Common.{◌≡◌, ℕ, zero, suc, ◌+◌, ◌<◌, ◌≤◌, Bool, true, false, cond, not, ◌&&◌, ◌||◌, ◌==◌, Option, Some, None, List, [], ◌∷◌, ◌++◌, length, All, get_or, refl, sym, ap, ap₂, subst, ◌∙◌, add-zero, arith, true≢false, ◌⊎◌, inl, inr, append-nil, add-one, add_assoc}
+use Rattle.std.proofs.Common.{◌≡◌, ℕ, ◌+◌, ◌<◌, Bool, true, false, cond, not, ◌||◌, ◌==◌, Option, None, List, [], ◌∷◌, ◌++◌, length, refl, sym, ap, ap₂, subst, ◌∙◌, arith, true≢false}
 use Rattle.std.specs.List.{sum_by}
-use Rattle.std.proofs.lemmas.Bool.{cond-true, cond-false, eqb-true, eq-eqb, eqb-false, ne_eqb, cases_Bool, cases_eq}
+use Rattle.std.proofs.lemmas.Bool.{eqb-true, eq-eqb, ne_eqb}
 use Rattle.std.specs.List.{cons_option}
 use Rattle.std.proofs.lemmas.List.{get_or_default}
 use Rattle.std.proofs.lemmas.List.Elements.{All-get_or}
 use Rattle.ff_reactive.specs.Copies.{below}
-use Rattle.ff_reactive.specs.Turns.{Reactor, settle, machine_of}
-use Rattle.ff_reactive.specs.Loops.{handle_seen}
-use Rattle.ff_reactive.specs.Worlds.{Copy, World, leader, offer, levels, each, keep_together, new_leader, split, new_copy, copy_at, new_world, taken, turned_once, stepped, gone_on, step_copy, offered, waits, works, has_work, step_turns, emptied, world_arrive, world_turn, world_take, finish, left, world_drain, world_left, world_steps, Ends, IsCopy, AreLeaders, IsWorld, AreAtRest, OfferOk, AreOffers}
-use Rattle.ff_reactive.proofs.Below.{length-each, get_or-each, each_agree, each_is, sum_agree_below, sum_one_below, sum_none_below}
-use Rattle.ff_reactive.proofs.Finishing.{finish_rest, left_rest, finish_step, left_step, finish_offered, left_offered, finish_alike, finish_inbox, new_copy_ok, step_copy_ok, offered_ok, emptied_ok, finish_ok}
+use Rattle.ff_reactive.specs.Turns.{Reactor, settle}
+use Rattle.ff_reactive.specs.Worlds.{Copy, World, leader, offer, levels, each, new_leader, split, new_copy, copy_at, new_world, taken, turned_once, stepped, step_copy, offered, waits, works, has_work, step_turns, emptied, world_arrive, world_turn, world_take, finish, left, world_drain, world_left, world_steps, Ends, IsCopy, AreLeaders, IsWorld, AreAtRest, OfferOk, AreOffers}
+use Rattle.ff_reactive.proofs.Below.{length-each, get_or-each, each_agree, each_is, sum_one_below, sum_none_below}
+use Rattle.ff_reactive.proofs.Finishing.{finish_rest, left_rest, finish_step, left_step, finish_alike, finish_inbox, new_copy_ok, step_copy_ok, offered_ok, emptied_ok, finish_ok}
 use Rattle.ff_reactive.proofs.Classes.{IsSame, together_parts, new_leader_within, new_leader_together, leader-split, length-split, split_leads}
 
 module _ {I O S : Type 0} (r : Reactor I O S) where

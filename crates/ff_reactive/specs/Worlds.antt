@@ -1,9 +1,9 @@
 -- A world of copies: a state for each level, with the inputs that wait for it and the outputs that
 -- nobody took, and the classes of levels that are one copy.
 use Rattle.std.specs.Prelude.{◌≡◌, ◌↔◌, ℕ, ◌+◌, ◌<◌, ◌≤◌, Bool, true, false, cond, not, ◌==◌, ◌&&◌, ◌||◌, Option, Some, None, List, [], ◌∷◌, ◌++◌, length, map, sum_by, All, ⊤, slice_index, slice_index_or}
-use Rattle.std.specs.List.{list_all, position_or_len, cons_option}
+use Rattle.std.specs.List.{position_or_len, cons_option}
 use Rattle.std.specs.Option.{option_eq}
-use Rattle.ff_reactive.specs.Runs.{Machine, joined, after_from, plain_from, turns_from, after, plain}
+use Rattle.ff_reactive.specs.Runs.{joined, after_from, plain_from, turns_from, after, plain}
 use Rattle.ff_reactive.specs.Turns.{Reactor, settle, machine_of}
 use Rattle.ff_reactive.specs.Copies.{Levels, below, seen}
 use Rattle.ff_reactive.specs.Text.{BeginsWith}

@@ -22,10 +22,10 @@ use Rattle.ff_forms.specs.Words.{is_variable, looks_like_number}
 use Rattle.ff_forms.specs.Heads.{doc_word, expr_word, resp_word, cookie_word, handler_word, doc_own, expr_own, handler_own, resp_own, cookie_own, doc_heads, expr_heads, handler_heads, resp_heads, cookie_heads}
 use Rattle.ff_name.specs.Words.{with_word}
 use Rattle.ff_forms.specs.Grammar as sort
-use Rattle.ff_forms.specs.Grammar.{Sort, Value, Placed, Form, Further, nothing, further, any, Making, may_have, and_then, reading, each_as, parts_as, form_as, head_as, list_as, word_as, string_as, parts_in_list_as, parameter_as, parameters_as, one_parameter_as, number_as, name_as_expression, word_as_expression, doc_form, expr_form, resp_form, cookie_form, handler_form}
+use Rattle.ff_forms.specs.Grammar.{Sort, Value, Placed, Form, Further, nothing, further, any, Making, may_have, and_then, reading, each_as, parts_as, form_as, head_as, list_as, word_as, string_as, parts_in_list_as, parameters_as, one_parameter_as, number_as, name_as_expression, word_as_expression, doc_form, expr_form, resp_form, cookie_form, handler_form}
 use Rattle.ff_forms.specs.Spellings.{AreWords, no_words, a_word}
 use Rattle.ff_forms.specs.Faults as first
-use Rattle.ff_forms.specs.Faults.{SpellsAs, has_forms, HasForm, of_documents, of_expressions, of_responses, of_cookies, of_handlers, Reached, the_first, a_later, the_first_further, a_later_further, FirstFault}
+use Rattle.ff_forms.specs.Faults.{has_forms, HasForm, of_documents, of_expressions, of_responses, of_cookies, of_handlers, Reached, the_first, a_later, the_first_further, a_later_further, FirstFault}
 use Rattle.ff_forms.specs.declared.fault.SyntaxFault.{SyntaxFault}
 use Rattle.ff_forms.specs.declared.fault.SyntaxFault.TheVariants as fault
 use Rattle.ff_forms.specs.declared.heads.DocHead.{DocHead}

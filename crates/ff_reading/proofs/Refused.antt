@@ -21,7 +21,7 @@ use Rattle.ff_forms.specs.Words.{is_literal, is_variable, looks_like_number}
 use Rattle.ff_forms.specs.Heads.{doc_word, expr_word, handler_word, resp_word, cookie_word, doc_heads, expr_heads, handler_heads, resp_heads, cookie_heads}
 use Rattle.ff_name.specs.Words.{with_word}
 use Rattle.ff_forms.specs.Grammar as sort
-use Rattle.ff_forms.specs.Grammar.{Sort, Value, Placed, Form, Further, nothing, further, Making, may_have, and_then, reading, each_as, parts_as, form_as, list_as, word_as, string_as, parts_in_list_as, parameters_as, one_parameter_as, number_as, name_as_expression, word_as_expression, doc_form, expr_form, resp_form, cookie_form, handler_form}
+use Rattle.ff_forms.specs.Grammar.{Sort, Value, Placed, Form, Further, further, Making, may_have, and_then, reading, each_as, parts_as, form_as, list_as, word_as, string_as, parts_in_list_as, parameters_as, one_parameter_as, number_as, name_as_expression, word_as_expression, doc_form, expr_form, resp_form, cookie_form, handler_form}
 use Rattle.ff_forms.specs.Faults as first
 use Rattle.ff_forms.specs.Faults.{word_may_be, string_may_be, list_may_be, misplaced, has_forms, HasForm, of_documents, of_expressions, of_handlers, of_responses, of_cookies, Reached, the_first, a_later, the_first_further, a_later_further, FirstFault}
 use Rattle.ff_forms.specs.declared.fault.SyntaxFault.{SyntaxFault}

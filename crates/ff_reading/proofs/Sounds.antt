@@ -23,7 +23,7 @@ use Rattle.ff_name.specs.Reading.{is_name}
 use Rattle.ff_number.specs.Numbers.{read_num}
 use Rattle.ff_forms.specs.Words.{is_literal, looks_like_number}
 use Rattle.ff_forms.specs.Grammar as sort
-use Rattle.ff_forms.specs.Grammar.{Sort, Value, reading, and_then, each_as, form_as, list_as, handler, doc_form, expr_form, resp_form, cookie_form, handler_form, word_as_expression, number_as, name_as_expression, any, few_handlers}
+use Rattle.ff_forms.specs.Grammar.{Sort, Value, reading, and_then, each_as, form_as, handler, doc_form, expr_form, resp_form, cookie_form, handler_form, word_as_expression, number_as, name_as_expression, any}
 use Rattle.ff_forms.specs.Heads.{doc_word, expr_word, resp_word, cookie_word, handler_word, handler_heads, doc_heads, expr_heads, resp_heads, cookie_heads}
 use Rattle.ff_forms.specs.Spellings.{SpellsDoc, a_text, a_link, a_text_box, a_button, a_script, a_source, a_division, SpellsDocs, no_docs, one_more_doc, SpellsHandler, a_handler_list, SpellsHandlers, no_handlers, one_more_handler, SpellsExpr, a_null, a_true, a_false, a_number, a_text_literal, a_name_of_variable, a_let, a_set, an_if, a_while, a_do, an_and, an_or, a_function, a_call, a_tree, an_operation, SpellsExprs, no_exprs, one_more_expr, SpellsCookie, a_put, a_drop, SpellsCookies, no_cookies, one_more_cookie, SpellsResp, a_page, a_script_sent, some_data}
 use Rattle.ff_forms.specs.declared.heads.DocHead.{DocHead}

@@ -7,9 +7,8 @@ use Rattle.std.proofs.lemmas.Fmt.{decimal_injective}
 use Rattle.std.specs.String.{string_bytes}
 use Rattle.ff_number.specs.Decimal.{nat_text}
 use Rattle.ff_gen.specs.declared.generator.TheConstants.{MOST_LINES}
-use Rattle.ff_session.specs.declared.work.Work.{Work}
 use Rattle.ff_session.specs.declared.work.Work.TheVariants.{Multi, Plain, Format}
-use Rattle.ff_run.specs.Words.{word_of, dash, Spell, MayFollow, AreUnder, AreNumbers, IsSlice, Asks, AreCommand, NeedsPolicy}
+use Rattle.ff_run.specs.Words.{word_of, dash, Spell, MayFollow, AreUnder, IsSlice, Asks, AreCommand, NeedsPolicy}
 use Rattle.ff_run.specs.declared.words.Command.{Command}
 use Rattle.ff_run.specs.declared.words.Command.TheVariants.{Check, Upgrade, Trace, Generate}
 

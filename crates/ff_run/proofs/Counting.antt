@@ -1,5 +1,5 @@
 -- The turns of a command that takes a trace, by what it does under the policy of a name.
-use Rattle.std.proofs.Common.{◌≡◌, ℕ, ◌+◌, Option, Some, None, List, ap, ◌∙◌}
+use Rattle.std.proofs.Common.{◌≡◌, ℕ, ◌+◌, Option, None, List, ap, ◌∙◌}
 use Rattle.ff_io.specs.Pieces.{got_of, has_end}
 use Rattle.ff_io.specs.Port.{Told}
 use Rattle.ff_io.specs.Shelf.{ShelfTold}

@@ -1,7 +1,7 @@
 -- A policy is found by its name, or none is.
 use Rattle.std.proofs.Common.{◌≡◌, ◌≢◌, ℕ, ◌⊎◌, inl, inr, Option, Some, None, Result, Ok, Err, List, sym, subst, ◌∙◌}
 use Rattle.std.specs.Result.{IfOk, IfErr}
-use Rattle.ff_io.specs.Shelf.{Files, ShelfTold}
+use Rattle.ff_io.specs.Shelf.{ShelfTold}
 use Rattle.ff_io.specs.Fetched.{IsFrontOf, IsFetched}
 use Rattle.ff_policy.specs.Assignment.{Assignment, builtin}
 use Rattle.ff_policy.specs.Reading.{IsPolicyOf, IsFault}

@@ -1,14 +1,13 @@
 -- A command is obeyed under the policy that was found, or there is none.
-use Rattle.std.proofs.Common.{◌≡◌, ◌≢◌, ℕ, ◌⊎◌, inl, inr, Result, Ok, Err, List, refl, sym, ap, subst, ◌∙◌, String, Global}
-use Rattle.std.specs.Bool.{⊤}
+use Rattle.std.proofs.Common.{◌≡◌, ◌≢◌, ℕ, ◌⊎◌, inl, inr, Result, Ok, Err, List, refl, subst, String, Global}
 use Rattle.ff_io.specs.Port.{Told}
 use Rattle.ff_io.specs.Shelf.{ShelfTold}
 use Rattle.ff_policy.specs.Assignment.{Assignment, IsAssignment}
 use Rattle.ff_policy.specs.declared.fault.PolicyFault.{PolicyFault}
-use Rattle.ff_run.specs.Words.{AreCommand, dash}
+use Rattle.ff_run.specs.Words.{AreCommand}
 use Rattle.ff_run.specs.Policies.{NamesPolicy, NamesFault, IsKnown, Under, FetchFailed, Refuses, IsOutside}
 use Rattle.ff_run.specs.Status.{IsEarly, IsUnfailing}
-use Rattle.ff_run.specs.Run.{Suits, Performs, IsUntouched, Obeys, NothingFailed}
+use Rattle.ff_run.specs.Run.{Suits, Performs, Obeys, NothingFailed}
 use Rattle.ff_run.specs.declared.words.Command.{Command}
 use Rattle.ff_run.specs.declared.words.Command.TheVariants as command
 use Rattle.ff_status.specs.declared.status.Status.{Status}

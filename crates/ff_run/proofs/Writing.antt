@@ -1,11 +1,11 @@
 -- What a command that writes one text alone puts.
-use Rattle.std.proofs.Common.{◌≡◌, ℕ, true, false, Option, Result, Ok, Err, List, [], refl, sym, ap, subst, ◌∙◌}
+use Rattle.std.proofs.Common.{◌≡◌, ℕ, true, false, Option, Result, Ok, Err, List, [], sym, subst, ◌∙◌}
 use Rattle.std.specs.Result.{OnOk, OnErr}
 use Rattle.std.proofs.lemmas.Bool.{false≢true}
 use Rattle.ff_io.specs.Counts.{Rose, HasCause}
 use Rattle.ff_io.specs.Fronts.{IsProperFront}
 use Rattle.ff_io.specs.Pieces.{Piece, got_of, put_of, has_end}
-use Rattle.ff_io.specs.Port.{Told, Leaves, Passes}
+use Rattle.ff_io.specs.Port.{Told, Leaves}
 use Rattle.ff_io.specs.Whole.{Puts}
 use Rattle.ff_io.proofs.Joins.{got_of-then_put, has_end-then_put, Leaves-nil}
 use Rattle.ff_status.specs.declared.status.Status.TheVariants.{Done, WriteFault}

@@ -1,6 +1,6 @@
 -- What `gen` does: it multi-executes inputs that are drawn from a start, and writes how many lines
 -- each level has, and how many bytes.
-use Rattle.std.specs.Prelude.{◌≡◌, ℕ, zero, suc, ◌+◌, ◌≤◌, false, Some, Ok, List, [], ◌∷◌, ◌++◌, length, filter, flat_map, bytes_eq, codes}
+use Rattle.std.specs.Prelude.{◌≡◌, ℕ, zero, suc, ◌+◌, ◌≤◌, Some, Ok, List, [], ◌∷◌, ◌++◌, length, filter, flat_map, bytes_eq, codes}
 use Rattle.ff_io.specs.Port.{Told}
 use Rattle.ff_reactive.specs.Runs.{joined}
 use Rattle.ff_reactive.specs.Copies.{below}

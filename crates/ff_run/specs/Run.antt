@@ -13,7 +13,7 @@ use Rattle.ff_session.specs.declared.work.Work.{Work}
 use Rattle.ff_session.specs.declared.work.Work.TheVariants.{Multi, Format}
 use Rattle.ff_status.specs.Putting.{Reported}
 use Rattle.ff_status.specs.declared.status.Status.{Status}
-use Rattle.ff_status.specs.declared.status.Status.TheVariants.{Done, Usage, Policy, Trace, ReadFault, WriteFault, ShelfFault, NoMemory}
+use Rattle.ff_status.specs.declared.status.Status.TheVariants.{Usage, Policy, Trace, ShelfFault, NoMemory}
 use Rattle.ff_status.specs.declared.status.TraceFault.{TraceFault}
 use Rattle.ff_run.specs.Words.{AreCommand, dash}
 use Rattle.ff_run.specs.Policies.{NamesFault, FetchFailed, Under}

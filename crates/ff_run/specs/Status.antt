@@ -1,7 +1,7 @@
 -- How a run ended.
 use Rattle.std.specs.Prelude.{⊤}
 use Rattle.ff_status.specs.declared.status.Status.{Status}
-use Rattle.ff_status.specs.declared.status.Status.TheVariants.{Done, Usage, Policy, Trace, ReadFault, WriteFault, ShelfFault, NoMemory}
+use Rattle.ff_status.specs.declared.status.Status.TheVariants.{Usage, Policy, ReadFault, WriteFault, ShelfFault}
 
 -- an end that comes where no call of the outside failed
 abbrev pub IsUnfailing : Status → Type 0

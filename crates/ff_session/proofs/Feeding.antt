@@ -1,9 +1,8 @@
 -- One input comes to the copies, and the outputs of one level after another are let out.
-use Rattle.std.proofs.Common.{◌≡◌, ℕ, ◌+◌, ◌<◌, ◌≤◌, false, List, [], ◌∷◌, ◌++◌, length, refl, sym, ap, subst, ◌∙◌, append-nil, append_assoc, arith}
+use Rattle.std.proofs.Common.{◌≡◌, ℕ, ◌+◌, ◌<◌, List, [], ◌∷◌, ◌++◌, length, refl, sym, ap, subst, ◌∙◌, append-nil, append_assoc}
 use Rattle.ff_reactive.specs.Copies.{at_level, entry_below, copy_entry}
 use Rattle.ff_reactive.specs.Text.{text_of}
-use Rattle.ff_reactive.specs.Worlds.{World, levels, copy_at, offers_of, world_arrive, world_take, world_drain, world_left, AreOffers, IsRested, IsTaking}
-use Rattle.ff_reactive.specs.Sharing.{work_entry}
+use Rattle.ff_reactive.specs.Worlds.{World, levels, copy_at, world_arrive, world_take, world_drain, world_left, AreOffers, IsTaking}
 use Rattle.ff_reactive.proofs.Copies.{entry_below_more}
 use Rattle.ff_reactive.proofs.Text.{text_of_none, text_of-append}
 use Rattle.ff_reactive.proofs.Worlds.{new_world_ok, arrive_ok, take_ok, drain_ok, leaders-take}
@@ -25,7 +24,7 @@ use Rattle.ff_route.proofs.Fits.{sees_spelled}
 use Rattle.ff_levels.specs.Levels as run
 use Rattle.ff_levels.specs.Levels.{machine}
 use Rattle.ff_trace.specs.Lines.{IsInputOf}
-use Rattle.ff_session.specs.Multi.{copies_entry, copies_turns, IsPoolOf, AreCopiesAt, AreTakenBelow}
+use Rattle.ff_session.specs.Multi.{copies_entry, copies_turns, AreCopiesAt, AreTakenBelow}
 
 -- ---- an input comes
 

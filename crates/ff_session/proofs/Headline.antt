@@ -1,6 +1,6 @@
 -- The headline for the multi-executed run over a trace, also where it ended at a bad line or at a
 -- read that failed.
-use Rattle.std.proofs.Common.{◌≡◌, ℕ, true, Option, Some, None, List, All, ap, ◌∙◌}
+use Rattle.std.proofs.Common.{◌≡◌, ℕ, Option, None, List, All, ap, ◌∙◌}
 use Rattle.ff_io.specs.Pieces.{got_of, put_of, has_end}
 use Rattle.ff_io.specs.Port.{Told}
 use Rattle.ff_reactive.specs.Laws.{IsProjection, IsSecure, IsPrecise}

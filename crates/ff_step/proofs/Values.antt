@@ -1,5 +1,5 @@
 -- Rows that give a value, and what is then put for the redex.
-use Rattle.std.proofs.Common.{◌≡◌, List, [], Option, Some, None, Result, Ok, Err, refl, sym, ap, ◌∙◌, append-nil}
+use Rattle.std.proofs.Common.{◌≡◌, List, [], Result, Ok, Err, refl, sym, ap, ◌∙◌, append-nil}
 use Rattle.ff_contract.specs.Appending.{AppendsFront}
 use Rattle.ff_value.specs.declared.output.Out.{Out}
 use Rattle.ff_value.specs.declared.value.Val.{Val}
@@ -12,7 +12,7 @@ use Rattle.ff_machine.specs.declared.reduced.Reduced.TheVariants as answer
 use Rattle.ff_machine.specs.Stores.{Stores}
 use Rattle.ff_machine.specs.Operators.{Outcome, gives}
 use Rattle.ff_machine.specs.Answers.{Does, Reads, Reduces, Finishes}
-use Rattle.ff_machine.specs.Reduction.{by_redex, of_outcome, variable}
+use Rattle.ff_machine.specs.Reduction.{by_redex, of_outcome}
 
 -- what stays as it was has nothing appended
 pub nothing_put : (puts puts' : List Out) → puts' ≡ puts → AppendsFront puts puts' []
@@ -27,13 +27,6 @@ pub given_does : (s : Stores) (v : Val) (got : Result Val Fail) (puts : List Out
 given_does s v (Ok w) puts h = (h, refl, sym (append-nil puts))
 given_does s v (Err (fail.Fault g)) puts h = absurd h
 given_does s v (Err fail.NoMemory) puts h = nothing_put puts puts refl
-
--- so does a variable that is read
-pub variable_does : (s : Stores) (o : Option Val) (got : Result Val Fail) (puts : List Out) → Reads (variable s o) got → Does (variable s o) got s s puts puts
-variable_does s (Some v) got puts h = given_does s v got puts h
-variable_does s None (Ok w) puts h = absurd h
-variable_does s None (Err (fail.Fault g)) puts h = (h, refl, refl)
-variable_does s None (Err fail.NoMemory) puts h = refl
 
 -- a row gave a value or a fault, and then the value was put for the redex, or the fault answered
 pub finished : {E : Type 0} (s s' : Stores) (t t' : Evaluation) (puts puts' : List Out) (outcome : Outcome) (got : Result Val Fail) (result : Result Reduced E)

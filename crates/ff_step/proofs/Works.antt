@@ -1,18 +1,22 @@
 -- What one fuel makes of a task, by what its reduction answers.
-use Rattle.std.proofs.Common.{◌≡◌, ◌<◌, List, [], ◌∷◌, ◌++◌, Bool, true, cond, refl, sym, ap, subst, ◌∙◌, length}
+use Rattle.std.proofs.Common.{◌≡◌, ◌<◌, List, [], ◌∷◌, ◌++◌, Bool, true, cond, refl, sym, ap, subst, ◌∙◌, append-nil, length, Ok, None}
 use Rattle.ff_contract.specs.Appending.{AppendsFront}
 use Rattle.ff_value.specs.declared.ids.ActId.{ActId}
 use Rattle.ff_value.specs.declared.output.Out.{Out}
+use Rattle.ff_value.specs.declared.value.Val.{Val}
+use Rattle.ff_term.specs.Running.{Done}
 use Rattle.ff_machine.specs.declared.reduced.Reduced.{Reduced}
 use Rattle.ff_machine.specs.declared.reduced.Reduced.TheVariants as answer
 use Rattle.ff_machine.specs.Alone.{IsPage}
+use Rattle.ff_machine.specs.Answers.{Works}
 use Rattle.ff_machine.specs.Windows.{is_live, no_page, page_at}
 use Rattle.ff_machine.specs.Stores.{Stores}
-use Rattle.ff_machine.specs.Reduction.{reduction}
+use Rattle.ff_machine.specs.Reduction.{Reduction, reduction}
 use Rattle.ff_machine.specs.State.{Task}
 use Rattle.ff_machine.specs.Turns.{work, go_on, gone, error_at}
 use Rattle.ff_machine.specs.Valid.{IsStores, IsTask}
 use Rattle.ff_machine.proofs.Stays.{done_stays, failed_stays}
+use Rattle.ff_step.proofs.Reductions.{done_reduction}
 
 -- a valid task runs in an activation that was made
 pub base_lives : (s : Stores) (task : Task) → IsStores s → IsTask s task → task.running.base.0 < length s.windows.acts
@@ -26,6 +30,12 @@ pub works_by : (s : Stores) (task : Task) (a : Reduced) → is_live s.windows ta
 works_by s task a live is =
     ap (λ (b : Bool). cond b (go_on s task (reduction s task.page task.running) (reduction s task.page task.running).answer) (gone s [])) live
     ∙ ap (λ (x : Reduced). go_on s task (reduction s task.page task.running) x) (sym is)
+
+-- a task of a live page that is a value is gone
+pub value_gone : (s : Stores) (task : Task) (v : Val) (puts : List Out) → is_live s.windows task.page ≡ true → task.running.expr ≡ Done v → Works {E = Unit {0}} (work s task) (Ok None) s puts puts
+value_gone s task v puts live is =
+    let done = ap (λ (r : Reduction). r.answer) (done_reduction s task.page task.running v is) in
+    rw (works_by s task (answer.Done v) live (sym done)) (refl, refl, sym (append-nil puts))
 
 -- a front of nothing is a front of anything
 front_of_any : {X : Type 0} (old new xs ys : List X) → xs ≡ [] → AppendsFront old new xs → AppendsFront old new ys

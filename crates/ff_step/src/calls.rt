@@ -5,22 +5,22 @@ ghost use Rattle.ff_term.specs.Running.{insides, is_value};
 ghost use Rattle.ff_machine.specs.Reduction as red;
 ghost use Rattle.ff_machine.specs.References.{made};
 ghost use Rattle.ff_machine.specs.Valid.{IsCode, IsVal};
+ghost use Rattle.ff_step.specs.Answered.{answered};
 ghost use Rattle.ff_step.specs.Calls.{Calls, Enters};
 ghost use Rattle.ff_step.specs.Copies.{called};
 
 use ff_frames::Control;
-use ff_machine::Reduced;
-use ff_name::NoMemory;
 use ff_operators::Fail;
 use ff_steps::Steps;
 use ff_stores::Stores;
 use ff_term::MOST_CALLS;
 use ff_value::{ActId, Body, Code, Fault, Val};
-use std::alloc::{AllocError, Global};
+use std::alloc::Global;
 use std::sync::ledger::Ledger;
 
 /// Makes the activation of a function's call that stands inside so many others; gives it, and the
 /// body that runs in it. Its fault is `Kind`, where no function is called.
+#[inline(never)]
 pub(crate) fn call<C: Ledger>(
     depth: u32,
     stores: &mut Stores,
@@ -74,22 +74,19 @@ fn takes(code: &Code, args: &[Val]) -> bool
     code.params.len() == args.len()
 }
 
-/// Puts the call that was found for the redex, or answers the fault.
+/// Puts the call that was found for the redex, or hands on why there is none.
+#[inline(never)]
 pub(crate) fn enter(
     alloc: Global,
     control: &mut Control,
     got: Result<(ActId, Body), Fail>,
-) -> Result<Reduced, NoMemory>
+) -> Result<(), Fail>
     requires unfinished { is_value control.old.expr ≡ false }
     requires shallow { IfOk got (λ _. insides control.old.expr < MOST_CALLS) }
-    ensures { Enters control.old got result control.new }
+    ensures { Enters control.old got (answered result) control.new }
 {
     match got {
-        Ok((act, body)) => {
-            control.enter(alloc, act, &body)?;
-            Ok(Reduced::Moved)
-        }
-        Err(Fail::Fault(fault)) => Ok(Reduced::Failed(fault)),
-        Err(Fail::NoMemory) => Err(AllocError),
+        Ok((act, body)) => Ok(control.enter(alloc, act, &body)?),
+        Err(fail) => Err(fail),
     }
 }

@@ -1,8 +1,8 @@
 //! One reduction of a script over the stores, and the work of one fuel on a task.
 //!
 //! [`reduce`] is the written reduction. The control lends it the redex; the row of the redex decides
-//! what it becomes, a function for each row that the stores decide, and only then is that put for the
-//! redex. Rows change the stores by the methods of `Stores` alone, so the stores are valid at every
+//! what it becomes, by a method of the stores or a function of its own, and only then is that put for
+//! the redex. Rows change the stores by the methods of `Stores` alone, so the stores are valid at every
 //! return. [`Task::work`] is what one fuel makes of a task.
 //!
 //! A fault leaves everything as it was. After want of memory the stores are valid, and what they

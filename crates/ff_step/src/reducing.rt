@@ -1,5 +1,6 @@
 //! The one reduction: which row decides, and what is put for the redex.
 ghost use Rattle.std.specs.Prelude.{◌≡◌, ◌+◌, ◌<◌, ◌≤◌, false, length, IsTrue};
+ghost use Rattle.ff_operators.specs.Answers.{Gives};
 ghost use Rattle.ff_term.specs.Redexes.{IsRedexOf, read_redex};
 ghost use Rattle.ff_term.specs.Running as term;
 ghost use Rattle.ff_term.specs.Running.{is_value};
@@ -9,10 +10,11 @@ ghost use Rattle.ff_machine.specs.Reduction as red;
 ghost use Rattle.ff_machine.specs.References.{made};
 ghost use Rattle.ff_machine.specs.Valid.{IsRedex, IsRunning};
 ghost use Rattle.ff_machine.specs.Windows.{is_live};
+ghost use Rattle.ff_step.specs.Answered.{answered, tested};
 ghost use Rattle.ff_step.specs.Copies.{working};
 
 use crate::calls::{call, enter};
-use crate::rows::{assign, declare, make, make_tree, variable};
+use crate::rows::{make, make_tree};
 use ff_frames::{Control, Redex};
 use ff_machine::Reduced;
 use ff_name::NoMemory;
@@ -43,60 +45,64 @@ pub fn reduce<C: Ledger>(
 {
     match control.done() {
         Some(v) => Ok(Reduced::Done(v.copy()?)),
-        None => reduce_redex(alloc, control, stores, page, outs, copies),
+        None => answer(reduce_redex(alloc, control, stores, page, outs, copies)),
     }
 }
 
-/// Makes one reduction of an expression that is no value.
-fn reduce_redex<C: Ledger>(
+/// What a reduction answers of an expression that is no value.
+fn answer(got: Result<(), Fail>) -> Result<Reduced, NoMemory>
+    ensures { result ≡ answered got }
+{
+    match got {
+        Ok(()) => Ok(Reduced::Moved),
+        Err(Fail::Fault(fault)) => Ok(Reduced::Failed(fault)),
+        Err(Fail::NoMemory) => Err(AllocError),
+    }
+}
+
+/// Makes one reduction of an expression that is no value. With a fault nothing has changed.
+pub(crate) fn reduce_redex<C: Ledger>(
     alloc: Global,
     control: &mut Control,
     stores: &mut Stores,
     page: PageId,
     outs: &mut Vec<Out>,
     copies: &mut Steps<C>,
-) -> Result<Reduced, NoMemory>
+) -> Result<(), Fail>
     requires unfinished { is_value control.old.expr ≡ false }
     requires act { control.old.base.0 < length stores.old.windows.acts }
     requires running { IsRunning (made stores.old) control.old.expr }
     requires live { IsTrue (is_live stores.old.windows page) }
-    ensures reduces { Reduces (red.reduction stores.old page control.old) result control.new stores.new outs.old.items outs.new.items }
+    ensures reduces { Reduces (red.reduction stores.old page control.old) (answered result) control.new stores.new outs.old.items outs.new.items }
     ensures later { copies.old ≤ copies.new }
     ensures copies { copies.new ≤ copies.old + working stores.old control.old }
 {
     let a = act_of(control, stores);
     match redex_of(control, stores) {
+        Redex::Local => Ok(control.local(alloc)?),
+        Redex::Test(v) => {
+            let yes = truth(v)?;
+            Ok(control.choose(alloc, yes)?)
+        }
+        Redex::Var(x) => match stores.lookup(a, x) {
+            Some(v) => Ok(control.give_copy(alloc, v)?),
+            None => Err(Fail::Fault(Fault::Name)),
+        },
+        Redex::Let(x, v) => {
+            stores.declare(a, x, v, copies)?;
+            Ok(control.keep(alloc)?)
+        }
+        Redex::Set(x, v) => {
+            stores.assign(a, x, v, copies)?;
+            Ok(control.keep(alloc)?)
+        }
         Redex::Prim(op, args) => {
             let got = operate(alloc, stores, page, op, args, outs, copies);
-            finish(alloc, control, got)
-        }
-        Redex::Var(x) => {
-            let got = variable(stores, a, x);
-            finish(alloc, control, got)
-        }
-        Redex::Local => {
-            control.local(alloc)?;
-            Ok(Reduced::Moved)
-        }
-        Redex::Test(v) => match v {
-            Val::Bool(yes) => {
-                let yes = *yes;
-                control.choose(alloc, yes)?;
-                Ok(Reduced::Moved)
-            }
-            _ => Ok(Reduced::Failed(Fault::Kind)),
-        },
-        Redex::Set(x, v) => {
-            let got = assign(stores, a, x, v, copies);
             finish(alloc, control, got)
         }
         Redex::Apply(f, args) => {
             let got = call(control.depth(), stores, f, args, copies);
             enter(alloc, control, got)
-        }
-        Redex::Let(x, v) => {
-            let got = declare(stores, a, x, v, copies);
-            finish(alloc, control, got)
         }
         Redex::Make(params, body) => {
             let got = make(a, params, body);
@@ -130,17 +136,23 @@ fn redex_of<'a>(control: &'a Control, stores: &Stores) -> Redex<'a>
     control.next()
 }
 
-/// Puts the value that a row gave for the redex, or answers the fault.
-fn finish(alloc: Global, control: &mut Control, got: Result<Val, Fail>) -> Result<Reduced, NoMemory>
+/// Whether the test of an `if` holds. Its fault is `Kind`, where it is no truth value.
+fn truth(v: &Val) -> Result<bool, Fail>
+    ensures { Gives (tested v.now) result }
+{
+    match v {
+        Val::Bool(yes) => Ok(*yes),
+        _ => Err(Fail::Fault(Fault::Kind)),
+    }
+}
+
+/// Puts the value that a row gave for the redex, or hands on why it gave none.
+fn finish(alloc: Global, control: &mut Control, got: Result<Val, Fail>) -> Result<(), Fail>
     requires { is_value control.old.expr ≡ false }
-    ensures { Finishes control.old got result control.new }
+    ensures { Finishes control.old got (answered result) control.new }
 {
     match got {
-        Ok(v) => {
-            control.give(alloc, v)?;
-            Ok(Reduced::Moved)
-        }
-        Err(Fail::Fault(fault)) => Ok(Reduced::Failed(fault)),
-        Err(Fail::NoMemory) => Err(AllocError),
+        Ok(v) => Ok(control.give(alloc, v)?),
+        Err(fail) => Err(fail),
     }
 }

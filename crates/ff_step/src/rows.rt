@@ -17,56 +17,8 @@ use ff_stores::Stores;
 use ff_value::{ActId, Body, Code, Doc, Fault, Names, Val};
 use std::sync::ledger::Ledger;
 
-/// The value of the nearest variable of a name. Its fault is `Name`, where there is none.
-pub(crate) fn variable(stores: &Stores, a: ActId, x: &Name) -> Result<Val, Fail>
-    requires { a.0 < length stores.now.windows.acts }
-    ensures { Reads (red.variable stores.now (w.lookup stores.now.windows.acts a x.now)) result }
-{
-    match stores.lookup(a, x) {
-        Some(v) => Ok(v.copy()?),
-        None => Err(Fail::Fault(Fault::Name)),
-    }
-}
-
-/// Declares a variable, or overwrites it in its activation; gives the value. Its fault is `Limit`.
-pub(crate) fn declare<C: Ledger>(
-    stores: &mut Stores,
-    a: ActId,
-    x: &Name,
-    v: &Val,
-    copies: &mut Steps<C>,
-) -> Result<Val, Fail>
-    requires lives { a.0 < length stores.old.windows.acts }
-    requires name { IsVar x.now }
-    requires value { IsVal (made stores.old) v.now }
-    ensures does { (puts : List Out) → Does (red.declare stores.old a x.now v.now) result stores.old stores.new puts puts }
-    ensures later { copies.old ≤ copies.new }
-    ensures copies { copies.new ≤ copies.old + 64 }
-{
-    stores.declare(a, x, v, copies)?;
-    Ok(v.copy()?)
-}
-
-/// Assigns the nearest variable of a name; gives the value. Its fault is `Name`, where there is
-/// none.
-pub(crate) fn assign<C: Ledger>(
-    stores: &mut Stores,
-    a: ActId,
-    x: &Name,
-    v: &Val,
-    copies: &mut Steps<C>,
-) -> Result<Val, Fail>
-    requires lives { a.0 < length stores.old.windows.acts }
-    requires value { IsVal (made stores.old) v.now }
-    ensures does { (puts : List Out) → Does (red.assign stores.old (w.holder stores.old.windows.acts a x.now) x.now v.now) result stores.old stores.new puts puts }
-    ensures later { copies.old ≤ copies.new }
-    ensures copies { copies.new ≤ copies.old + 64 }
-{
-    stores.assign(a, x, v, copies)?;
-    Ok(v.copy()?)
-}
-
 /// The function of the parameters and the body, made in the activation.
+#[inline(never)]
 pub(crate) fn make(a: ActId, params: &Names, body: &Body) -> Result<Val, Fail>
     ensures { (s : Stores) → Reads (red.make s a params.now body.now) result }
 {
@@ -78,6 +30,7 @@ pub(crate) fn make(a: ActId, params: &Names, body: &Body) -> Result<Val, Fail>
 }
 
 /// Makes a tree without a parent; gives its root. Its fault is `Limit`.
+#[inline(never)]
 pub(crate) fn make_tree<C: Ledger>(
     stores: &mut Stores,
     a: ActId,

@@ -7,14 +7,14 @@ ghost use Rattle.ff_machine.specs.Windows.{is_live};
 ghost use Rattle.ff_step.specs.Copies.{working};
 ghost use Rattle.ff_step.specs.Left.{left};
 
-use crate::reducing::reduce;
+use crate::reducing::reduce_redex;
 use crate::task::Task;
-use ff_machine::Reduced;
 use ff_name::NoMemory;
+use ff_operators::Fail;
 use ff_steps::Steps;
 use ff_stores::Stores;
 use ff_value::{Fault, Out, PageId};
-use std::alloc::Global;
+use std::alloc::{AllocError, Global};
 use std::sync::ledger::Ledger;
 
 impl Task {
@@ -37,18 +37,23 @@ impl Task {
         if !lives(stores, page) {
             return Ok(false);
         }
-        match reduce(alloc, &mut self.control, stores, page, outs, copies)? {
-            Reduced::Moved => Ok(true),
-            Reduced::Done(_v) => Ok(false),
-            Reduced::Failed(fault) => {
+        if let Some(_value) = self.control.done() {
+            return Ok(false);
+        }
+        match reduce_redex(alloc, &mut self.control, stores, page, outs, copies) {
+            Ok(()) => Ok(true),
+            Err(Fail::Fault(fault)) => {
                 put_error(stores, page, fault, outs)?;
                 Ok(false)
             }
+            Err(Fail::NoMemory) => Err(AllocError),
         }
     }
 }
 
 /// Puts the error of a task of a page, at the place of the page's window.
+#[cold]
+#[inline(never)]
 fn put_error(
     stores: &Stores,
     page: PageId,

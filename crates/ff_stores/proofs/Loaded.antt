@@ -15,7 +15,7 @@ use Rattle.ff_machine.specs.Nodes as nodes
 use Rattle.ff_machine.specs.Nodes.{next_node}
 use Rattle.ff_machine.specs.Windows.{Window, next_page, next_win}
 use Rattle.ff_machine.specs.Stores as stores
-use Rattle.ff_machine.specs.Stores.{Stores, has_load_room, with_shown_page, has_window_room, with_window}
+use Rattle.ff_machine.specs.Stores.{Stores, has_load_room, with_shown_page, has_window_room}
 use Rattle.ff_stores.specs.Copied.{starting, showing, loading}
 use Rattle.ff_stores.proofs.Showing.{made_in_room}
 use Rattle.ff_stores.proofs.Steps.{then_made, not_stepped, stepped_in_room, refused_in_room}

@@ -2,7 +2,7 @@
 use Rattle.std.proofs.Common.{◌≡◌, List, [], ◌∷◌, refl, arith, cond, Bool, true, false}
 use Rattle.ff_tree.specs.declared.tree.Expr.{Expr}
 use Rattle.ff_value.specs.declared.ids.ActId.{ActId}
-use Rattle.ff_term.specs.Running.{Running, Runnings, Do, Prim, insides, insides_among, innermost, innermost_among, is_value, begins_done}
+use Rattle.ff_term.specs.Running.{Running, Runnings, Do, insides, insides_among, innermost, innermost_among, is_value, begins_done}
 use Rattle.ff_term.specs.Whole.{whole, wholes}
 use Rattle.ff_term.proofs.Forms.{whole-Lit, whole-Var, whole-Let, whole-Set, whole-If, whole-While, whole-Do, whole-And, whole-Or, whole-Make, whole-Apply, whole-Tree, whole-Prim}
 use Rattle.ff_term.proofs.Induction.{Each, ByForms, by_forms}

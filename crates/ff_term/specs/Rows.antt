@@ -1,7 +1,7 @@
 -- The rows of the reduction that need nothing but the expression.
 use Rattle.std.specs.Prelude.{Bool, true, false, cond}
 use Rattle.ff_value.specs.declared.value.Val.TheVariants as val
-use Rattle.ff_term.specs.Running.{Running, Runnings, Done, If, While, Do, And, Or, Prim, Inside, none, more}
+use Rattle.ff_term.specs.Running.{Running, Runnings, Done, If, While, Do, And, Or, Inside, none, more}
 
 -- what is left of the parts of a `do` whose first part is a value
 abbrev pub do_row : Runnings → Running

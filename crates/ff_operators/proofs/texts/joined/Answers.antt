@@ -1,4 +1,4 @@
-use Rattle.std.proofs.Common.{◌≡◌, ◌++◌, [], refl, sym, subst, rules, arith}
+use Rattle.std.proofs.Common.{◌≡◌, ◌++◌, sym, subst, rules, arith}
 use Rattle.std.specs.Str.{IsUtf8}
 use Rattle.std.proofs.lemmas.Grind.{common_steps}
 use Rattle.std.proofs.lemmas.Str.{IsUtf8-append}

@@ -1,4 +1,4 @@
-use Rattle.std.proofs.Common.{◌≡◌, ◌∷◌, ◌++◌, [], List, Option, Some, None, sym, ap, ◌∙◌, subst}
+use Rattle.std.proofs.Common.{List, sym, ap, ◌∙◌, subst}
 use Rattle.serde_json.specs.View.{view}
 use Rattle.ff_policy.specs.Members.{NamedKind, kind_shape}
 use Rattle.ff_policy.proofs.Arrays.{Entry, Gathers, kind_read, kinds_stop, kinds_step, kinds_done}

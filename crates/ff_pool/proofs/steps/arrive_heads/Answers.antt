@@ -1,4 +1,4 @@
-use Rattle.std.proofs.Common.{◌≡◌, ◌∙◌, ℕ, ap, sym, length, arith}
+use Rattle.std.proofs.Common.{◌∙◌, ap, sym, length, arith}
 use Rattle.ff_reactive.specs.Worlds.{leader, offer, split}
 use Rattle.ff_reactive.proofs.Classes.{length-split}
 use Rattle.ff_pool.specs.Heads.{same_input, offer_head}

@@ -1,4 +1,4 @@
-use Rattle.std.proofs.Common.{◌≡◌, ◌+◌, ◌∙◌, sym, subst, length, ◌<◌, arith}
+use Rattle.std.proofs.Common.{◌+◌, ◌∙◌, sym, subst, length, ◌<◌, arith}
 use Rattle.ff_pool.proofs.Forking.{IsForking, forking_forked, forking_stay, forking_skip}
 use Rattle.ff_pool.proofs.steps.fork_heads.Goals as goal
 use Rattle.ff_pool.proofs.steps.fork_heads.Goals.{then-new-l+then-old-l+in_ok-fork_head, else-new-l, else-new-l-via-then-new-l+else-old-l, else-new-l-via-else-new-l}

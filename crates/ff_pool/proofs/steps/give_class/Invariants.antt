@@ -1,6 +1,3 @@
-use Rattle.std.proofs.Common.{◌≡◌, ◌==◌, ◌++◌, ◌<◌, ◌≤◌, ℕ, cond}
-use Rattle.ff_reactive.specs.Worlds.{leader}
-use Rattle.ff_pool.specs.Heads.{outputs_at}
 use Rattle.ff_pool.proofs.Giving.{IsGiving}
 use Rattle.ff_pool.proofs.steps.give_class.Given as goal
 

@@ -1,4 +1,4 @@
-use Rattle.std.proofs.Common.{◌≡◌, ◌≤◌, ◌∷◌, ◌++◌, [], false, Ok, length, refl, sym, ap, subst, ◌∙◌, arith}
+use Rattle.std.proofs.Common.{◌∷◌, ◌++◌, [], Ok, length, refl, sym, ap, subst, ◌∙◌, arith}
 use Rattle.ff_session.specs.Giving.{Gives}
 use Rattle.ff_run.proofs.DrawnLines.{drawn_line, drawn_short}
 use Rattle.ff_run.proofs.generate.next_input.Goals as goal

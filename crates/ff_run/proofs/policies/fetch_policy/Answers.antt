@@ -1,6 +1,5 @@
-use Rattle.std.proofs.Common.{◌≡◌, ap, sym, subst}
+use Rattle.std.proofs.Common.{ap, sym, subst}
 use Rattle.std.specs.Result.{IfOk, IfErr}
-use Rattle.ff_io.specs.Counts.{Rose}
 use Rattle.ff_io.specs.Fetched.{IsFetched}
 use Rattle.ff_policy.specs.Reading.{IsPolicyOf, IsFault}
 use Rattle.ff_run.specs.Policies.{RefusesBytes}

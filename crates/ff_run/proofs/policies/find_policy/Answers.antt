@@ -1,4 +1,4 @@
-use Rattle.std.proofs.Common.{◌≡◌, inl, List, ℕ, Ok, codes, sym, ap, ◌∙◌}
+use Rattle.std.proofs.Common.{inl, Ok, codes, sym, ap, ◌∙◌}
 use Rattle.std.specs.Cmp.Lexicographic.{same_text}
 use Rattle.ff_run.proofs.Finding.{named_built_in, accepts_built_in}
 use Rattle.ff_run.proofs.policies.find_policy.Goals as goal

@@ -1,5 +1,5 @@
 use Rattle.std.proofs.Common.{refl}
-use Rattle.ff_run.proofs.Obeying.{late, obeys_under, no_fault_under, obeys_refused, bad_policy_refused, good_policy_refused}
+use Rattle.ff_run.proofs.Obeying.{obeys_under, no_fault_under, obeys_refused, bad_policy_refused, good_policy_refused}
 use Rattle.ff_run.proofs.top.obey.Goals as goal
 
 pub returns-in-Ok-clause-obeys : goal.returns-in-Ok-clause-obeys

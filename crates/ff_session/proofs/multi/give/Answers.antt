@@ -1,4 +1,4 @@
-use Rattle.std.proofs.Common.{◌≡◌, ℕ, ◌+◌, sym, ap, subst, ◌∙◌, arith}
+use Rattle.std.proofs.Common.{◌+◌, sym, ap, subst, ◌∙◌, arith}
 use Rattle.std.proofs.lemmas.Result.{on_ok_weaker}
 use Rattle.ff_pool.specs.Pooled.{arrived, drained, left, AreOffersTo}
 use Rattle.ff_session.proofs.Feeding.{offers_fit, turns_left, taking_starts}

@@ -10,8 +10,8 @@ invariant_of-self g c = at_its_own c.args.self.now.budget c.begin.new.self (begu
 
 pub invariant_of-self-in-Err : goal.invariant_of-self-in-Err
 invariant_of-self-in-Err g c =
-    let new = c.new.ensures ∙ ap (λ (b : Inside). empty b.parts.budget) c.self-inside.view_is in
-    at_its_own c.self.inside.parts.budget c.new.result (new_valid c.self.inside.parts.budget c.new.result new)
+    let new = c.reset.ensures ∙ ap (λ (b : Inside). empty b.parts.budget) c.self-inside.view_is in
+    at_its_own c.self.inside.parts.budget c.reset.new.self (new_valid c.self.inside.parts.budget c.reset.new.self new)
 
 pub returns-in-Ok-clause-busy : goal.returns-in-Ok-clause-busy
 returns-in-Ok-clause-busy g c = begun_busy c.self.inside.parts c.begin.new.self c.args.input.now c.in-Ok.ensures.step.0
@@ -24,5 +24,5 @@ returns-in-Ok-clause-valid g c = begun_valid c.self.inside.parts c.args.self.now
 
 pub returns-in-Err-clause-valid : goal.returns-in-Err-clause-valid
 returns-in-Err-clause-valid g c =
-    let new = c.new.ensures ∙ ap (λ (b : Inside). empty b.parts.budget) c.self-inside.view_is in
-    subst (λ (t : State). IsState t.budget c.new.result) c.self.view_is (new_valid c.self.inside.parts.budget c.new.result new)
+    let new = c.reset.ensures ∙ ap (λ (b : Inside). empty b.parts.budget) c.self-inside.view_is in
+    subst (λ (t : State). IsState t.budget c.reset.new.self) c.self.view_is (new_valid c.self.inside.parts.budget c.reset.new.self new)

@@ -24,6 +24,6 @@ returns-in-Some-pop c =
     let free = sym c.take_form.ensures.form ∙ c.in-None.is in
     let top = top-of s _ c.in-Some-pop.head c.in-Some-pop.ensures.items free c.requires.valid in
     let same = untouched s.hand c.take_form.new.self c.take_form.ensures.rest free in
-    frame-gone s _ c.in-Some-pop.head top c.requires.valid _ c.go_out_of.new.self refl
+    frame-gone s _ c.in-Some-pop.head top c.requires.valid c.in-Some-pop.ensures.items _ c.go_out_of.new.self refl
     (c.drop_values.ensures.left top.below (top.own ++ top.value ∷ []) (rw same (last-values s _ c.in-Some-pop.head top c.requires.valid)) (last-count s _ c.in-Some-pop.head top c.requires.valid))
     (c.drop_values.ensures.form ∙ rw same free) refl refl c.go_out_of.ensures

@@ -23,7 +23,7 @@ returns-clause-out c =
     let free = test-free s c.requires.valid c.requires.test in
     let top = top-of s _ c.in-Some.head c.in-Some.ensures.items free c.requires.valid in
     let u : Stack = record { heads = c.pop.new.self; hand = c.drop_values.new.self; act = s.act; depth = s.depth } in
-    frame-gone s _ c.in-Some.head top c.requires.valid u u refl
+    frame-gone s _ c.in-Some.head top c.requires.valid c.in-Some.ensures.items u u refl
     (c.drop_values.ensures.left top.below (top.own ++ top.value ∷ []) (last-values s _ c.in-Some.head top c.requires.valid) (last-count s _ c.in-Some.head top c.requires.valid))
     (c.drop_values.ensures.form ∙ free) refl refl (out-part u u c.in-Some.head c.form_of.result c.form_of.ensures.is.0 c.form_of.ensures.is.1 refl)
 

@@ -1,6 +1,6 @@
-use Rattle.std.proofs.Common.{◌≡◌, ◌∙◌, ap, ap₂, sym, set, get_or, false, [], length, ◌<◌, arith}
+use Rattle.std.proofs.Common.{◌∙◌, ap, ap₂, set, get_or, false, [], length, ◌<◌, arith}
 use Rattle.std.proofs.lemmas.List.{get_or_read}
-use Rattle.ff_pool.specs.Pooled.{taken, copy_of, size}
+use Rattle.ff_pool.specs.Pooled.{taken, copy_of}
 use Rattle.ff_pool.proofs.Gathering.{gathered-take, kept-take, outputs_of}
 use Rattle.ff_pool.proofs.Reading.{level_in}
 use Rattle.ff_pool.proofs.pool.Pool.take.Goals as goal

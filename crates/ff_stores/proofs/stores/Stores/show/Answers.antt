@@ -1,4 +1,4 @@
-use Rattle.std.proofs.Common.{◌≡◌, subst, sym, true, rules}
+use Rattle.std.proofs.Common.{◌≡◌, subst, sym, true, arith, rules}
 use Rattle.std.specs.Prelude.{IsTrue}
 use Rattle.ff_machine.specs.Stores as s
 use Rattle.ff_machine.specs.Windows as w
@@ -22,6 +22,11 @@ invariant_of-self-in-Ok-show_new g c =
     let free : w.has_page_room c.self.inside.windows ≡ true = search rules in
     shown_stores (stores_of c.self.inside) c.args.window c.args.url.now c.args.docs.now c.next_page-page.result c.next_act-act.result c.in-Ok.root c.load.new.self c.show_new.new.windows
     c.self.invariant opened c.requires.url c.requires.docs free c.next_page-page.ensures c.next_act-act.ensures c.in-Ok.ensures.number c.in-Ok.ensures.answer c.in-Ok.ensures.done c.in-Ok-show_new.ensures.done
+
+pub returns-in-Err-NoMemory-clause-copies : goal.returns-in-Err-NoMemory-clause-copies
+returns-in-Err-NoMemory-clause-copies g c =
+    rw (← c.self.view_is)
+    (shown_copies (stores_of c.self.inside) c.args.docs.now c.next_page-page.result c.next_act-act.result _ _ c.load.new.copies c.next_page-page.ensures c.next_act-act.ensures c.load.ensures.copies (omega arith))
 
 pub returns-in-Err-clause-copies : goal.returns-in-Err-clause-copies
 returns-in-Err-clause-copies g c =
