@@ -77,7 +77,7 @@ report() {
         awk -v name="$1" -v command="$2" '{
             ours = 1e9 / $3
             theirs = 1e9 / 2000000
-            printf "%s, %s -  %.0f ns a turn (middle %.0f), ", name, command, $1 * ours, $2 * ours
+            printf "%s, %s -  %.0f ns a turn (middle %.0f), %.0f a second, ", name, command, $1 * ours, $2 * ours, $3 / $1
             printf "plain Rust %.0f ns (%.0f), ", $4 * theirs, $5 * theirs
             printf "ratio %.2f (%.2f); ", $1 * ours / ($4 * theirs), $2 * ours / ($5 * theirs)
             printf "%d instructions, plain Rust %d, ratio %.2f\n", $6, $7, $6 / $7
