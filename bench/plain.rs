@@ -1,4 +1,4 @@
-// What crates/ff_bench times, in plain Rust: for each word the same names, with the nanoseconds that
+// What bench/program times, in plain Rust: for each word the same names, with the nanoseconds that
 // one takes. For `script` and a name of `steps`, as `loop`, it times that script alone.
 mod frames;
 mod searches;

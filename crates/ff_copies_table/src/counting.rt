@@ -32,7 +32,7 @@ fn offer(alloc: Global, policy: &Policy, l: u8, input: &Input) -> Result<Option<
 }
 
 /// What the two levels are offered of an input.
-fn offers(alloc: Global, policy: &Policy, input: &Input) -> Result<Offers, NoMemory>
+pub(crate) fn offers(alloc: Global, policy: &Policy, input: &Input) -> Result<Offers, NoMemory>
     requires input { IsInputOf policy.now.order input.now }
     ensures { IfOk result (λ offers. AreOffers IsWellSpelledInput 2 offers) }
 {
@@ -48,7 +48,11 @@ fn offers(alloc: Global, policy: &Policy, input: &Input) -> Result<Offers, NoMem
 }
 
 /// The input of a line, if it holds one.
-fn input_of(alloc: Global, policy: &Policy, line: &str) -> Result<Option<Input>, NoMemory>
+pub(crate) fn input_of(
+    alloc: Global,
+    policy: &Policy,
+    line: &str,
+) -> Result<Option<Input>, NoMemory>
     ensures { IfOk result (λ input. IfSome input (IsInputOf policy.now.order)) }
 {
     if line.len() > 65_536 {

@@ -1,10 +1,13 @@
-//! Prints the story of a pool of two levels, of which the lower one is level 0: an arrival of equal
+//! Prints what a browser by itself and its fork do, and the story of a pool of two levels, of which the lower one is level 0: an arrival of equal
 //! offers, one step, an arrival for the higher level alone, and steps of both until all is quiet;
 //! and that of a pool that is drained, forked and taken. Then, for each trace of its input, which a
-//! heading begins, how many turns each of its inputs takes.
+//! heading begins, how many turns each of its inputs takes, or the story that its lines tell, where
+//! the heading says so.
 #![tactic(auto)]
 
+mod alone;
 mod counting;
+mod story;
 
 ghost use Rattle.std.specs.Prelude.{◌≡◌, ◌<◌, false, IfOk};
 ghost use Rattle.std.specs.Bool.{OnTrue};
@@ -219,11 +222,22 @@ fn show_classes(rt: &HostRuntime, classes: &Classes) -> io::Result<()> {
     }
 }
 
-/// Prints a heading, and how many turns the inputs of the lines take.
-fn show_turns(rt: &HostRuntime, heading: &str, lines: &[String]) -> io::Result<()> {
+/// Prints a heading, and the story that the lines tell, or how many turns their inputs take.
+fn show_lines(rt: &HostRuntime, heading: &str, lines: &[String]) -> io::Result<()> {
     if lines.is_empty() {
         return Ok(());
     }
+    match heading.strip_prefix("Story: ") {
+        Some(title) => {
+            println!(rt; "{title}")?;
+            story::show(rt, lines)
+        }
+        None => show_turns(rt, heading, lines),
+    }
+}
+
+/// Prints a heading, and how many turns the inputs of the lines take.
+fn show_turns(rt: &HostRuntime, heading: &str, lines: &[String]) -> io::Result<()> {
     let counts = counting::count::<Brand, Brand>(rt.alloc(), lines, Blank::new(1), Blank::new(1));
     let Ok(counts) = counts else {
         return println!(rt; "no memory");
@@ -243,17 +257,18 @@ fn show_traces(rt: &HostRuntime) -> io::Result<()> {
         let line = line?;
         match line.as_str().split_once(' ') {
             Some(("##", title)) => {
-                show_turns(rt, heading.as_str(), lines.as_slice())?;
+                show_lines(rt, heading.as_str(), lines.as_slice())?;
                 heading = String::from_str(rt.alloc(), title)?;
                 lines = Vec::new(rt.alloc());
             }
             _ => lines.push(line)?,
         }
     }
-    show_turns(rt, heading.as_str(), lines.as_slice())
+    show_lines(rt, heading.as_str(), lines.as_slice())
 }
 
 fn main(rt: HostRuntime) -> io::Result<()> {
+    alone::show(&rt)?;
     show_parting(&rt)?;
     show_takes(&rt)?;
     show_traces(&rt)

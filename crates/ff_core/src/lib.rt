@@ -16,4 +16,4 @@ mod turns;
 
 pub use browser::{Browser, MOST_BUDGET};
 pub use ff_name::NoMemory;
-pub use law::{an_input_ends_within_its_fuel, states_stay_valid};
+pub use law::an_input_takes_few_turns;

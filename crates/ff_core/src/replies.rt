@@ -159,7 +159,8 @@ impl Parts {
             return Ok(());
         }
         let body = slot_body(self.alloc, reply)?;
-        self.stores.fill_slot(page, slot, &body, copies)
+        let _waited = self.stores.fill_slot(page, slot, &body, copies)?;
+        Ok(())
     }
 
     /// A callback of a page, where the page is live, is to be called: with the text of data that

@@ -5,7 +5,7 @@ ghost use Rattle.ff_machine.specs.State as state;
 ghost use Rattle.ff_machine.specs.Stores as stores;
 ghost use Rattle.ff_machine.specs.Turns as turns;
 ghost use Rattle.ff_machine.specs.Valid.{IsTask};
-ghost use Rattle.ff_core.specs.Copies.{turning};
+ghost use Rattle.ff_core.specs.Copies.{spending, turning};
 
 use crate::parts::Parts;
 use ff_name::NoMemory;
@@ -94,7 +94,7 @@ impl Parts {
         requires { All (IsTask self.old.stores) self.old.tasks }
         ensures step { Makes self.old self.new outs.old.items outs.new.items (turns.first_work self.old self.old.tasks) result }
         ensures later { copies.old ≤ copies.new }
-        ensures copies { copies.new ≤ copies.old + turning self.old }
+        ensures copies { copies.new ≤ copies.old + spending self.old.stores self.old.tasks }
     {
         match self.tasks.front_mut() {
             Some(task) => {

@@ -6,5 +6,6 @@ pub mod Frames
 pub mod Loads
 pub mod Seeking
 pub mod Stacks
+pub mod Emptied
 pub mod Rewrites
 pub mod Lent

@@ -1,13 +1,13 @@
-ghost use Rattle.std.specs.Prelude.{◌≡◌, ◌≤◌, ◌<◌, false, IfOk, OnOk, MatchOption};
-ghost use Rattle.ff_value.specs.declared.value.Val.TheVariants as val;
+ghost use Rattle.std.specs.Prelude.{◌≡◌, ◌≤◌, ◌<◌, false, IfOk, OnErr, OnOk, MatchOption};
 ghost use Rattle.ff_term.specs.Running.{Done, Inside, call_of, innermost, insides, is_value, redex, rewritten_in};
 ghost use Rattle.ff_term.specs.Rows.{IsLocal, IsTest, branch, local_row};
 ghost use Rattle.ff_term.specs.Whole.{whole};
 ghost use Rattle.ff_term.specs.Redexes.{IsRedexOf};
 ghost use Rattle.ff_term.specs.Calls.{calls_around};
 ghost use Rattle.ff_frames.specs.Bindings.{IsBinding, bound};
+ghost use Rattle.ff_frames.specs.Emptied.{emptied};
 ghost use Rattle.ff_frames.specs.Lent.{named};
-ghost use Rattle.ff_frames.specs.Stacks.{IsValid};
+ghost use Rattle.ff_frames.specs.Stacks.{IsValid, evaluation};
 
 use crate::redex::Redex;
 use crate::stack::Stack;
@@ -20,7 +20,7 @@ use std::marker::Model;
 /// A script's control: contracts see a runtime expression, and the activation in which it runs
 /// where no call stands around.
 ///
-/// After want of memory a control can go on being used; which expression it is then isn't stated.
+/// After want of memory a control is that of `null`, as a new one is.
 #[derive(Drop)]
 pub struct Control {
     stack: Stack,
@@ -47,6 +47,7 @@ fn kept(alloc: Global, stack: &mut Stack, done: Result<(), NoMemory>) -> Result<
     ensures answer { result ≡ done }
     ensures valid { IsValid stack.new }
     ensures kept { OnOk done (stack.new ≡ stack.old) }
+    ensures emptied { OnErr done (evaluation stack.new ≡ emptied) }
 {
     if done.is_err() {
         clear(alloc, stack);
@@ -58,7 +59,8 @@ fn kept(alloc: Global, stack: &mut Stack, done: Result<(), NoMemory>) -> Result<
 #[cold]
 #[inline(never)]
 fn clear(alloc: Global, stack: &mut Stack)
-    ensures { IsValid stack.new }
+    ensures valid { IsValid stack.new }
+    ensures emptied { evaluation stack.new ≡ emptied }
 {
     *stack = Stack::empty(alloc);
 }
@@ -66,7 +68,7 @@ fn clear(alloc: Global, stack: &mut Stack)
 impl Control {
     /// The control of `null`.
     pub fn new(alloc: Global) -> Control
-        ensures { result.expr ≡ Done val.Null }
+        ensures { result ≡ emptied }
     {
         Control {
             stack: Stack::empty(alloc),
@@ -81,9 +83,17 @@ impl Control {
         Ok(Control { stack })
     }
 
+    /// Makes it the control of `null`.
+    pub fn clear(&mut self, alloc: Global)
+        ensures { self.new ≡ emptied }
+    {
+        clear(alloc, &mut self.stack);
+    }
+
     /// Begins to run an expression in an activation.
     pub fn start(&mut self, alloc: Global, body: &Body, act: ActId) -> Result<(), NoMemory>
-        ensures { OnOk result (self.new ≡ record { base = act; expr = whole body.now }) }
+        ensures done { OnOk result (self.new ≡ record { base = act; expr = whole body.now }) }
+        ensures emptied { OnErr result (self.new ≡ emptied) }
     {
         self.stack = Stack::empty(alloc);
         self.stack = Stack::started(alloc, body, act)?;
@@ -98,7 +108,8 @@ impl Control {
         arg: &Val,
         act: ActId,
     ) -> Result<(), NoMemory>
-        ensures { OnOk result (self.new ≡ record { base = act; expr = call_of code.now arg.now }) }
+        ensures done { OnOk result (self.new ≡ record { base = act; expr = call_of code.now arg.now }) }
+        ensures emptied { OnErr result (self.new ≡ emptied) }
     {
         self.stack = Stack::empty(alloc);
         self.stack = Stack::called(alloc, code, arg, act)?;
@@ -141,7 +152,8 @@ impl Control {
     pub fn local(&mut self, alloc: Global) -> Result<(), NoMemory>
         requires unfinished { is_value self.old.expr ≡ false }
         requires local { IsLocal (redex self.old.expr) }
-        ensures { OnOk result (self.new ≡ rewritten_in local_row self.old) }
+        ensures done { OnOk result (self.new ≡ rewritten_in local_row self.old) }
+        ensures emptied { OnErr result (self.new ≡ emptied) }
     {
         let done = self.stack.reduce();
         kept(alloc, &mut self.stack, done)
@@ -151,7 +163,8 @@ impl Control {
     pub fn choose(&mut self, alloc: Global, yes: bool) -> Result<(), NoMemory>
         requires unfinished { is_value self.old.expr ≡ false }
         requires test { IsTest (redex self.old.expr) }
-        ensures { OnOk result (self.new ≡ rewritten_in (branch yes) self.old) }
+        ensures done { OnOk result (self.new ≡ rewritten_in (branch yes) self.old) }
+        ensures emptied { OnErr result (self.new ≡ emptied) }
     {
         let done = self.stack.choose(yes);
         kept(alloc, &mut self.stack, done)
@@ -160,7 +173,8 @@ impl Control {
     /// Puts a value for the redex.
     pub fn give(&mut self, alloc: Global, value: Val) -> Result<(), NoMemory>
         requires { is_value self.old.expr ≡ false }
-        ensures { OnOk result (self.new ≡ rewritten_in (λ _. Done value) self.old) }
+        ensures done { OnOk result (self.new ≡ rewritten_in (λ _. Done value) self.old) }
+        ensures emptied { OnErr result (self.new ≡ emptied) }
     {
         let done = self.stack.give(value);
         kept(alloc, &mut self.stack, done)
@@ -169,7 +183,8 @@ impl Control {
     /// Puts a copy of a lent value for the redex.
     pub fn give_copy(&mut self, alloc: Global, value: &Val) -> Result<(), NoMemory>
         requires { is_value self.old.expr ≡ false }
-        ensures { OnOk result (self.new ≡ rewritten_in (λ _. Done value.now) self.old) }
+        ensures done { OnOk result (self.new ≡ rewritten_in (λ _. Done value.now) self.old) }
+        ensures emptied { OnErr result (self.new ≡ emptied) }
     {
         let done = self.stack.give_copy(value);
         kept(alloc, &mut self.stack, done)
@@ -179,7 +194,8 @@ impl Control {
     pub fn keep(&mut self, alloc: Global) -> Result<(), NoMemory>
         requires unfinished { is_value self.old.expr ≡ false }
         requires binding { IsBinding (redex self.old.expr) }
-        ensures { OnOk result (self.new ≡ rewritten_in bound self.old) }
+        ensures done { OnOk result (self.new ≡ rewritten_in bound self.old) }
+        ensures emptied { OnErr result (self.new ≡ emptied) }
     {
         let done = self.stack.keep();
         kept(alloc, &mut self.stack, done)
@@ -189,7 +205,8 @@ impl Control {
     pub fn enter(&mut self, alloc: Global, act: ActId, body: &Body) -> Result<(), NoMemory>
         requires unfinished { is_value self.old.expr ≡ false }
         requires shallow { insides self.old.expr < MOST_CALLS }
-        ensures { OnOk result (self.new ≡ rewritten_in (λ _. Inside act (whole body.now)) self.old) }
+        ensures done { OnOk result (self.new ≡ rewritten_in (λ _. Inside act (whole body.now)) self.old) }
+        ensures emptied { OnErr result (self.new ≡ emptied) }
     {
         let done = self.stack.enter(act, body);
         kept(alloc, &mut self.stack, done)

@@ -10,6 +10,7 @@ ghost use Rattle.ff_term.specs.Whole.{whole};
 ghost use Rattle.ff_frames.specs.declared.frame.Head.{Head};
 ghost use Rattle.ff_frames.specs.declared.frame.Head.TheVariants as head;
 ghost use Rattle.ff_frames.specs.Bindings.{IsBinding, bound};
+ghost use Rattle.ff_frames.specs.Emptied.{emptied};
 ghost use Rattle.ff_frames.specs.Frames.{around, is_call, shown};
 ghost use Rattle.ff_frames.specs.Heads.{IsEmptyHanded, IsFit, IsTopBare, with_values};
 ghost use Rattle.ff_frames.specs.Lent.{named};
@@ -66,7 +67,7 @@ impl Stack {
     /// The stack of `null`.
     pub fn empty(alloc: Global) -> Stack
         ensures valid { IsValid result }
-        ensures null { (evaluation result).expr ≡ Done val.Null }
+        ensures null { evaluation result ≡ emptied }
     {
         Stack::bare(alloc, ActId(0))
     }

@@ -1,5 +1,5 @@
 //! Fetching the front of a file.
-ghost use Rattle.std.specs.Prelude.{◌≡◌, ◌-◌, ◌<◌, ◌≤◌, length, IfOk, IsErrOf, min, vec_len};
+ghost use Rattle.std.specs.Prelude.{◌⊎◌, ◌≡◌, ◌-◌, ◌<◌, ◌≤◌, length, IfOk, IsErrOf, min, vec_len};
 ghost use Rattle.ff_io.specs.Counts.{Rose};
 ghost use Rattle.ff_io.specs.Fetched.{IsFetched, IsFetchedPiece};
 ghost use Rattle.ff_io.specs.declared.fetch.FetchFail.TheVariants.{Fetch, NoMemory};
@@ -40,7 +40,8 @@ impl From<AllocError> for FetchFail {
 const MOST_FETCH_BYTES: usize = 4_096;
 
 /// Fetches the first `limit` bytes of the named file, or all of them where it has fewer. `limit` is
-/// at least 1. Bytes after these don't count: the answer is the same whatever they are.
+/// at least 1. Bytes after these don't count: the answer is the same whatever they are. No fetch is
+/// tried again: the answer is `Fetch` as soon as one failed.
 ///
 /// # Errors
 ///
@@ -58,6 +59,7 @@ pub fn fetch_front<S: Shelf>(
     ensures within { IfOk result (λ bytes. vec_len bytes ≤ limit) }
     ensures files { S.files shelf.new ≡ S.files shelf.old }
     ensures later { S.faults shelf.old name.now ≤ S.faults shelf.new name.now }
+    ensures unfailed { IsErrOf result FetchFail.Fetch ⊎ (S.faults shelf.new name.now ≡ S.faults shelf.old name.now) }
     ensures cause { IsErrOf result FetchFail.Fetch → Rose (S.faults shelf.old name.now) (S.faults shelf.new name.now) }
 {
     let mut chunk = buffer_of(alloc, MOST_FETCH_BYTES)?;
@@ -88,6 +90,7 @@ fn fetch_piece<S: Shelf>(
     ensures piece { IfOk result (IsFetchedPiece (S.files shelf.old) name.now bytes.old.items bytes.new.items (length into.old)) }
     ensures files { S.files shelf.new ≡ S.files shelf.old }
     ensures later { S.faults shelf.old name.now ≤ S.faults shelf.new name.now }
+    ensures unfailed { IsErrOf result FetchFail.Fetch ⊎ (S.faults shelf.new name.now ≡ S.faults shelf.old name.now) }
     ensures cause { IsErrOf result FetchFail.Fetch → Rose (S.faults shelf.old name.now) (S.faults shelf.new name.now) }
 {
     let n = shelf.fetch(name, bytes.len() as u64, into)?;

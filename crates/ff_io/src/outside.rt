@@ -1,5 +1,5 @@
 //! What a program needs of the outside, as three traits.
-ghost use Rattle.std.specs.Prelude.{◌≡◌, ℕ, ◌<◌, ◌≤◌, List, Option, length, IfOk};
+ghost use Rattle.std.specs.Prelude.{◌≡◌, ℕ, ◌<◌, ◌≤◌, List, Option, length, IfOk, OnOk};
 ghost use Rattle.ff_io.specs.Pieces.{Piece};
 ghost use Rattle.ff_io.specs.Counts.{HasCause};
 ghost use Rattle.ff_io.specs.Port.{Told, SinkTold, Adds, Leaves, Gains, AtEnd, bytes_of, pieces_got, pieces_put};
@@ -115,7 +115,8 @@ pub trait Shelf {
         ensures bytes { Gives (files self.old) name.now at result into.new }
         ensures files { files self.new ≡ files self.old }
         ensures cause { HasCause (faults self.old name.now) (faults self.new name.now) result }
-        ensures later { (other : List ℕ) → faults self.old other ≤ faults self.new other };
+        ensures later { (other : List ℕ) → faults self.old other ≤ faults self.new other }
+        ensures good { OnOk result ((other : List ℕ) → faults self.new other ≡ faults self.old other) };
 
     // That it is both.
     ghost tells: { (shelf : Self) → told shelf ≡ record { files = files shelf; faults = faults shelf } };

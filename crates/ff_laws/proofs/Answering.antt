@@ -9,7 +9,7 @@ use Rattle.ff_machine.specs.declared.records.Pending.{Pending}
 use Rattle.ff_machine.specs.Net.{Requests, asked, count_asks, with_asked, answered}
 use Rattle.ff_machine.specs.Stores.{Stores}
 use Rattle.ff_machine.specs.Alone.{IsPending, AreAsked, AreRequests}
-use Rattle.ff_machine.specs.References.{made}
+use Rattle.ff_machine.specs.References.{made, RequestsRefer}
 use Rattle.ff_machine.specs.Valid.{IsStores}
 use Rattle.ff_laws.specs.Keeps.{Keeps}
 use Rattle.ff_laws.proofs.Sums.{sum_values, sum_where}
@@ -62,20 +62,27 @@ none_asked P requests domain q none old =
       by true = none
       by false = old
 
+-- a request that is taken out keeps requests valid
+module _ (requests : Requests) (domain : List ℕ) (k : ℕ) (are : AreRequests requests) where
+  left_alone : (left : List Pending) → remove (asked requests domain) k ≡ left → AreRequests (with_asked requests domain left)
+  left_alone [] h = none_valid requests domain are
+  left_alone (p ∷ ps) h =
+      set_valid requests domain (p ∷ ps) are (left_valid requests domain k (finmap.get requests domain) p ps are refl h)
+      (omega (arith, are.few, removed_size (asked requests domain) k, ap (λ (xs : List Pending). length xs) h))
+
+  pub answered_alone : AreRequests (answered requests domain k)
+  answered_alone = left_alone (remove (asked requests domain) k) refl
+
 module _ (s : Stores) (domain : List ℕ) (k : ℕ) (valid : IsStores s) where
   left_refer : All (PendingRefers (made s)) (remove (asked s.requests domain) k)
   left_refer = All-removed (PendingRefers (made s)) (asked s.requests domain) k (valid.refer.requests domain)
 
-  answered_by : (left : List Pending) → remove (asked s.requests domain) k ≡ left → Keeps s (record s { requests = with_asked s.requests domain left })
-  answered_by [] h =
-      requests_changed s (finmap.remove s.requests domain) valid (none_valid s.requests domain valid.requests)
-      (λ q. none_asked (All (PendingRefers (made s))) s.requests domain q (All-nil (PendingRefers (made s))) (valid.refer.requests q))
-  answered_by (p ∷ ps) h =
-      requests_changed s (finmap.insert s.requests domain (p ∷ ps)) valid
-      (set_valid s.requests domain (p ∷ ps) valid.requests (left_valid s.requests domain k (finmap.get s.requests domain) p ps valid.requests refl h)
-      (omega (arith, valid.requests.few, removed_size (asked s.requests domain) k, ap (λ (xs : List Pending). length xs) h)))
-      (λ q. asked_set s.requests domain (p ∷ ps) (All (PendingRefers (made s))) q (subst (All (PendingRefers (made s))) h left_refer) (valid.refer.requests q))
+  refer_by : (left : List Pending) → remove (asked s.requests domain) k ≡ left → RequestsRefer (made s) (with_asked s.requests domain left)
+  refer_by [] h = λ q. none_asked (All (PendingRefers (made s))) s.requests domain q (All-nil (PendingRefers (made s))) (valid.refer.requests q)
+  refer_by (p ∷ ps) h = λ q. asked_set s.requests domain (p ∷ ps) (All (PendingRefers (made s))) q (subst (All (PendingRefers (made s))) h left_refer) (valid.refer.requests q)
 
   -- a request that is taken out keeps stores valid
   pub answered_valid : Keeps s (record s { requests = answered s.requests domain k })
-  answered_valid = answered_by (remove (asked s.requests domain) k) refl
+  answered_valid =
+      requests_changed s (answered s.requests domain k) valid (answered_alone s.requests domain k valid.requests)
+      (refer_by (remove (asked s.requests domain) k) refl)

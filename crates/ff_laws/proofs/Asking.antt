@@ -10,7 +10,7 @@ use Rattle.ff_name.specs.Address.{IsRequest}
 use Rattle.ff_machine.specs.declared.records.Dst.{Dst}
 use Rattle.ff_machine.specs.declared.records.Pending.{Pending}
 use Rattle.ff_machine.specs.declared.limits.TheConstants.{MOST_ASKS, MOST_ASKS_OF_DOMAIN}
-use Rattle.ff_machine.specs.Net.{Requests, asked, count_asks, with_ask}
+use Rattle.ff_machine.specs.Net.{Requests, asked, count_asks, with_ask, has_ask_room}
 use Rattle.ff_machine.specs.Stores as stores
 use Rattle.ff_machine.specs.Stores.{Stores}
 use Rattle.ff_machine.specs.Alone.{IsDst, IsPending, AreAsked, AreRequests}
@@ -95,6 +95,24 @@ pub asked_each : (requests : Requests) (domain : List ℕ) (o : Option (List Pen
 asked_each requests domain None e are = All-nil IsPending
 asked_each requests domain (Some ps) e are = (are.each domain ps e).each
 
+-- a request more keeps requests valid
+module _ (requests : Requests) (domain : List ℕ) (new : Pending) (are : AreRequests requests) (is_domain : IsDomain domain) (is : IsPending new) (room : has_ask_room requests domain ≡ true) where
+  size : length (asked requests domain ++ new ∷ []) ≡ length (asked requests domain) + 1
+  size = length-append (asked requests domain) (new ∷ [])
+
+  pub asked_alone : AreRequests (with_ask requests domain new)
+  asked_alone =
+      let may = and_parts _ _ room in
+      let few_of : length (asked requests domain) < MOST_ASKS_OF_DOMAIN = ltb-true (length (asked requests domain)) MOST_ASKS_OF_DOMAIN may.0 in
+      let few : count_asks requests < MOST_ASKS = ltb-true (count_asks requests) MOST_ASKS may.1 in
+      let now : AreAsked domain (asked requests domain ++ new ∷ []) = record {
+        domain_is = is_domain;
+        some = pushed_some (asked requests domain) new;
+        each = All-push IsPending (asked requests domain) new (asked_each requests domain (finmap.get requests domain) refl are) is;
+        few = omega (arith, size, few_of);
+      } in
+      set_valid requests domain (asked requests domain ++ new ∷ []) are now (omega (arith, size, few))
+
 module _ (s : Stores) (domain uri body : List ℕ) (to : Dst) (valid : IsStores s) (is_domain : IsDomain domain) (is_request : IsRequest uri) (is_dst : IsDst to) (refers : DstRefers (made s) to) where
   abbrev new : Pending
   new = record { uri = uri; dst = to }
@@ -103,16 +121,6 @@ module _ (s : Stores) (domain uri body : List ℕ) (to : Dst) (valid : IsStores 
   pub sent_valid : stores.has_ask_room s domain ≡ true → Keeps s (stores.sent s domain uri body to).after
   sent_valid room =
       let asks = asked s.requests domain in
-      let may = and_parts _ _ room in
-      let few_of : length asks < MOST_ASKS_OF_DOMAIN = ltb-true (length asks) MOST_ASKS_OF_DOMAIN may.0 in
-      let few : count_asks s.requests < MOST_ASKS = ltb-true (count_asks s.requests) MOST_ASKS may.1 in
-      let size : length (asks ++ new ∷ []) ≡ length asks + 1 = length-append asks (new ∷ []) in
-      let now : AreAsked domain (asks ++ new ∷ []) = record {
-        domain_is = is_domain;
-        some = pushed_some asks new;
-        each = All-push IsPending asks new (asked_each s.requests domain (finmap.get s.requests domain) refl valid.requests) (record { uri = is_request; dst = is_dst });
-        few = omega (arith, size, few_of);
-      } in
       requests_changed s (with_ask s.requests domain new) valid
-      (set_valid s.requests domain (asks ++ new ∷ []) valid.requests now (omega (arith, size, few)))
+      (asked_alone s.requests domain new valid.requests is_domain (record { uri = is_request; dst = is_dst }) room)
       (λ q. asked_set s.requests domain (asks ++ new ∷ []) (All (PendingRefers (made s))) q (All-push (PendingRefers (made s)) asks new (valid.refer.requests domain) refers) (valid.refer.requests q))

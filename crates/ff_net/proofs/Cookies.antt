@@ -1,5 +1,7 @@
 -- The order of cookies, the tests by which one is found, and what one change of the rows does.
-use Rattle.std.proofs.Common.{◌≡◌, ℕ, true, false, cond, ◌&&◌, nat_lt, Some, None, List, length, count_by, refl, sym, ◌∙◌}
+use Rattle.std.proofs.Common.{◌≡◌, ℕ, true, false, cond, ◌&&◌, nat_lt, Some, None, List, [], length, count_by, refl, sym, subst, ◌∙◌}
+use Rattle.std.specs.Str.{IsUtf8}
+use Rattle.ff_name.specs.Spelling.{IsDomain}
 use Rattle.std.specs.List.{position_or_len}
 use Rattle.std.specs.declared.cmp.Ordering.{Ordering}
 use Rattle.std.specs.declared.cmp.Ordering.TheVariants.{Less, Equal, Greater}
@@ -12,8 +14,10 @@ use Rattle.std.proofs.lemmas.Map.Lookups.{exact_bytes, exact_pairs}
 use Rattle.std.proofs.lemmas.Map.Text.{is_eq-slice_cmp}
 use Rattle.ff_value.specs.declared.fault.Fault.TheVariants as fault
 use Rattle.ff_machine.specs.declared.limits.TheConstants.{MOST_COOKIES, MOST_COOKIES_OF_DOMAIN}
-use Rattle.ff_machine.specs.Net.{Jar, cookie_cmp, cookie, cookies_of, cookie_fault, has_cookie_size, has_cookie_room}
-use Rattle.ff_net.specs.Cookies.{is_of, is_at}
+use Rattle.ff_machine.specs.Alone.{IsJar}
+use Rattle.ff_machine.specs.Net.{Jar, cookie_cmp, cookie, cookies_of, cookie_fault, cookie_put, cookie_deleted, has_cookie_size, has_cookie_room}
+use Rattle.ff_laws.proofs.Cookies.{put_valid, deleted_valid}
+use Rattle.ff_net.specs.Cookies.{is_of, is_at, AreCookies}
 use Rattle.ff_net.specs.Entries.{AreApart}
 use Rattle.ff_net.proofs.Finding.{sum_entries, len_entries}
 use Rattle.ff_net.proofs.Keyed.{IsPlace}
@@ -64,3 +68,22 @@ no_fault jar domain key value old size is = rw (size, is) refl
 -- a new one without room is refused
 pub no_room : (jar : Jar) (domain key value : List ℕ) → has_cookie_size key value ≡ true → cookie jar domain key ≡ None → has_cookie_room jar domain ≡ false → cookie_fault jar domain key value ≡ Some fault.Limit
 no_room jar domain key value size none full = rw (size, none, full) refl
+
+-- with room it may be put
+pub room_left : (jar : Jar) (domain key value : List ℕ) → has_cookie_size key value ≡ true → cookie jar domain key ≡ None → has_cookie_room jar domain ≡ true → cookie_fault jar domain key value ≡ None
+room_left jar domain key value size none room = rw (size, none, room) refl
+
+-- rows with a cookie that may be put
+pub cookies_put : (rows new : List Entry) (domain key value : List ℕ) → AreCookies rows → AreApart cookie_cmp new → finmap.from_entries new ≡ cookie_put (finmap.from_entries rows) domain key value
+    → cookie_fault (finmap.from_entries rows) domain key value ≡ None → IsDomain domain → IsUtf8 key → IsUtf8 value → AreCookies new
+cookies_put rows new domain key value are apart now no_fault is_domain is_key is_value = record {
+  apart = apart;
+  valid = subst IsJar (sym now) (put_valid (finmap.from_entries rows) domain key value are.valid is_domain is_key is_value no_fault);
+}
+
+-- rows without one
+pub cookies_deleted : (rows new : List Entry) (domain key : List ℕ) → AreCookies rows → AreApart cookie_cmp new → finmap.from_entries new ≡ cookie_deleted (finmap.from_entries rows) domain key → AreCookies new
+cookies_deleted rows new domain key are apart now = record {
+  apart = apart;
+  valid = subst IsJar (sym now) (deleted_valid (finmap.from_entries rows) domain key [] are.valid);
+}

@@ -2,6 +2,8 @@
 use Rattle.std.specs.Prelude.{◌≡◌, ◌≤◌, ℕ, Bool, List, length, sum_by, bytes_eq}
 use Rattle.std.specs.Ordering.{nat_cmp}
 use Rattle.std.specs.Cmp.Lexicographic.{slice_cmp}
+use Rattle.std.specs.FinMap as finmap
+use Rattle.ff_machine.specs.Alone.{AreRequests}
 use Rattle.ff_machine.specs.declared.records.Pending.{Pending}
 use Rattle.ff_machine.specs.declared.limits.TheConstants.{MOST_ASKS}
 use Rattle.ff_net.specs.Entries.{AreApart}
@@ -14,8 +16,9 @@ is_to domain asked = bytes_eq asked.0 domain
 abbrev pub count_rows : List (List ℕ × List Pending) → ℕ
 count_rows rows = sum_by (λ e. length e.1) rows
 
--- rows of requests, no two to one domain, and how many requests they are
+-- rows of valid requests, no two to one domain, and how many requests they are
 pub record AreCounted (rows : List (List ℕ × List Pending)) (total : ℕ) : Type 0 where
   pub apart : AreApart (slice_cmp nat_cmp) rows
   pub counted : total ≡ count_rows rows
   pub few : total ≤ MOST_ASKS
+  pub valid : AreRequests (finmap.from_entries rows)

@@ -1,9 +1,9 @@
 //! The cookies of one browser.
-ghost use Rattle.std.specs.Prelude.{◌≡◌, ◌+◌, ◌≤◌, IfOk, OnOk};
+ghost use Rattle.std.specs.Prelude.{◌≡◌, ◌+◌, ◌≤◌, IfOk, OnErr, OnOk};
 ghost use Rattle.std.specs.Option.{option_copied};
 ghost use Rattle.std.specs.FinMap as finmap;
 ghost use Rattle.ff_machine.specs.Net as net;
-ghost use Rattle.ff_operators.specs.Answers.{Answers, OnFault};
+ghost use Rattle.ff_operators.specs.Answers.{Answers};
 
 use crate::cookie::{Cookie, has_cookie_size, has_room, place_of};
 use crate::pairs::pairs_of;
@@ -16,7 +16,8 @@ use std::alloc::Global;
 use std::marker::Model;
 use std::sync::ledger::Ledger;
 
-/// The cookies, seen as the map from domains and keys to values.
+/// The cookies, seen as the map from domains and keys to values. They are valid at every return:
+/// spelled, and within their sizes and numbers.
 #[derive(Drop)]
 pub struct Jar {
     alloc: Global,
@@ -32,11 +33,11 @@ impl Model for Jar {
 
     ghost coded = { coded_jar };
 
-    ghost use Rattle.ff_net.specs.Entries.{AreApart};
+    ghost use Rattle.ff_net.specs.Cookies.{AreCookies};
 
     ghost view = { λ jar. finmap.from_entries jar.cookies };
 
-    ghost invariant = { λ jar. AreApart net.cookie_cmp jar.cookies };
+    ghost invariant = { λ jar. AreCookies jar.cookies };
 }
 
 impl Jar {
@@ -64,8 +65,8 @@ impl Jar {
 
     /// Sets a domain's cookie. It is refused with `Range` exactly where the key hasn't 1 to 256
     /// bytes or the value has more than 4,096, and then with `Limit` exactly where the key is new
-    /// and the domain has 64 cookies or the jar has 1,024. After a fault nothing has changed. After
-    /// want of memory the jar's content is not stated.
+    /// and the domain has 64 cookies or the jar has 1,024. After a fault, and after want of memory,
+    /// nothing has changed.
     pub fn put<C: Ledger>(
         &mut self,
         domain: &Domain,
@@ -75,13 +76,16 @@ impl Jar {
     ) -> Result<(), Fail>
         ensures done { OnOk result (self.new ≡ net.cookie_put self.old domain.now key.now value.now) }
         ensures answer { Answers (net.cookie_fault self.old domain.now key.now value.now) result }
-        ensures kept { OnFault result (self.new ≡ self.old) }
+        ensures kept { OnErr result (self.new ≡ self.old) }
         ensures later { copies.old ≤ copies.new }
         ensures copies { copies.new ≤ copies.old + 16 }
     {
         if !has_cookie_size(key, value) {
             return Err(Fail::Fault(Fault::Range));
         }
+        let _domain = domain.as_bytes();
+        let _key = key.as_bytes();
+        let _value = value.as_bytes();
         let place = place_of(&self.cookies, domain, key.as_bytes());
         if place < self.cookies.len() {
             self.cookies
@@ -95,8 +99,7 @@ impl Jar {
         Ok(())
     }
 
-    /// Takes out a domain's cookie, where there is one. After want of memory the jar's content is
-    /// not stated.
+    /// Takes out a domain's cookie, where there is one. After want of memory nothing has changed.
     pub fn delete<C: Ledger>(
         &mut self,
         domain: &Domain,
@@ -104,6 +107,7 @@ impl Jar {
         copies: &mut Steps<C>,
     ) -> Result<(), NoMemory>
         ensures done { OnOk result (self.new ≡ net.cookie_deleted self.old domain.now key.now) }
+        ensures kept { OnErr result (self.new ≡ self.old) }
         ensures later { copies.old ≤ copies.new }
         ensures copies { copies.new ≤ copies.old + 17 }
     {

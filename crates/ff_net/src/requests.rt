@@ -1,6 +1,8 @@
 //! The pending requests of one browser.
-ghost use Rattle.std.specs.Prelude.{◌≡◌, ◌+◌, ◌*◌, ◌≤◌, IsTrue, IfOk, OnOk, MatchOption, length, slice_get};
+ghost use Rattle.std.specs.Prelude.{◌≡◌, ◌+◌, ◌*◌, ◌≤◌, IsTrue, IfOk, OnErr, OnOk, MatchOption, length, slice_get};
 ghost use Rattle.std.specs.FinMap as finmap;
+ghost use Rattle.ff_name.specs.Address.{IsRequest};
+ghost use Rattle.ff_machine.specs.Alone.{IsDst};
 ghost use Rattle.ff_machine.specs.Net as net;
 
 use crate::ask::Asked;
@@ -14,7 +16,7 @@ use std::marker::Model;
 use std::sync::ledger::Ledger;
 
 /// The requests whose replies haven't come, seen as the map from each domain that has some to its
-/// requests, the oldest first.
+/// requests, the oldest first. They are valid at every return: spelled, and within their numbers.
 #[derive(Drop)]
 pub struct Requests {
     alloc: Global,
@@ -68,7 +70,7 @@ impl Requests {
     }
 
     /// Puts a request behind the others of its domain, where there is room. After want of memory
-    /// what is pending is not stated.
+    /// nothing has changed.
     pub fn ask<C: Ledger>(
         &mut self,
         domain: &Domain,
@@ -76,11 +78,15 @@ impl Requests {
         dst: Dst,
         copies: &mut Steps<C>,
     ) -> Result<(), NoMemory>
-        requires { IsTrue (net.has_ask_room self.old domain.now) }
+        requires room { IsTrue (net.has_ask_room self.old domain.now) }
+        requires uri { IsRequest uri.now }
+        requires dst { IsDst dst }
+        ensures kept { OnErr result (self.new ≡ self.old) }
         ensures done { OnOk result (self.new ≡ net.with_ask self.old domain.now (record { uri = uri.now; dst = dst })) }
         ensures later { copies.old ≤ copies.new }
         ensures copies { copies.new ≤ copies.old + 33 }
     {
+        let _domain = domain.as_bytes();
         let pending = Pending {
             uri: uri.copy()?,
             dst,
@@ -91,8 +97,8 @@ impl Requests {
     }
 
     /// Takes out the domain's request at a place, counted from 0; later ones move down. `None`
-    /// exactly where fewer are pending, and then nothing has changed. After want of memory what is
-    /// pending is not stated.
+    /// exactly where fewer are pending, and then nothing has changed; nor has it after want of
+    /// memory.
     pub fn answer<C: Ledger>(
         &mut self,
         domain: &Domain,
@@ -100,6 +106,7 @@ impl Requests {
         copies: &mut Steps<C>,
     ) -> Result<Option<Pending>, NoMemory>
         ensures value { IfOk result (λ answer. answer ≡ slice_get (net.asked self.old domain.now) k) }
+        ensures kept { OnErr result (self.new ≡ self.old) }
         ensures done { IfOk result (λ answer. MatchOption answer (self.new ≡ self.old) (λ _. self.new ≡ net.answered self.old domain.now k)) }
         ensures later { copies.old ≤ copies.new }
         ensures copies { copies.new ≤ copies.old + 17 * length (net.asked self.old domain.now) }

@@ -2,7 +2,7 @@
 
 use crate::{forms, items, lines, spelling};
 use anyhow::{Context, Result, bail};
-use ff_gen::workload;
+use ff_gen::{Draws, workload};
 use ff_text::MOST_BYTES;
 use std::alloc::Global;
 
@@ -31,6 +31,15 @@ pub fn answer(alloc: Global, line: &str) -> Result<String> {
 /// The lines that are drawn from a number, so many.
 fn drawn(alloc: Global, given: &str) -> Result<String> {
     let (start, many) = given.split_once(' ').context("a start and a number")?;
-    let bytes = workload(alloc, start.parse::<u64>()?, many.parse::<u32>()?)?;
+    let (start, many) = (start.parse::<u64>()?, many.parse::<u32>()?);
+    let bytes = workload(alloc, start, many)?;
+    let mut draws = Draws::new(start);
+    let mut drawn = Vec::new(alloc);
+    for _line in 0..many {
+        draws.next_line(&mut drawn)?;
+    }
+    if drawn.as_slice() != bytes.as_slice() {
+        bail!("the lines that are drawn one by one are others");
+    }
     spelling::whole_lines(alloc, bytes)
 }

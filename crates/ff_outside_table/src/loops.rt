@@ -50,11 +50,11 @@ impl Taker for Growing {
 
     ghost accepts = { λ taker byte. ⊤ };
 
-    ghost entry = { λ taker bytes byte. bytes ++ byte ∷ 10 ∷ [] };
+    ghost entry = { λ taker start bytes byte. bytes ++ byte ∷ 10 ∷ [] };
 
-    ghost turns = { λ taker bytes byte. 1 };
+    ghost turns = { λ taker start bytes byte. 1 };
 
-    ghost is_at = { λ taker state bytes. state.items ≡ bytes };
+    ghost is_at = { λ taker start state bytes. state.items ≡ bytes };
 
     ghost copies_none = { λ taker. ⊤ };
 

@@ -200,6 +200,10 @@ pub turns_at : {fuel : ℕ} {heads : List Head} {puts : List (List Out)} {leader
     → head_turns (head_at fuel heads (leader leaders l)) ≡ step_turns (reactor fuel) (copy_at (reactor fuel) (gathered fuel heads puts leaders) l).state
 turns_at {fuel} {heads} {puts} {leaders} kept l lt = ap (λ c. step_turns (reactor fuel) c.state) (sym (copy-gathered fuel heads puts leaders l lt))
 
+pub state_at : {fuel : ℕ} {heads : List Head} {puts : List (List Out)} {leaders : List ℕ} → IsKept fuel heads puts leaders → (l : ℕ) → l < length leaders
+    → (head_at fuel heads (leader leaders l)).state ≡ (copy_at (reactor fuel) (gathered fuel heads puts leaders) l).state
+state_at {fuel} {heads} {puts} {leaders} kept l lt = ap (λ c. c.state) (sym (copy-gathered fuel heads puts leaders l lt))
+
 pub outputs_of : {fuel : ℕ} {heads : List Head} {puts : List (List Out)} {leaders : List ℕ} → IsKept fuel heads puts leaders → (l : ℕ) → l < length leaders
     → outputs_at puts l ≡ (copy_at (reactor fuel) (gathered fuel heads puts leaders) l).outputs
 outputs_of {fuel} {heads} {puts} {leaders} kept l lt = ap (λ c. c.outputs) (sym (copy-gathered fuel heads puts leaders l lt))

@@ -3,7 +3,7 @@ use Rattle.std.proofs.Common.{◌≡◌, ◌≢◌, ℕ, ◌+◌, ◌<◌, ◌�
 use Rattle.std.proofs.lemmas.Bool.{cases_lt, cond-true, cond-false, eq-eqb, ne_eqb}
 use Rattle.std.proofs.lemmas.List.{get_or_default}
 use Rattle.ff_value.specs.declared.output.Out.{Out}
-use Rattle.ff_reactive.specs.Worlds.{leader, each}
+use Rattle.ff_reactive.specs.Worlds.{leader}
 use Rattle.ff_reactive.proofs.Below.{each_is}
 use Rattle.ff_pool.specs.Heads.{outputs_at, given}
 

@@ -6,9 +6,9 @@ use Rattle.ff_value.specs.declared.output.Out.{Out}
 use Rattle.ff_reactive.specs.Worlds.{leader, split}
 use Rattle.ff_reactive.proofs.Classes.{length-split}
 use Rattle.ff_pool.specs.Heads.{Head, HasArrived, same_input, new_head, head_at, step_of, step_head, head_turns, head_works, given, IsKept}
-use Rattle.ff_pool.specs.Pooled.{Pooled, seen, size, has_work, step_turns, arrived, turned, AreOffersTo}
+use Rattle.ff_pool.specs.Pooled.{Pooled, seen, size, copy_of, has_work, step_turns, arrived, turned, AreOffersTo}
 use Rattle.ff_pool.proofs.Parting.{same_input_decides}
-use Rattle.ff_pool.proofs.Gathering.{head_default, spelled_at, work_at, turns_at, gathered-turn, kept-turn, gathered-arrive, kept-arrive}
+use Rattle.ff_pool.proofs.Gathering.{head_default, spelled_at, work_at, turns_at, state_at, gathered-turn, kept-turn, gathered-arrive, kept-arrive}
 
 -- what is known where a call has opened a pool that isn't spent
 module _ {fuel : ℕ} {spent : Bool} {heads : List Head} {puts : List (List Out)} {leaders : List ℕ} {p : Pooled} (invariant : spent ≡ false → IsKept fuel heads puts leaders) (unspent : spent ≡ false) (view : seen fuel spent heads puts leaders ≡ p) where
@@ -46,6 +46,9 @@ module _ {fuel : ℕ} {spent : Bool} {heads : List Head} {puts : List (List Out)
 
     pub read_turns : (d : Head) → head_turns (get_or xs (leader ls k) d) ≡ step_turns p l
     read_turns d = read_head head_turns d ∙ turns_at kept l level ∙ ap (λ q. step_turns q l) view
+
+    pub read_state : (d : Head) → (get_or xs (leader ls k) d).state ≡ (copy_of p l).state
+    read_state d = read_head (λ h. h.state) d ∙ state_at kept l level ∙ ap (λ q. (copy_of q l).state) view
 
     module _ {ys : List (List Out)} {heads' xs' : List Head} {puts' ys' : List (List Out)} (puts_are : ys ≡ puts) (heads_to : heads' ≡ xs') (puts_to : puts' ≡ ys')
         (done : (d : Head) → xs' ≡ set xs (leader ls k) (step_head (get_or xs (leader ls k) d)))

@@ -1,6 +1,7 @@
 //! The copy of one class: a browser, and the inputs that wait for it.
-ghost use Rattle.std.specs.Prelude.{◌≡◌, ◌+◌, ◌≤◌, ◌++◌, ◌∷◌, [], All, IfOk, OnOk, Some};
+ghost use Rattle.std.specs.Prelude.{◌≡◌, ◌+◌, ◌≤◌, ◌++◌, ◌∷◌, [], false, All, IfOk, OnOk, Some};
 ghost use Rattle.ff_value.specs.Spelled.{IsWellSpelledInput};
+ghost use Rattle.ff_core.specs.Copies.{turning};
 ghost use Rattle.ff_core.specs.declared.browser.TheConstants.{MOST_BUDGET};
 ghost use Rattle.ff_pool.specs.Heads.{new_head, step_of, step_head, offer_head, head_works, head_turns};
 
@@ -87,6 +88,7 @@ impl Group {
         ensures most { turns.new ≤ turns.old + head_turns self.old }
         ensures turns_later { turns.old ≤ turns.new }
         ensures later { copies.old ≤ copies.new }
+        ensures copies { self.old.state.quiet ≡ false → copies.new ≤ copies.old + turning self.old.state }
     {
         if !self.browser.quiet() {
             return self.browser.turn(outs, copies, turns);

@@ -3,7 +3,7 @@ ghost use Rattle.std.specs.Prelude.{◌≡◌, ◌+◌, ◌≤◌, ℕ, true, fa
 ghost use Rattle.ff_machine.specs.Machine.{reactor};
 ghost use Rattle.ff_reactive.specs.Worlds.{IsPlayed};
 ghost use Rattle.ff_pool.specs.Pooled.{size, played, new_pool};
-ghost use Rattle.ff_pool.specs.Events.{events_of, played_one, IsEvent};
+ghost use Rattle.ff_pool.specs.Events.{events_of, played_one, turns_of_event, turns_of_events, IsEvent};
 
 use crate::event::Event;
 use crate::pool::Pool;
@@ -13,8 +13,8 @@ use std::alloc::AllocError;
 use std::sync::ledger::Ledger;
 
 impl Pool {
-    /// The events in order, where a step of a level without work changes nothing. After want of
-    /// memory the pool is spent.
+    /// The events in order, where a step of a level without work changes nothing. `turns` counts the
+    /// turns of each class once, as single steps do. After want of memory the pool is spent.
     ///
     /// From a new pool, whatever the events are: the outputs of each level begin what one browser
     /// puts that takes what the level was offered, and are all of that where the level is quiet;
@@ -31,6 +31,8 @@ impl Pool {
         ensures schedule { OnOk result ((n fuel : ℕ) → self.old ≡ new_pool n fuel → IsPlayed (reactor fuel) (fuel + 1) self.new.world (events_of events.now)) }
         ensures spent { OnErr result (self.new.spent ≡ true) }
         ensures levels { size self.new ≡ size self.old }
+        ensures count { OnOk result (turns.new ≡ turns.old + turns_of_events self.old events.now) }
+        ensures most { turns.new ≤ turns.old + turns_of_events self.old events.now }
         ensures turns_later { turns.old ≤ turns.new }
         ensures later { copies.old ≤ copies.new }
     {
@@ -55,6 +57,8 @@ impl Pool {
         ensures done { OnOk result (self.new ≡ played_one self.old event.now) }
         ensures spent { OnErr result (self.new.spent ≡ true) }
         ensures levels { size self.new ≡ size self.old }
+        ensures count { OnOk result (turns.new ≡ turns.old + turns_of_event self.old event.now) }
+        ensures most { turns.new ≤ turns.old + turns_of_event self.old event.now }
         ensures turns_later { turns.old ≤ turns.new }
         ensures later { copies.old ≤ copies.new }
     {

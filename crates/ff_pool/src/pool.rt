@@ -1,5 +1,6 @@
 //! The pool and its single steps.
 ghost use Rattle.std.specs.Prelude.{◌≡◌, ◌+◌, ◌<◌, ◌≤◌, ◌↔◌, true, false, not, IsTrue, IfOk, OnOk, OnErr};
+ghost use Rattle.ff_core.specs.Copies.{turning};
 ghost use Rattle.ff_core.specs.declared.browser.TheConstants.{MOST_BUDGET};
 ghost use Rattle.ff_lattice.specs.declared.names.TheConstants.{MOST_LEVELS};
 ghost use Rattle.ff_reactive.specs.Worlds.{leader};
@@ -167,7 +168,8 @@ impl Pool {
     }
 
     /// One step of the level's class: where its browser is quiet it takes the first input that
-    /// waits, and else it makes one turn, which `turns` counts once for the whole class. After want
+    /// waits, and else it makes one turn, which `turns` counts once for the whole class; `copies`
+    /// counts the cells that the turn copies, at most `turning` of the browser's state. After want
     /// of memory the pool is spent.
     pub fn turn<C: Ledger, L: Ledger>(
         &mut self,
@@ -184,6 +186,7 @@ impl Pool {
         ensures most { turns.new ≤ turns.old + step_turns self.old l.0 }
         ensures turns_later { turns.old ≤ turns.new }
         ensures later { copies.old ≤ copies.new }
+        ensures copies { (copy_of self.old l.0).state.quiet ≡ false → copies.new ≤ copies.old + turning (copy_of self.old l.0).state }
     {
         if self.spent {
             return Err(AllocError);

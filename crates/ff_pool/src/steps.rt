@@ -1,6 +1,7 @@
 //! Steps of classes over the parts of a pool.
-ghost use Rattle.std.specs.Prelude.{◌≡◌, ◌+◌, ◌<◌, ◌≤◌, ℕ, length, slice_index_or, slice_set, All, IfOk, OnOk};
+ghost use Rattle.std.specs.Prelude.{◌≡◌, ◌+◌, ◌<◌, ◌≤◌, ℕ, false, length, slice_index_or, slice_set, All, IfOk, OnOk};
 ghost use Rattle.ff_value.specs.Spelled.{IsWellSpelledInput};
+ghost use Rattle.ff_core.specs.Copies.{turning};
 ghost use Rattle.ff_reactive.specs.Worlds.{leader, offer, split, AreLeaders};
 ghost use Rattle.ff_pool.specs.Heads.{Head, HasArrived, same_input, step_of, step_head, offer_head, head_works, head_turns, given};
 
@@ -34,6 +35,7 @@ pub(crate) fn step_class<C: Ledger, L: Ledger>(
     ensures most { (d : Head) → turns.new ≤ turns.old + head_turns (slice_index_or heads.old (leader leaders.now l) d) }
     ensures turns_later { turns.old ≤ turns.new }
     ensures later { copies.old ≤ copies.new }
+    ensures copies { (d : Head) → (slice_index_or heads.old (leader leaders.now l) d).state.quiet ≡ false → copies.new ≤ copies.old + turning (slice_index_or heads.old (leader leaders.now l) d).state }
 {
     let top = leaders[l];
     let mut outs = Vec::new(alloc);

@@ -3,9 +3,8 @@ use Rattle.std.proofs.Common.{◌≡◌, ℕ, suc, ◌+◌, Option, Some, None, 
 use Rattle.std.specs.List.{cons_option}
 use Rattle.std.proofs.lemmas.List.Concat.{flat_map-append}
 use Rattle.std.proofs.lemmas.List.Elements.{filter_map-append}
-use Rattle.ff_reactive.specs.Runs.{Machine, entries, last_entry, after, plain}
+use Rattle.ff_reactive.specs.Runs.{Machine, entries, last_entry, after, plain, handle_seen}
 use Rattle.ff_reactive.specs.Copies.{Levels, below, if_some, seen, at_level, copy_entry, entry_below, multi_entry, multi}
-use Rattle.ff_reactive.specs.Loops.{handle_seen}
 use Rattle.ff_reactive.proofs.Lists.{last_or_push, entries-append, filter_map_push}
 use Rattle.ff_reactive.proofs.Runs.{after_more, plain_more}
 

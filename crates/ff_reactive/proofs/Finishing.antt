@@ -2,10 +2,9 @@
 use Rattle.std.proofs.Common.{◌≡◌, ℕ, zero, suc, ◌+◌, Bool, true, false, cond, not, ◌||◌, Option, Some, None, List, [], ◌∷◌, ◌++◌, All, refl, sym, ap, ap₂, ◌∙◌, append_assoc, append-nil, add-zero, zero-add, add-one, arith, true≢false}
 use Rattle.std.proofs.lemmas.List.Elements.{All-nil, All-head, All-tail, All-append, All-push}
 use Rattle.std.proofs.lemmas.List.Concat.{flat_map-append}
-use Rattle.ff_reactive.specs.Runs.{Handled, joined, after_from, plain_from, turns_from}
+use Rattle.ff_reactive.specs.Runs.{Handled, joined, after_from, plain_from, turns_from, handle_seen}
 use Rattle.ff_reactive.specs.Turns.{Reactor, settle, machine_of, KeepsOk, IsFuelled}
 use Rattle.ff_reactive.specs.Text.{BeginsWith}
-use Rattle.ff_reactive.specs.Loops.{handle_seen}
 use Rattle.ff_reactive.specs.Worlds.{Copy, new_copy, taken, turned_once, stepped, step_copy, offered, waits, has_work, works, step_turns, emptied, finish, left, Ends, IsCopy, OfferOk}
 use Rattle.ff_reactive.proofs.Runs.{after_from-append, plain_from-append, turns_from-append}
 use Rattle.ff_reactive.proofs.Turns.{settle_quiet, settle_turn, settle_more, handle_quiet}

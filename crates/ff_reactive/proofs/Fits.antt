@@ -1,13 +1,11 @@
 -- Where the levels fit the machine, all that is met on well formed inputs is well formed.
-use Rattle.std.proofs.Common.{◌≡◌, ℕ, zero, suc, ◌<◌, ◌==◌, true, Option, Some, None, List, [], ◌∷◌, ◌++◌, flat_map, All, refl, sym, subst, arith, eqb-true, ◌≤◌, ◌⊎◌, inl, inr, get_or}
+use Rattle.std.proofs.Common.{◌≡◌, ℕ, zero, suc, ◌<◌, ◌==◌, true, Option, Some, None, List, [], ◌∷◌, ◌++◌, flat_map, All, refl, sym, subst, arith, eqb-true}
 use Rattle.std.specs.List.{cons_option}
-use Rattle.std.proofs.lemmas.Bool.{cases_lt}
 use Rattle.std.proofs.lemmas.List.Concat.{flat_map-append}
 use Rattle.std.proofs.lemmas.List.Elements.{All-nil, All-cons, All-head, All-tail, All-append, All-push, All-filter, All-weaker, filter_passes}
-use Rattle.ff_reactive.specs.Runs.{Machine, entries, joined, after_from, after}
+use Rattle.ff_reactive.specs.Runs.{Machine, entries, joined, after_from, after, handle_seen}
 use Rattle.ff_reactive.specs.Copies.{Levels, below, seen, at_level, copy_entry, entry_below, multi_entry, multi}
 use Rattle.ff_reactive.specs.Laws.{IsLawful}
-use Rattle.ff_reactive.specs.Loops.{handle_seen, AreCopies}
 use Rattle.ff_reactive.proofs.Copies.{copy_entry_is}
 use Rattle.ff_reactive.proofs.Text.{HasLine}
 
@@ -67,17 +65,6 @@ module _ {I O S : Type 0} {m : Machine I O S} {v : Levels I O} {InputOk : I → 
 
   pub all_have_lines : (is : List I) → All InputOk is → All (HasLine v) (joined (multi m v is))
   all_have_lines is ok = All-weaker OutputOk (HasLine v) has_line (joined (multi m v is)) (multi_ok is ok)
-
-  -- the states of all the copies in a loop over levels
-  pub copies_ok : (states : List S) (before : List I) (l : ℕ) (more : List I) → AreCopies m v states before l more → All InputOk before → All InputOk more → All StateOk states
-  copies_ok states before l more are ok ok' k d lt = from (cases_lt k l)
-    where
-      at_k : k < v.count
-      at_k = omega (arith, are.long)
-
-      from : (k < l) ⊎ (l ≤ k) → StateOk (get_or states k d)
-      from (inl low) = subst StateOk (sym (are.done k d low at_k)) (after_ok (seen v k more) (seen_ok k more ok'))
-      from (inr high) = subst StateOk (sym (are.waiting k d high at_k)) (after_ok (seen v k before) (seen_ok k before ok))
 
 -- a copy puts out at its own level alone
 pub copy_entry_level : {I O S : Type 0} (m : Machine I O S) (v : Levels I O) (l : ℕ) (before : List I) (i : I) → All (λ o. v.level_out o ≡ l) (copy_entry m v l before i)

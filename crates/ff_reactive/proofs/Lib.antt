@@ -3,7 +3,7 @@ mod Rows
 pub mod Runs
 pub mod Copies
 pub mod Text
-pub mod Loops
+pub mod Lines
 pub mod Fits
 mod Names
 pub mod Own
@@ -16,4 +16,7 @@ pub mod Finishing
 pub mod Classes
 pub mod Worlds
 pub mod Schedules
+pub mod Standings
 pub mod Resting
+pub mod Alike
+pub mod Given

@@ -3,11 +3,10 @@ use Rattle.std.proofs.Common.{◌≡◌, ℕ, ◌<◌, true, false, ◌==◌, Op
 use Rattle.std.specs.List.{cons_option}
 use Rattle.std.proofs.lemmas.Bool.{eq-eqb, ne_eqb}
 use Rattle.std.proofs.lemmas.List.Elements.{filter-append, All-weaker}
-use Rattle.ff_reactive.specs.Runs.{Handled, Machine, entries, joined, plain_from, after, plain}
+use Rattle.ff_reactive.specs.Runs.{Handled, Machine, entries, joined, plain_from, after, plain, handle_seen}
 use Rattle.ff_reactive.specs.Copies.{Levels, below, seen, at_level, copy_entry, copy, multi_entry, multi}
 use Rattle.ff_reactive.specs.Text.{text_of, text_out, only}
 use Rattle.ff_reactive.specs.Laws.{IsLawful}
-use Rattle.ff_reactive.specs.Loops.{handle_seen}
 use Rattle.ff_reactive.proofs.Lists.{filter-flat_map, flat_map_one_below, filter_all, filter_none, filter_agree_all}
 use Rattle.ff_reactive.proofs.Copies.{copy_entry_is, copy_after_more}
 use Rattle.ff_reactive.proofs.Text.{pick-text_of}

@@ -3,9 +3,8 @@
 use Rattle.std.proofs.Common.{◌≡◌, ◌↔◌, ℕ, ◌<◌, Bool, true, false, cond, not, ◌||◌, ◌==◌, Option, Some, None, List, [], ◌∷◌, ◌++◌, length, All, refl, sym, ap, ap₂, subst, ◌∙◌, arith, append-nil, append_assoc}
 use Rattle.std.specs.List.{cons_option}
 use Rattle.std.proofs.lemmas.List.Elements.{All-head, All-tail}
-use Rattle.ff_reactive.specs.Runs.{joined, after, plain}
+use Rattle.ff_reactive.specs.Runs.{joined, after, plain, handle_seen}
 use Rattle.ff_reactive.specs.Turns.{Reactor, settle, machine_of}
-use Rattle.ff_reactive.specs.Loops.{handle_seen}
 use Rattle.ff_reactive.specs.Worlds.{Copy, World, Event, leader, offer, levels, new_leader, split, new_copy, copy_at, new_world, step_copy, offered, has_work, world_arrive, world_turn, finish, play_event, play_events, offered_to, OfferedAlike, Ends, IsWorld, EventOk, IsPlayed}
 use Rattle.ff_reactive.specs.Worlds.Event.{arrive, turn}
 use Rattle.ff_reactive.proofs.Lists.{joined_push, BeginsWith-same}

@@ -5,9 +5,8 @@ use Rattle.std.specs.Option.{option_eq}
 use Rattle.std.proofs.lemmas.List.Sums.{sum_by-append, sum_by_push}
 use Rattle.std.proofs.lemmas.List.Elements.{All-head, All-tail, All-push, All-nil}
 use Rattle.std.proofs.lemmas.List.Folds.{list_all-append}
-use Rattle.ff_reactive.specs.Runs.{Machine, entries, after, turns_from, work_plain}
+use Rattle.ff_reactive.specs.Runs.{Machine, entries, after, turns_from, work_plain, handle_seen}
 use Rattle.ff_reactive.specs.Copies.{Levels, below, seen}
-use Rattle.ff_reactive.specs.Loops.{handle_seen}
 use Rattle.ff_reactive.specs.Sharing.{see_alike, is_least, copy_turns, work_entry, work}
 use Rattle.ff_reactive.proofs.Lists.{entries-append}
 use Rattle.ff_reactive.proofs.Runs.{after_more}

@@ -2,11 +2,10 @@
 use Rattle.std.proofs.Common.{◌≡◌, ℕ, ◌<◌, Bool, true, false, cond, Option, Some, None, List, [], ◌∷◌, ◌++◌, filter, flat_map, All, refl, sym, ap, ap₂, ◌∙◌, append-nil, option_and_then}
 use Rattle.std.specs.List.{cons_option}
 use Rattle.std.proofs.lemmas.List.Elements.{filter-append, All-head, All-tail, All-push, All-weaker, All-nil}
-use Rattle.ff_reactive.specs.Runs.{Machine, entries, joined, after}
+use Rattle.ff_reactive.specs.Runs.{Machine, entries, joined, after, handle_seen}
 use Rattle.ff_reactive.specs.Copies.{Levels, below, seen, at_level, copy_entry, multi_entry, multi}
 use Rattle.ff_reactive.specs.Text.{text_of, text_out, names_below, view}
 use Rattle.ff_reactive.specs.Laws.{IsLawful}
-use Rattle.ff_reactive.specs.Loops.{handle_seen}
 use Rattle.ff_reactive.proofs.Lists.{filter-flat_map, flat_map_agree_below, flat_map_none_below, filter_all, filter_none, filter_agree_all}
 use Rattle.ff_reactive.proofs.Copies.{copy_entry_is, seen_more}
 use Rattle.ff_reactive.proofs.Text.{pick-text_of}

@@ -13,17 +13,16 @@ IsOneLine bytes = All (λ b. b ≢ 10) bytes
 abbrev pub IsWord : List ℕ → Type 0
 IsWord bytes = All (λ b. (b ≢ 32) × (b ≢ 10)) bytes
 
--- The levels fit the machine, on inputs, states and outputs that are well formed: start_ok,
--- handle_ok, outputs_ok, sees_ok      what the machine reaches and what a level sees is well formed
--- sees_below      what a lower level sees of an input is what it sees of that which a higher level
--- sees of it level_ok, print_ok, name_ok, names_differ      outputs belong to a level, and their
--- lines can be told apart by its name
+-- The levels fit the machine, on inputs, states and outputs that are well formed.
 pub record IsLawful {I O S : Type 0} (m : Machine I O S) (v : Levels I O) (InputOk : I → Type 0) (StateOk : S → Type 0) (OutputOk : O → Type 0) : Type 0 where
+  -- what the machine reaches and puts, and what a level sees, is well formed
   pub start_ok : StateOk m.start
   pub handle_ok : (s : S) (i : I) → StateOk s → InputOk i → StateOk (m.handle s i).after
   pub outputs_ok : (s : S) (i : I) → StateOk s → InputOk i → All OutputOk (m.handle s i).outputs
   pub sees_ok : (l : ℕ) (i x : I) → InputOk i → v.sees l i ≡ Some x → InputOk x
+  -- what a lower level sees of an input is what it sees of that which a higher level sees of it
   pub sees_below : (k l : ℕ) (i : I) → k < v.count → l < v.count → InputOk i → v.leq k l ≡ true → v.sees k i ≡ option_and_then (v.sees k) (v.sees l i)
+  -- outputs belong to a level, and their lines can be told apart by its name
   pub level_ok : (o : O) → OutputOk o → v.level_out o < v.count
   pub print_ok : (o : O) → OutputOk o → IsOneLine (v.print o)
   pub name_ok : (l : ℕ) → l < v.count → IsWord (v.name l)

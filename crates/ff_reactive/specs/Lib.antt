@@ -4,6 +4,8 @@ pub mod Copies
 pub mod Text
 pub mod Laws
 pub mod Turns
-pub mod Loops
 pub mod Sharing
 pub mod Worlds
+pub mod Standings
+pub mod Rested
+pub mod Given

@@ -1,6 +1,6 @@
 -- Machines that take their inputs one after another, and the plain run of one over a list of
 -- inputs.
-use Rattle.std.specs.Prelude.{ℕ, ◌+◌, List, [], ◌∷◌, ◌++◌, flat_map}
+use Rattle.std.specs.Prelude.{ℕ, ◌+◌, Option, Some, None, List, [], ◌∷◌, ◌++◌, flat_map}
 
 -- What handling one input gives: the outputs in order, the state after it, and how many turns it
 -- took.
@@ -31,6 +31,12 @@ last_or xs (ys ∷ yss) = last_or ys yss
 -- The last entry of a run, which is empty before the first input.
 abbrev pub last_entry : {X : Type 0} → List (List X) → List X
 last_entry xss = last_or [] xss
+
+-- What a state makes of what is offered of an input: it handles it, or stays as it is where nothing
+-- is.
+abbrev pub handle_seen : {I O S : Type 0} → Machine I O S → S → Option I → Handled O S
+handle_seen m s None = record { outputs = []; after = s; turns = 0 }
+handle_seen m s (Some i) = m.handle s i
 
 module _ {I O S : Type 0} (m : Machine I O S) where
   -- The state after the inputs, from a given state on.

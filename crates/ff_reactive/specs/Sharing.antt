@@ -3,9 +3,8 @@
 use Rattle.std.specs.Prelude.{ℕ, Bool, cond, not, List, [], ◌∷◌, ◌++◌, sum, sum_by}
 use Rattle.std.specs.List.{list_all}
 use Rattle.std.specs.Option.{option_eq}
-use Rattle.ff_reactive.specs.Runs.{Machine, entries, after}
+use Rattle.ff_reactive.specs.Runs.{Machine, entries, after, handle_seen}
 use Rattle.ff_reactive.specs.Copies.{Levels, below, seen}
-use Rattle.ff_reactive.specs.Loops.{handle_seen}
 
 module _ {I O S : Type 0} (m : Machine I O S) (v : Levels I O) (same : I → I → Bool) where
   -- Whether two levels see the same of each of the inputs, where `same` tells which inputs are

@@ -3,12 +3,10 @@
 use Rattle.std.specs.Prelude.{◌≡◌, ◌↔◌, ℕ, ◌+◌, ◌<◌, ◌≤◌, Bool, true, false, cond, not, ◌==◌, ◌&&◌, ◌||◌, Option, Some, None, List, [], ◌∷◌, ◌++◌, length, map, sum_by, All, ⊤, slice_index, slice_index_or}
 use Rattle.std.specs.List.{position_or_len, cons_option}
 use Rattle.std.specs.Option.{option_eq}
-use Rattle.ff_reactive.specs.Runs.{joined, after_from, plain_from, turns_from, after, plain}
+use Rattle.ff_reactive.specs.Runs.{joined, after_from, plain_from, turns_from, plain}
 use Rattle.ff_reactive.specs.Turns.{Reactor, settle, machine_of}
-use Rattle.ff_reactive.specs.Copies.{Levels, below, seen}
+use Rattle.ff_reactive.specs.Copies.{below}
 use Rattle.ff_reactive.specs.Text.{BeginsWith}
-use Rattle.ff_reactive.specs.Loops.{handle_seen}
-use Rattle.ff_reactive.specs.Sharing.{see_alike}
 
 -- A copy: its state, the inputs that wait in order, and the outputs that weren't taken.
 pub record Copy (I O S : Type 0) : Type 0 where
@@ -219,31 +217,3 @@ pub record IsPlayed {I O S : Type 0} (r : Reactor I O S) (most : ℕ) (w : World
   pub begins : (l : ℕ) → l < levels w → BeginsWith (joined (plain (machine_of r most) (offered_to l es))) (copy_at r w l).outputs
   pub all_put : (l : ℕ) → l < levels w → has_work r (copy_at r w l) ≡ false → (copy_at r w l).outputs ≡ joined (plain (machine_of r most) (offered_to l es))
   pub classes : (k l : ℕ) → k < levels w → l < levels w → (leader w.leaders k ≡ leader w.leaders l) ↔ OfferedAlike k l es
-
--- What each level sees of an input, in order.
-abbrev pub offers_of : {I O : Type 0} → Levels I O → I → List (Option I)
-offers_of v i = each (λ l. v.sees l i) v.count
-
-module _ {I O S : Type 0} (r : Reactor I O S) (most : ℕ) (v : Levels I O) (same : I → I → Bool) where
-  -- A world between two inputs of a run: no level has work or outputs that weren't taken, each
-  -- copy has handled what its level sees of the inputs, and a class are the levels that see the
-  -- same of each.
-  pub record IsRested (w : World I O S) (is : List I) : Type 0 where
-    pub count : levels w ≡ v.count
-    pub rests : AreAtRest r w
-    pub states : (l : ℕ) → l < levels w → (copy_at r w l).state ≡ after (machine_of r most) (seen v l is)
-    pub classes : (k l : ℕ) → k < levels w → l < levels w → (leader w.leaders k == leader w.leaders l) ≡ see_alike (machine_of r most) v same k l is
-    pub taken : (l : ℕ) → l < levels w → (copy_at r w l).outputs ≡ []
-
-  -- What a level's copy puts for one input more.
-  abbrev pub puts : List I → I → ℕ → List O
-  puts before i l = (handle_seen (machine_of r most) (after (machine_of r most) (seen v l before)) (v.sees l i)).outputs
-
-  -- The same after one input more, whose outputs were taken at the levels below l and at no other.
-  pub record IsTaking (w : World I O S) (before : List I) (i : I) (l : ℕ) : Type 0 where
-    pub count : levels w ≡ v.count
-    pub rests : AreAtRest r w
-    pub states : (k : ℕ) → k < levels w → (copy_at r w k).state ≡ after (machine_of r most) (seen v k (before ++ i ∷ []))
-    pub classes : (j k : ℕ) → j < levels w → k < levels w → (leader w.leaders j == leader w.leaders k) ≡ see_alike (machine_of r most) v same j k (before ++ i ∷ [])
-    pub done : (k : ℕ) → k < levels w → k < l → (copy_at r w k).outputs ≡ []
-    pub waiting : (k : ℕ) → k < levels w → l ≤ k → (copy_at r w k).outputs ≡ puts before i k

@@ -28,16 +28,22 @@
 //! - `Turns`: a `Reactor` handles an input in turns until it is quiet, `settle` makes them, and
 //!   `machine_of` is the machine that it is. `IsFuelled` says that turns spend fuel, `IsSettling`
 //!   where a loop of turns stands.
-//! - `Loops`: `AreCopies` says where the states of all copies stand in a loop over inputs and
-//!   levels, and `text_below` is the text so far.
 //! - `Sharing`: `work` is the number of turns where copies that have seen the same so far are one
 //!   copy, and each turn of such a class is made once.
 //! - `Worlds`: a `World` has for each level a copy of a reactor, with the inputs that wait for it
 //!   and the outputs that nobody took, and its class, the levels that have been one copy so far.
 //!   `world_arrive`, `world_turn` and `world_take` are its steps, `world_drain` is what all classes
 //!   come to, and `world_left` the turns that this takes, each class once. `IsPlayed` is what holds
-//!   after any list of arrivals and turns, `IsRested` and `IsTaking` where a world stands between
-//!   and within the inputs of a run.
+//!   after any list of arrivals and turns.
+//! - `Standings`: runs of copies from anywhere. A `Standing` is where the copies of all levels stand
+//!   and which levels are one copy, an `Offering` what a level is offered of an input after the
+//!   inputs before it. `run`, `work_of` and `standing_after` are what is put, the turns, and where
+//!   the copies then stand. `multi` and `work` are the run of new copies (`fresh`) that are offered
+//!   what their levels see (`as_seen`).
+//! - `Rested`: `IsRested` and `IsTaking` say where a world stands between and within the inputs of
+//!   such a run.
+//! - `Given`: what the levels at or below a level are offered, and the claim that the level's view
+//!   depends on that alone.
 //!
 //! # Laws
 //!
@@ -51,11 +57,17 @@
 //!   doesn't see, the level's own lines are those of the plain machine on all the inputs.
 //!
 //! `projected`, `secured` and `precised` say the same of any text that is known to be that of the
-//! multi-executed run, and `noninterfering` of all pairs. `proofs/Loops.antt` has the steps of
-//! loops that handle input after input and in it level after level, `proofs/Turns.antt` those of a
+//! multi-executed run, and `noninterfering` of all pairs. `proofs/Turns.antt` has the steps of a
 //! loop of turns, with the bound that fuel gives: an input that brings at most `most` fuel is
 //! handled to its end in at most `most + 1` turns. `proofs/Sharing.antt` has the work of one more
 //! input, and shows that where all levels see all, the work is that of the one plain run.
+//!
+//! Of runs from anywhere: `proofs/Standings.antt` shows that the multi-executed run is the instance
+//! that its definition says (`run_fresh`, `work_fresh`), and that a run over two lists of inputs is
+//! the run over the first and then, from where the copies stand, over the second (`run_rest`).
+//! `proofs/Alike.antt` shows that one copy has one state, and that runs from where copies stand
+//! alike are the same. `proofs/Given.antt` has the law of views: where the levels at or below a
+//! level are offered the same, its view is the same (`secured_as_offered`).
 //!
 //! Of worlds of copies, where the reactor ends each input within some number of turns (`Ends`, which
 //! fuel gives):

@@ -2,18 +2,21 @@
 use Rattle.std.proofs.Common.{◌≡◌, ℕ, zero, suc, ◌+◌, ◌<◌, ◌≤◌, ◌⊎◌, inl, inr, Option, Some, None, Result, Ok, Err, List, [], ◌∷◌, ◌++◌, refl, sym, ap, ap₂, subst, ◌∙◌, append_assoc, append-nil, arith}
 use Rattle.std.proofs.lemmas.Bool.{cases_eq}
 use Rattle.std.proofs.lemmas.Option.{same_Some}
-use Rattle.ff_reactive.proofs.Loops.{text_start, text_more}
+use Rattle.ff_reactive.proofs.Lines.{text_start, text_more}
 use Rattle.ff_reactive.proofs.Sharing.{work_start, work_more, work_grows}
 use Rattle.ff_lattice.specs.Order.{Order}
 use Rattle.ff_value.specs.declared.input.Input.{Input}
 use Rattle.ff_pool.specs.Heads.{same_input}
 use Rattle.ff_pool.specs.Pooled.{Pooled}
+use Rattle.ff_reactive.specs.Standings.{fresh}
+use Rattle.ff_reactive.specs.Text.{text_of}
+use Rattle.ff_reactive.proofs.Standings.{puts_fresh, turns_fresh}
 use Rattle.ff_policy.specs.Assignment.{Assignment}
 use Rattle.ff_gen.specs.Workload.{following, number_at}
 use Rattle.ff_levels.specs.Levels.{levels, machine}
 use Rattle.ff_session.specs.Giving.{Gives}
 use Rattle.ff_session.specs.Once.{gives_once}
-use Rattle.ff_session.specs.Multi.{multi_text, multi_turns, copies_entry, copies_turns, AreCopiesAt}
+use Rattle.ff_session.specs.Multi.{seen_by, multi_text, multi_turns, copies_entry, copies_turns, AreCopiesAt}
 use Rattle.ff_status.specs.declared.status.TraceFault.{TraceFault}
 use Rattle.ff_run.proofs.DrawnLines.{same_front}
 use Rattle.ff_run.specs.Generated.{IsDrawn, AreDrawn, RanDrawn, AtMostDrawn}
@@ -61,16 +64,22 @@ ran_then {p} run follows = record { drawn = run.drawn; are_drawn = run.are_drawn
 
 -- ---- the loop over the lines
 
+text_longer : (p : Assignment) (is : List Input) (i : Input) → multi_text p (is ++ i ∷ []) ≡ multi_text p is ++ copies_entry p (seen_by p) (fresh (machine p)) is i
+text_longer p is i = text_more (machine p) (levels p) is i ∙ ap (λ os. multi_text p is ++ text_of (levels p) os) (sym (puts_fresh (machine p) (levels p) is i))
+
+work_longer : (p : Assignment) (is : List Input) (i : Input) → multi_turns p (is ++ i ∷ []) ≡ multi_turns p is + copies_turns p (seen_by p) (fresh (machine p)) is i
+work_longer p is i = work_more (machine p) (levels p) same_input is i ∙ ap (λ n. multi_turns p is + n) (sym (turns_fresh (machine p) (levels p) same_input is i))
+
 -- Where it stands: so many inputs were drawn and multi-executed.
 pub record IsDrawing (p : Assignment) (start before draws : ℕ) (pool : Pooled) (text : List ℕ) (turns k : ℕ) : Type 0 where
   pub drawn : List Input
   pub are_drawn : AreDrawn p.order start k drawn
   pub draws_is : draws ≡ number_at start k
-  pub at : AreCopiesAt p pool drawn
+  pub at : AreCopiesAt p (seen_by p) (fresh (machine p)) pool drawn
   pub text_is : text ≡ multi_text p drawn
   pub counted : turns ≡ before + multi_turns p drawn
 
-pub drawing_start : (p : Assignment) (start before draws : ℕ) (pool : Pooled) (text : List ℕ) → draws ≡ number_at start 0 → AreCopiesAt p pool [] → text ≡ [] → IsDrawing p start before draws pool text before 0
+pub drawing_start : (p : Assignment) (start before draws : ℕ) (pool : Pooled) (text : List ℕ) → draws ≡ number_at start 0 → AreCopiesAt p (seen_by p) (fresh (machine p)) pool [] → text ≡ [] → IsDrawing p start before draws pool text before 0
 drawing_start p start before draws pool text draws_is at none = record {
   drawn = [];
   are_drawn = refl;
@@ -97,7 +106,7 @@ module _ (p : Assignment) (start before draws : ℕ) (pool : Pooled) (text : Lis
     one_more : AreDrawn p.order start (suc k) (on.drawn ++ i ∷ [])
     one_more = (on.drawn, i, refl, on.are_drawn, subst (λ n. IsDrawn p.order n i) (following_is ∙ ap following on.draws_is) drawn)
 
-    pub drawing_more : (pool' : Pooled) (longer : List ℕ) (more : ℕ) → AreCopiesAt p pool' (on.drawn ++ i ∷ []) → longer ≡ text ++ copies_entry p on.drawn i → more ≡ turns + copies_turns p on.drawn i
+    pub drawing_more : (pool' : Pooled) (longer : List ℕ) (more : ℕ) → AreCopiesAt p (seen_by p) (fresh (machine p)) pool' (on.drawn ++ i ∷ []) → longer ≡ text ++ copies_entry p (seen_by p) (fresh (machine p)) on.drawn i → more ≡ turns + copies_turns p (seen_by p) (fresh (machine p)) on.drawn i
         → IsDrawing p start before next pool' longer more (k + 1)
     drawing_more pool' longer more at added count =
         let one : suc k ≡ k + 1 = omega arith in
@@ -106,13 +115,13 @@ module _ (p : Assignment) (start before draws : ℕ) (pool : Pooled) (text : Lis
           are_drawn = one_more;
           draws_is = following_is ∙ ap following on.draws_is;
           at = at;
-          text_is = added ∙ ap (λ bs. bs ++ copies_entry p on.drawn i) on.text_is ∙ sym (text_more (machine p) (levels p) on.drawn i);
-          counted = let so_far = on.counted in let sum = work_more (machine p) (levels p) same_input on.drawn i in omega (arith, so_far, sum, count);
+          text_is = added ∙ ap (λ bs. bs ++ copies_entry p (seen_by p) (fresh (machine p)) on.drawn i) on.text_is ∙ sym (text_longer p on.drawn i);
+          counted = let so_far = on.counted in let sum = work_longer p on.drawn i in omega (arith, so_far, sum, count);
         })
 
     -- and where it found no memory
-    pub drawing_within : (inputs more : ℕ) → k < inputs → more ≤ turns + copies_turns p on.drawn i → AtMostDrawn p start inputs before more
+    pub drawing_within : (inputs more : ℕ) → k < inputs → more ≤ turns + copies_turns p (seen_by p) (fresh (machine p)) on.drawn i → AtMostDrawn p start inputs before more
     drawing_within inputs more low few =
         let so_far = on.counted in
-        let sum = work_more (machine p) (levels p) same_input on.drawn i in
+        let sum = work_longer p on.drawn i in
         at_most p start (suc k) inputs before more (on.drawn ++ i ∷ []) (omega arith) one_more (omega (arith, so_far, sum, few))

@@ -1,11 +1,11 @@
 pub mod Checking
 pub mod Writing
-pub mod Lines
 pub mod Tallies
 pub mod DrawnLines
 pub mod Drawing
 pub mod Commands
 pub mod Finding
+pub mod PolicyFaults
 pub mod Obeying
 pub mod Headline
 pub mod Counting

@@ -1,4 +1,5 @@
 pub mod Words
+pub mod Names
 pub mod Policies
 pub mod Status
 pub mod Checked

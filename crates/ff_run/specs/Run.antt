@@ -1,22 +1,23 @@
 -- What a run does, by its command and its status.
-use Rattle.std.specs.Prelude.{◌≡◌, ◌≢◌, ◌⊎◌, ⊤, ℕ, ◌+◌, Option, List, String}
+use Rattle.std.specs.Prelude.{◌≡◌, ◌≢◌, ◌⊎◌, ⊤, ℕ, List, String}
 use Rattle.std.proofs.Common.{Global}
 use Rattle.ff_io.specs.Counts.{Rose}
-use Rattle.ff_io.specs.Pieces.{Piece}
-use Rattle.ff_io.specs.Port.{Told, SinkTold, Passes}
+use Rattle.ff_io.specs.Port.{Told, SinkTold}
 use Rattle.ff_io.specs.Shelf.{ShelfTold}
 use Rattle.ff_value.specs.declared.input.Input.{Input}
 use Rattle.ff_policy.specs.Assignment.{Assignment}
-use Rattle.ff_stream.specs.declared.end.BadLine.{BadLine}
-use Rattle.ff_session.specs.Works.{AreInputsGot, turns_for, Exchanged, Claims}
-use Rattle.ff_session.specs.declared.work.Work.{Work}
-use Rattle.ff_session.specs.declared.work.Work.TheVariants.{Multi, Format}
+use Rattle.ff_session.specs.Giving.{Gives}
+use Rattle.ff_session.specs.Works.{Claims, Counts, Exchanged, IsAnswered, duty}
+use Rattle.ff_session.specs.declared.work.Work.TheVariants.{Format}
 use Rattle.ff_status.specs.Putting.{Reported}
 use Rattle.ff_status.specs.declared.status.Status.{Status}
-use Rattle.ff_status.specs.declared.status.Status.TheVariants.{Usage, Policy, Trace, ShelfFault, NoMemory}
-use Rattle.ff_status.specs.declared.status.TraceFault.{TraceFault}
+use Rattle.ff_status.specs.declared.status.Status.TheVariants.{Usage, Policy, ShelfFault, NoMemory}
+use Rattle.ff_audit.specs.Audited.{audit_duty}
 use Rattle.ff_run.specs.Words.{AreCommand, dash}
-use Rattle.ff_run.specs.Policies.{NamesFault, FetchFailed, Under}
+use Rattle.ff_policy.specs.declared.fault.PolicyFault.{PolicyFault}
+use Rattle.ff_run.specs.Names.{FetchFailed, FetchedOrFailed, IsKnown}
+use Rattle.ff_run.specs.Policies.{NamesFault, NamesPolicy, Under}
+use Rattle.ff_run.specs.Status.{IsEarly, IsUnfailing}
 use Rattle.ff_run.specs.Checked.{Checks}
 use Rattle.ff_run.specs.Upgraded.{Upgrades}
 use Rattle.ff_run.specs.Generated.{Generates}
@@ -33,7 +34,8 @@ abbrev pub Performs : Command → Assignment → Told → Told → ℕ → ℕ �
 Performs command.Check p before now turns_before turns_now status = Checks p.order before now turns_before turns_now status
 Performs (command.Generate start inputs) p before now turns_before turns_now status = Generates p start inputs before now turns_before turns_now status
 Performs command.Upgrade p before now turns_before turns_now status = Upgrades p before now turns_before turns_now status
-Performs (command.Trace work) p before now turns_before turns_now status = Exchanged work p before now turns_before turns_now status
+Performs (command.Trace work) p before now turns_before turns_now status = Exchanged (Gives p.order) (duty work p) before now turns_before turns_now status
+Performs command.Audit p before now turns_before turns_now status = Exchanged (Gives p.order) (audit_duty p) before now turns_before turns_now status
 
 -- a command that runs no browser
 abbrev pub RunsNone : Command → Type 0
@@ -62,20 +64,35 @@ Obeys command name shelf shelf_now before now turns_before turns_now status = Un
 -- under the policy of this name, this claim holds of the inputs that the bytes got give a
 -- multi-executed run, and of the bytes put
 abbrev pub ClaimsUnder : ShelfTold → List ℕ → Told → Told → (Assignment → List Input → List ℕ → Type 0) → Type 0
-ClaimsUnder shelf name before now claim = Under shelf name (λ p. Claims Multi p before now (claim p))
+ClaimsUnder shelf name before now claim = Under shelf name (λ p. Claims p before now (claim p))
 
--- Exactly the turns were made that the inputs take which the bytes got give, up to the first bad
--- line.
-pub record Counts (work : Work) (p : Assignment) (before now : Told) (turns_before turns_now : ℕ) : Type 0 where
-  pub pieces : List Piece
-  pub passed : Passes before now pieces
-  pub counted : (is : List Input) (bad : Option (BadLine TraceFault)) → AreInputsGot p pieces is bad → turns_now ≡ turns_before + turns_for work p is
+-- Of a command that goes over a trace: exactly the turns were made that the items take which the
+-- bytes got give, up to the first bad line.
+abbrev pub Counted : Command → Assignment → Told → Told → ℕ → ℕ → Type 0
+Counted (command.Trace work) p before now turns_before turns_now = Counts (Gives p.order) (duty work p) before now turns_before turns_now
+Counted command.Audit p before now turns_before turns_now = Counts (Gives p.order) (audit_duty p) before now turns_before turns_now
+Counted other p before now turns_before turns_now = ⊤
 
 -- Nothing failed: no fetch of the file of this name, no read and no write.
 pub record NothingFailed (name : List ℕ) (shelf shelf_now : ShelfTold) (before now : Told) : Type 0 where
   pub fetches : ¬ FetchFailed name shelf shelf_now
   pub reads : ¬ Rose before.read_faults now.read_faults
   pub writes : ¬ Rose before.write_faults now.write_faults
+
+-- What a command under the policy of this name comes to, by what the shelf, the port and the counter
+-- of turns tell before and after it, and its status.
+pub record ComesTo (command : Command) (name : List ℕ) (shelf shelf_now : ShelfTold) (before now : Told) (turns_before turns_now : ℕ) (status : Status) : Type 0 where
+  -- what was put, promptly, for what was got, in how many turns, and why
+  pub obeys : Obeys command name shelf shelf_now before now turns_before turns_now status
+  -- where all of its text was put, exactly the turns of the items got
+  pub counted : IsAnswered status → Under shelf name (λ p. Counted command p before now turns_before turns_now)
+  -- where a fetch of the file failed, the status says so, and where nothing failed, it is no fault of
+  -- the outside
+  pub fetched : FetchedOrFailed name shelf shelf_now status
+  pub complete : NothingFailed name shelf shelf_now before now → IsUnfailing status
+  -- a policy that is known: its fault is what it ends with, and a good one is accepted
+  pub bad_policy : (fault : PolicyFault) → IsKnown shelf name → NamesFault shelf name fault → ¬ FetchFailed name shelf shelf_now → (status ≡ Policy fault) ⊎ (status ≡ NoMemory)
+  pub good_policy : (p : Assignment) → IsKnown shelf name → NamesPolicy shelf name p → ¬ FetchFailed name shelf shelf_now → ¬ IsEarly status
 
 -- a front of the line was put on a sink, and all of it where no write failed
 abbrev pub Reports : SinkTold → SinkTold → List ℕ → Type 0

@@ -7,6 +7,7 @@
 
 mod check;
 mod generate;
+mod named;
 mod policies;
 mod tally;
 mod top;

@@ -1,23 +1,22 @@
-ghost use Rattle.std.specs.Prelude.{◌≡◌, ◌≢◌, ◌≤◌, ◌<◌, ℕ, ◌⊎◌, List};
+ghost use Rattle.std.specs.Prelude.{◌≡◌, ◌≢◌, ◌≤◌, ◌<◌, [], ℕ, List};
 ghost use Rattle.ff_reactive.specs.Laws.{IsProjection, IsSecure, IsPrecise};
-ghost use Rattle.ff_policy.specs.Assignment.{Assignment, IsAssignment};
-ghost use Rattle.ff_policy.specs.declared.fault.PolicyFault.{PolicyFault};
+ghost use Rattle.ff_policy.specs.Assignment.{IsAssignment};
 ghost use Rattle.ff_levels.specs.Levels.{levels, machine};
 ghost use Rattle.ff_trace.specs.Lines.{IsInputOf};
 ghost use Rattle.ff_session.specs.Works.{IsAnswered};
-ghost use Rattle.ff_session.specs.declared.work.Work.{Work};
 ghost use Rattle.ff_status.specs.Words.{error_line};
 ghost use Rattle.ff_run.specs.Words.{Asks, dash, multi};
-ghost use Rattle.ff_run.specs.Policies.{NamesPolicy, NamesFault, IsKnown, FetchFailed, Under};
-ghost use Rattle.ff_run.specs.Status.{IsEarly, IsUnfailing};
-ghost use Rattle.ff_run.specs.Run.{Suits, Performs, Obeys, ClaimsUnder, Counts, NothingFailed, Reports, RunsNone};
+ghost use Rattle.ff_run.specs.Status.{IsEarly};
+ghost use Rattle.ff_run.specs.Run.{Suits, Performs, ComesTo, ClaimsUnder, Reports, RunsNone};
 ghost use Rattle.ff_run.specs.declared.words.Command.{Command};
 
 use crate::check::check;
 use crate::generate::generate;
-use crate::policies::find_policy;
+use crate::named::find;
+use crate::policies::PolicyFile;
 use crate::upgrade::upgrade;
 use crate::words::{Command, asked_by};
+use ff_audit::audit;
 use ff_io::{Port, Shelf, Sink};
 use ff_policy::Policy;
 use ff_session::walk;
@@ -33,7 +32,9 @@ use std::sync::ledger::Ledger;
 /// copy. `multi POLICY SLICE` writes the same: copies with work make up to SLICE steps at a time,
 /// from 1 to 4,294,967,295, and 1,000 where no number is given. `plain POLICY` runs one browser
 /// over the trace, and writes all its lines. `fmt POLICY` writes each input of it in its canonical
-/// form. These three write the text of the lines that were got before they read further. `check
+/// form. These three write the text of the lines that were got before they read further. `audit
+/// POLICY` runs both programs over the trace, and writes once reading has ended where their lines
+/// first differ, for each level: `Leaks` where some level's lines do. `check
 /// POLICY` reads no trace, and writes for each level which levels it sees; `upgrade POLICY` reads
 /// none either, and writes the policy as version 2. `gen START N` multi-executes N inputs, at most
 /// 100,000, that are drawn from START, below 2^64, under the built-in policy, and writes how many
@@ -41,7 +42,7 @@ use std::sync::ledger::Ledger;
 /// 65,537 bytes count, or `-` for the built-in policy. Numbers are in canonical decimal. Every
 /// other list of words is `Usage`.
 ///
-/// `words` doesn't hold the program's name. Each status but `Done` puts its one line on the error
+/// `words` doesn't hold the program's name. Each status but `Done` and `Leaks` puts its one line on the error
 /// sink; a fault of that sink changes no status. `turns` counts the turns of all browsers, those of
 /// copies that are shared once, and `copies` the cells that they copy.
 pub fn run<S: Shelf, P: Port, E: Sink, C: Ledger, L: Ledger>(
@@ -53,10 +54,10 @@ pub fn run<S: Shelf, P: Port, E: Sink, C: Ledger, L: Ledger>(
     copies: &mut Steps<C>,
     turns: &mut Steps<L>,
 ) -> Status
-    // By the command and the status: what was put, promptly, for what was got, in how many turns,
-    // and why.
-    ensures obeys { (command : Command) (name : List ℕ) → Asks words.now command name
-        → Obeys command name (S.told shelf.old) (S.told shelf.new) (P.told port.old) (P.told port.new) turns.old turns.new result }
+    // What the command of the words comes to, by the outside before and after it, and the status.
+    ensures comes { (command : Command) (name : List ℕ) → Asks words.now command name
+        → ComesTo command name (S.told shelf.old) (S.told shelf.new) (P.told port.old) (P.told port.new) turns.old turns.new result }
+    ensures usage { Suits result words.now }
 
     // The headline of `multi`: each level's lines, the view of each level, and where precision
     // holds, for every policy.
@@ -66,22 +67,6 @@ pub fn run<S: Shelf, P: Port, E: Sink, C: Ledger, L: Ledger>(
         → ClaimsUnder (S.told shelf.old) name (P.told port.old) (P.told port.new) (λ p is put. IsSecure (machine p) (levels p) (IsInputOf p.order) is put) }
     ensures precise { (name : List ℕ) → Asks words.now multi name → IsAnswered result
         → ClaimsUnder (S.told shelf.old) name (P.told port.old) (P.told port.new) (λ p is put. IsPrecise (machine p) (levels p) is put) }
-
-    // In how many turns: exactly those of the inputs got, where all of their text was put; under
-    // `multi` the work of shared copies, and under `plain` that of its one run.
-    ensures counted { (work : Work) (name : List ℕ) → Asks words.now (Command.Trace work) name → IsAnswered result
-        → Under (S.told shelf.old) name (λ p. Counts work p (P.told port.old) (P.told port.new) turns.old turns.new) }
-
-    // What comes of the words, where nothing failed, and of a policy that is known.
-    ensures usage { Suits result words.now }
-    ensures complete { (command : Command) (name : List ℕ) → Asks words.now command name
-        → NothingFailed name (S.told shelf.old) (S.told shelf.new) (P.told port.old) (P.told port.new) → IsUnfailing result }
-    ensures bad_policy { (command : Command) (name : List ℕ) (fault : PolicyFault) → Asks words.now command name
-        → IsKnown (S.told shelf.old) name → NamesFault (S.told shelf.old) name fault → ¬ FetchFailed name (S.told shelf.old) (S.told shelf.new)
-        → (result ≡ Status.Policy fault) ⊎ (result ≡ Status.NoMemory) }
-    ensures good_policy { (command : Command) (name : List ℕ) (p : Assignment) → Asks words.now command name
-        → IsKnown (S.told shelf.old) name → NamesPolicy (S.told shelf.old) name p → ¬ FetchFailed name (S.told shelf.old) (S.told shelf.new)
-        → ¬ IsEarly result }
 
     // What isn't touched. Where no browser runs, no cell is copied.
     ensures untouched { IsEarly result → (port.new ≡ port.old) × (turns.new ≡ turns.old) }
@@ -93,7 +78,7 @@ pub fn run<S: Shelf, P: Port, E: Sink, C: Ledger, L: Ledger>(
 
     // The line on the error sink.
     ensures error_line { Reports (E.told err.old) (E.told err.new) (error_line result) }
-    ensures silent { result ≡ Status.Done → err.new ≡ err.old }
+    ensures silent { error_line result ≡ [] → err.new ≡ err.old }
 {
     let status = answer(alloc, words, shelf, port, copies, turns);
     status.report(err);
@@ -109,15 +94,9 @@ fn answer<S: Shelf, P: Port, C: Ledger, L: Ledger>(
     copies: &mut Steps<C>,
     turns: &mut Steps<L>,
 ) -> Status
-    ensures obeys { (command : Command) (name : List ℕ) → Asks words.now command name
-        → Obeys command name (S.told shelf.old) (S.told shelf.new) (P.told port.old) (P.told port.new) turns.old turns.new result }
+    ensures comes { (command : Command) (name : List ℕ) → Asks words.now command name
+        → ComesTo command name (S.told shelf.old) (S.told shelf.new) (P.told port.old) (P.told port.new) turns.old turns.new result }
     ensures usage { Suits result words.now }
-    ensures bad_policy { (command : Command) (name : List ℕ) (fault : PolicyFault) → Asks words.now command name
-        → IsKnown (S.told shelf.old) name → NamesFault (S.told shelf.old) name fault → ¬ FetchFailed name (S.told shelf.old) (S.told shelf.new)
-        → (result ≡ Status.Policy fault) ⊎ (result ≡ Status.NoMemory) }
-    ensures good_policy { (command : Command) (name : List ℕ) (p : Assignment) → Asks words.now command name
-        → IsKnown (S.told shelf.old) name → NamesPolicy (S.told shelf.old) name p → ¬ FetchFailed name (S.told shelf.old) (S.told shelf.new)
-        → ¬ IsEarly result }
     ensures untouched { IsEarly result → (port.new ≡ port.old) × (turns.new ≡ turns.old) }
     ensures no_shelf { result ≡ Status.Usage → shelf.new ≡ shelf.old }
     ensures no_fetch { (command : Command) → Asks words.now command dash → shelf.new ≡ shelf.old }
@@ -152,18 +131,15 @@ fn obey<S: Shelf, P: Port, C: Ledger, L: Ledger>(
     turns: &mut Steps<L>,
 ) -> Status
     requires { 0 < slice }
-    ensures obeys { Obeys command name.now (S.told shelf.old) (S.told shelf.new) (P.told port.old) (P.told port.new) turns.old turns.new result }
+    ensures comes { ComesTo command name.now (S.told shelf.old) (S.told shelf.new) (P.told port.old) (P.told port.new) turns.old turns.new result }
     ensures command { result ≢ Status.Usage }
-    ensures bad_policy { (fault : PolicyFault) → IsKnown (S.told shelf.old) name.now → NamesFault (S.told shelf.old) name.now fault → ¬ FetchFailed name.now (S.told shelf.old) (S.told shelf.new)
-        → (result ≡ Status.Policy fault) ⊎ (result ≡ Status.NoMemory) }
-    ensures good_policy { (p : Assignment) → IsKnown (S.told shelf.old) name.now → NamesPolicy (S.told shelf.old) name.now p → ¬ FetchFailed name.now (S.told shelf.old) (S.told shelf.new) → ¬ IsEarly result }
     ensures untouched { IsEarly result → (port.new ≡ port.old) × (turns.new ≡ turns.old) }
     ensures no_fetch { name.now ≡ dash → shelf.new ≡ shelf.old }
     ensures no_copies { IsEarly result → copies.new ≡ copies.old }
     ensures uncopied { RunsNone command → copies.new ≡ copies.old }
     ensures copies { copies.old ≤ copies.new }
 {
-    match find_policy(alloc, shelf, name) {
+    match find(alloc, &PolicyFile, shelf, name) {
         Ok(policy) => perform(alloc, command, &policy, slice, port, copies, turns),
         Err(status) => status,
     }
@@ -189,6 +165,7 @@ fn perform<P: Port, C: Ledger, L: Ledger>(
     match command {
         Command::Check => check(alloc, lattice, port),
         Command::Upgrade => upgrade(alloc, policy, port),
+        Command::Audit => audit(alloc, policy, port, copies, turns),
         Command::Trace(work) => walk(alloc, work, policy, slice, port, copies, turns),
         Command::Generate(start, inputs) => {
             generate(alloc, policy, slice, start, inputs, port, copies, turns)

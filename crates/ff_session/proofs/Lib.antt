@@ -1,7 +1,11 @@
+pub mod Lines
 pub mod Giving
 pub mod Turning
 pub mod Texts
 pub mod LevelTexts
 pub mod Feeding
+pub mod Closing
+pub mod Counted
 pub mod Owing
 pub mod Headline
+pub mod Standing

@@ -1,5 +1,5 @@
 -- What the work over a trace does to its port, and what it owes.
-use Rattle.std.specs.Prelude.{◌≡◌, ◌≢◌, ℕ, ◌+◌, ◌≤◌, ◌⊎◌, Bool, true, false, Option, Some, None, List, ⊤}
+use Rattle.std.specs.Prelude.{◌≡◌, ◌≢◌, ℕ, ◌+◌, ◌≤◌, ◌⊎◌, Bool, true, false, Option, Some, None, Result, List, ⊤}
 use Rattle.ff_io.specs.Counts.{Rose}
 use Rattle.ff_io.specs.Pieces.{Piece, got_of, put_of, has_end}
 use Rattle.ff_io.specs.Port.{Told, Passes}
@@ -8,8 +8,9 @@ use Rattle.ff_reactive.specs.Runs.{work_plain}
 use Rattle.ff_value.specs.declared.input.Input.{Input}
 use Rattle.ff_policy.specs.Assignment.{Assignment}
 use Rattle.ff_status.specs.declared.status.Status.{Status}
-use Rattle.ff_status.specs.declared.status.Status.TheVariants.{Done, Trace, ReadFault, WriteFault, NoMemory}
+use Rattle.ff_status.specs.declared.status.Status.TheVariants.{Done, Leaks, Trace, ReadFault, WriteFault, NoMemory}
 use Rattle.ff_status.specs.declared.status.TraceFault.{TraceFault}
+use Rattle.ff_status.specs.Words.{IsGood}
 use Rattle.ff_status.specs.declared.status.TraceFault.TheVariants as trace_fault
 use Rattle.ff_stream.specs.Traces.{IsTrace}
 use Rattle.ff_stream.specs.Owed.{Prompt}
@@ -22,9 +23,19 @@ use Rattle.ff_levels.specs.Levels.{machine}
 use Rattle.ff_session.specs.Giving.{Gives}
 use Rattle.ff_session.specs.Formatting.{format_entry, format_text, no_turns}
 use Rattle.ff_session.specs.Plain.{plain_entry, plain_text, plain_turns}
-use Rattle.ff_session.specs.Multi.{copies_entry, copies_turns, multi_text, multi_turns}
+use Rattle.ff_reactive.specs.Standings.{fresh}
+use Rattle.ff_session.specs.Multi.{seen_by, copies_entry, copies_turns, multi_text, multi_turns}
 use Rattle.ff_session.specs.declared.work.Work.{Work}
 use Rattle.ff_session.specs.declared.work.Work.TheVariants.{Multi, Plain, Format}
+
+-- What a command owes for the items of a trace: the text for an item after the items before it,
+-- which is put before the next read; the whole text for the items, where `whole` says that the
+-- trace was read to its end and has no bad line; their turns; and how it then ends.
+pub record Duty (X : Type 0) : Type 0 where
+  pub entry : List X → X → List ℕ
+  pub text : Bool → List X → List ℕ
+  pub turns : List X → ℕ
+  pub good : List X → Status
 
 -- the text for inputs
 abbrev pub text_for : Work → Assignment → List Input → List ℕ
@@ -40,14 +51,18 @@ turns_for Format p is = 0
 
 -- the text for an input after the inputs before it, and its turns
 abbrev pub entry_for : Work → Assignment → List Input → Input → List ℕ
-entry_for Multi p = copies_entry p
+entry_for Multi p = copies_entry p (seen_by p) (fresh (machine p))
 entry_for Plain p = plain_entry p
 entry_for Format p = format_entry p.order
 
 abbrev pub entry_turns : Work → Assignment → List Input → Input → ℕ
-entry_turns Multi p = copies_turns p
+entry_turns Multi p = copies_turns p (seen_by p) (fresh (machine p))
 entry_turns Plain p = plain_turns p
 entry_turns Format p = no_turns
+
+-- what a work owes: each text in time, and no more at the end
+abbrev pub duty : Work → Assignment → Duty Input
+duty work p = record { entry = entry_for work p; text = λ whole is. text_for work p is; turns = turns_for work p; good = λ is. Done }
 
 -- these bytes of a trace, of which `ended` says whether they are all, give these inputs up to the
 -- first bad line
@@ -64,83 +79,108 @@ fault_as TooLong = trace_fault.TooLong
 fault_as TooMuch = trace_fault.TooMuch
 fault_as (Line fault) = fault
 
--- the status of an end
-abbrev pub status_as : stream.End TraceFault → Status
-status_as end.Done = Done
-status_as (end.Bad line) = Trace line.number (fault_as line.fault)
-status_as end.ReadFault = ReadFault
-status_as end.WriteFault = WriteFault
-status_as end.NoMemory = NoMemory
+-- the status of an end, and of the end of a trace of these items that has no bad line
+abbrev pub status_as : stream.End TraceFault → Status → Status
+status_as end.Done good = good
+status_as (end.Bad line) good = Trace line.number (fault_as line.fault)
+status_as end.ReadFault good = ReadFault
+status_as end.WriteFault good = WriteFault
+status_as end.NoMemory good = NoMemory
 
--- The text for the inputs of the bytes got, up to the first bad line, was put, all of it, and
--- exactly its turns were made.
-pub record IsOwed (work : Work) (p : Assignment) (pieces : List Piece) (bad : Option (BadLine TraceFault)) (turns_before turns_now : ℕ) : Type 0 where
-  pub inputs : List Input
-  pub read : AreInputsGot p pieces inputs bad
-  pub text_is : put_of pieces ≡ text_for work p inputs
-  pub counted : turns_now ≡ turns_before + turns_for work p inputs
+-- whether the end was seen and no line is bad
+abbrev pub is_whole : {F : Type 0} → Bool → Option (BadLine F) → Bool
+is_whole ended None = ended
+is_whole ended (Some line) = false
 
--- A part of it was put, and at most its turns were made: whatever the bytes got give.
-abbrev pub IsOwedMore : Work → Assignment → (List ℕ → List ℕ → Type 0) → List Piece → ℕ → ℕ → Type 0
-IsOwedMore work p IsPart pieces turns_before turns_now = (is : List Input) (bad : Option (BadLine TraceFault)) → AreInputsGot p pieces is bad
-    → IsPart (put_of pieces) (text_for work p is) × (turns_now ≤ turns_before + turns_for work p is)
-
--- The line of this number is the first bad one, with this fault.
-pub record IsBadAt (work : Work) (p : Assignment) (number : ℕ) (fault : TraceFault) (pieces : List Piece) (turns_before turns_now : ℕ) : Type 0 where
-  pub which : Fault TraceFault
-  pub fault_is : fault ≡ fault_as which
-  pub owed : IsOwed work p pieces (Some (record { number = number; fault = which })) turns_before turns_now
-
--- The text law: what was put, and the turns, by the status.
-abbrev pub IsWritten : Work → Assignment → Status → List Piece → ℕ → ℕ → Type 0
--- the whole text of a trace that was read to its end and has no bad line
-IsWritten work p Done pieces before now = (has_end pieces ≡ true) × IsOwed work p pieces None before now
--- the text up to the first bad line
-IsWritten work p (Trace number fault) pieces before now = IsBadAt work p number fault pieces before now
--- the text of all whole lines that were got before the read that failed
-IsWritten work p ReadFault pieces before now = (has_end pieces ≡ false) × IsOwed work p pieces None before now
--- some of the text, but not all
-IsWritten work p WriteFault pieces before now = IsOwedMore work p IsProperFront pieces before now
--- some of the text
-IsWritten work p NoMemory pieces before now = IsOwedMore work p IsFront pieces before now
-IsWritten work p other pieces before now = ⊥
+-- the status says that all that is owed for the bytes got was put
+abbrev pub IsAnswered : Status → Type 0
+IsAnswered Done = ⊤
+IsAnswered Leaks = ⊤
+IsAnswered (Trace number fault) = ⊤
+IsAnswered ReadFault = ⊤
+IsAnswered other = ⊥
 
 -- an end where no call of the port failed
 pub record IsWithoutFault (status : Status) : Type 0 where
   pub read : status ≢ ReadFault
   pub write : status ≢ WriteFault
 
--- What the work does to its port.
-pub record Exchanged (work : Work) (p : Assignment) (before now : Told) (turns_before turns_now : ℕ) (status : Status) : Type 0 where
-  pub pieces : List Piece
-  pub passed : Passes before now pieces
-  -- before each read, the end wasn't seen, the bytes got have no bad line, and the text owed for
-  -- them was put
-  pub prompt : Prompt (Gives p.order) (entry_for work p) pieces
-  pub written : IsWritten work p status pieces turns_before turns_now
-  -- the count of turns never falls, and formatting makes none
-  pub later : turns_before ≤ turns_now
-  pub unturned : work ≡ Format → turns_now ≡ turns_before
-  -- a read or a write fault comes only where one was counted
-  pub read_fault : status ≡ ReadFault → Rose before.read_faults now.read_faults
-  pub write_fault : status ≡ WriteFault → Rose before.write_faults now.write_faults
-  -- a bad line of the bytes got is what it ends with
-  pub bad_line : IsWithoutFault status → (is : List Input) (line : BadLine TraceFault) → AreInputsGot p pieces is (Some line)
-      → (status ≡ Trace line.number (fault_as line.fault)) ⊎ (status ≡ NoMemory)
-  -- it is done where the rest that the port told has no bad line, and then all of that was got
-  pub good_rest : IsWithoutFault status → (rest : List ℕ) (is : List Input) → before.rest ≡ Some rest → IsTraceFor p true rest is None
-      → (status ≡ Done) ⊎ (status ≡ NoMemory)
-  pub all_got : status ≡ Done → (rest : List ℕ) → before.rest ≡ Some rest → got_of pieces ≡ rest
+-- By what a line gives, and what is owed for the items that lines give.
+module _ {X : Type 0} (Given : List ℕ → Result (Option X) TraceFault → Type 0) (owed : Duty X) where
+  -- the bytes got give these items up to the first bad line
+  abbrev pub AreGot : List Piece → List X → Option (BadLine TraceFault) → Type 0
+  AreGot pieces items bad = IsTrace Given (has_end pieces) (got_of pieces) items bad
 
--- the status says that all that is owed for the bytes got was put
-abbrev pub IsAnswered : Status → Type 0
-IsAnswered Done = ⊤
-IsAnswered (Trace number fault) = ⊤
-IsAnswered ReadFault = ⊤
-IsAnswered other = ⊥
+  -- The text for the items of the bytes got, up to the first bad line, was put, all of it, and
+  -- exactly their turns were made; of the items this holds.
+  pub record IsOwed (pieces : List Piece) (bad : Option (BadLine TraceFault)) (turns_before turns_now : ℕ) (holds : List X → Type 0) : Type 0 where
+    pub items : List X
+    pub read : AreGot pieces items bad
+    pub text_is : put_of pieces ≡ owed.text (is_whole (has_end pieces) bad) items
+    pub counted : turns_now ≡ turns_before + owed.turns items
+    pub held : holds items
+
+  -- A part of it was put, and at most their turns were made: whatever the bytes got give.
+  abbrev pub IsOwedMore : (List ℕ → List ℕ → Type 0) → List Piece → ℕ → ℕ → Type 0
+  IsOwedMore IsPart pieces turns_before turns_now = (items : List X) (bad : Option (BadLine TraceFault)) → AreGot pieces items bad
+      → IsPart (put_of pieces) (owed.text (is_whole (has_end pieces) bad) items) × (turns_now ≤ turns_before + owed.turns items)
+
+  -- The whole text of a trace that was read to its end and has no bad line was put, and the status
+  -- is how it then ends.
+  abbrev pub IsFinished : Status → List Piece → ℕ → ℕ → Type 0
+  IsFinished status pieces before now = (has_end pieces ≡ true) × IsOwed pieces None before now (λ items. owed.good items ≡ status)
+
+  -- The line of this number is the first bad one, with this fault.
+  pub record IsBadAt (number : ℕ) (fault : TraceFault) (pieces : List Piece) (turns_before turns_now : ℕ) : Type 0 where
+    pub which : Fault TraceFault
+    pub fault_is : fault ≡ fault_as which
+    pub owed_is : IsOwed pieces (Some (record { number = number; fault = which })) turns_before turns_now (λ items. ⊤)
+
+  -- The text law: what was put, and the turns, by the status.
+  abbrev pub IsWritten : Status → List Piece → ℕ → ℕ → Type 0
+  IsWritten Done pieces before now = IsFinished Done pieces before now
+  IsWritten Leaks pieces before now = IsFinished Leaks pieces before now
+  -- the text up to the first bad line
+  IsWritten (Trace number fault) pieces before now = IsBadAt number fault pieces before now
+  -- the text of all whole lines that were got before the read that failed
+  IsWritten ReadFault pieces before now = (has_end pieces ≡ false) × IsOwed pieces None before now (λ items. ⊤)
+  -- some of the text, but not all
+  IsWritten WriteFault pieces before now = IsOwedMore IsProperFront pieces before now
+  -- some of the text
+  IsWritten NoMemory pieces before now = IsOwedMore IsFront pieces before now
+  IsWritten other pieces before now = ⊥
+
+  -- What a command that goes over a trace does to its port.
+  pub record Exchanged (before now : Told) (turns_before turns_now : ℕ) (status : Status) : Type 0 where
+    pub pieces : List Piece
+    pub passed : Passes before now pieces
+    -- before each read, the end wasn't seen, the bytes got have no bad line, and the text owed for
+    -- them was put
+    pub prompt : Prompt Given owed.entry pieces
+    pub written : IsWritten status pieces turns_before turns_now
+    -- the count of turns never falls, and stands still where none are owed
+    pub later : turns_before ≤ turns_now
+    pub unturned : ((items : List X) → owed.turns items ≡ 0) → turns_now ≡ turns_before
+    -- a read or a write fault comes only where one was counted
+    pub read_fault : status ≡ ReadFault → Rose before.read_faults now.read_faults
+    pub write_fault : status ≡ WriteFault → Rose before.write_faults now.write_faults
+    -- a bad line of the bytes got is what it ends with
+    pub bad_line : IsWithoutFault status → (items : List X) (line : BadLine TraceFault) → AreGot pieces items (Some line)
+        → (status ≡ Trace line.number (fault_as line.fault)) ⊎ (status ≡ NoMemory)
+    -- it ends well where the rest that the port told has no bad line, and then all of that was got
+    pub good_rest : IsWithoutFault status → (rest : List ℕ) (items : List X) → before.rest ≡ Some rest → IsTrace Given true rest items None
+        → (status ≡ owed.good items) ⊎ (status ≡ NoMemory)
+    pub all_got : IsGood status → (rest : List ℕ) → before.rest ≡ Some rest → got_of pieces ≡ rest
+
+  -- Exactly the turns were made that the items take which the bytes got give, up to the first bad
+  -- line.
+  pub record Counts (before now : Told) (turns_before turns_now : ℕ) : Type 0 where
+    pub pieces : List Piece
+    pub passed : Passes before now pieces
+    pub counted : (items : List X) (bad : Option (BadLine TraceFault)) → AreGot pieces items bad → turns_now ≡ turns_before + owed.turns items
 
 -- Of the inputs that the bytes got give, and of the bytes put, this holds.
-pub record Claims (work : Work) (p : Assignment) (before now : Told) (claim : List Input → List ℕ → Type 0) : Type 0 where
+pub record Claims (p : Assignment) (before now : Told) (claim : List Input → List ℕ → Type 0) : Type 0 where
   pub pieces : List Piece
   pub passed : Passes before now pieces
   pub held : (is : List Input) (bad : Option (BadLine TraceFault)) → AreInputsGot p pieces is bad → claim is (put_of pieces)

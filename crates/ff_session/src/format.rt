@@ -33,11 +33,11 @@ impl Taker for Formatting<'_> {
 
     ghost accepts = { λ taker input. IsInputOf taker.lattice.now input };
 
-    ghost entry = { λ taker. format_entry taker.lattice.now };
+    ghost entry = { λ taker start. format_entry taker.lattice.now };
 
-    ghost turns = { λ taker. no_turns };
+    ghost turns = { λ taker start. no_turns };
 
-    ghost is_at = { λ taker state inputs. ⊤ };
+    ghost is_at = { λ taker start state inputs. ⊤ };
 
     ghost copies_none = { λ taker. ⊤ };
 
@@ -70,6 +70,7 @@ pub(crate) fn walk_format<P: Port, C: Ledger, L: Ledger>(
     ensures uncopied { copies.new ≡ copies.old }
     ensures read_fault { result ≡ End.ReadFault → Rose (P.read_faults port.old) (P.read_faults port.new) }
     ensures write_fault { result ≡ End.WriteFault → Rose (P.write_faults port.old) (P.write_faults port.new) }
+    ensures later_writes { P.write_faults port.old ≤ P.write_faults port.new }
 {
     let reader = InputReader { lattice };
     stream(

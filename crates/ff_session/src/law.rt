@@ -1,6 +1,16 @@
-ghost use Rattle.std.specs.Prelude.{◌≡◌, ℕ, Bool, Option, List};
+ghost use Rattle.std.specs.Prelude.{◌≡◌, ◌++◌, ℕ, Bool, Option, Some, List, All};
+ghost use Rattle.ff_reactive.specs.Copies.{multi};
+ghost use Rattle.ff_reactive.specs.Sharing.{work};
+ghost use Rattle.ff_reactive.specs.Given.{IsSecureAsOffered};
+ghost use Rattle.ff_reactive.specs.Standings.{Standing, Offering, fresh, run, work_of};
+ghost use Rattle.ff_machine.specs.State.{State};
+ghost use Rattle.ff_machine.specs.Valid.{IsState};
+ghost use Rattle.ff_pool.specs.Heads.{same_input};
+ghost use Rattle.ff_levels.specs.Levels.{levels, machine};
+ghost use Rattle.ff_session.specs.Multi.{run_text, seen_by, stands_after};
+ghost use Rattle.ff_trace.specs.Lines.{IsInputOf};
 ghost use Rattle.ff_value.specs.declared.input.Input.{Input};
-ghost use Rattle.ff_policy.specs.Assignment.{Assignment};
+ghost use Rattle.ff_policy.specs.Assignment.{Assignment, IsAssignment};
 ghost use Rattle.ff_status.specs.declared.status.TraceFault.{TraceFault};
 ghost use Rattle.ff_stream.specs.declared.end.BadLine.{BadLine};
 ghost use Rattle.ff_session.specs.Works.{IsTraceFor};
@@ -10,4 +20,23 @@ ghost use Rattle.ff_session.specs.Works.{IsTraceFor};
 #[tactic(auto, using(crate::proofs::Giving::trace_read_once))]
 pub fn a_trace_is_read_in_one_way()
     ensures { (p : Assignment) (ended : Bool) (bytes : List ℕ) (is js : List Input) (bad other : Option (BadLine TraceFault)) → IsTraceFor p ended bytes is bad → IsTraceFor p ended bytes js other → (is ≡ js) × (bad ≡ other) }
+{}
+
+/// A run over inputs is the run over the first of them, and then the run over the others from where
+/// the copies then stand. From new copies on it is the multi-executed run, in as many turns.
+pub fn a_run_goes_on_from_where_its_copies_stand()
+    ensures onwards { (p : Assignment) (from : Standing State) (is js : List Input) → run (machine p) (levels p) (seen_by p) from (is ++ js)
+        ≡ run (machine p) (levels p) (seen_by p) from is ++ run (machine p) (levels p) (seen_by p) (stands_after p from is) js }
+    ensures multi { (p : Assignment) (is : List Input) → run (machine p) (levels p) (seen_by p) (fresh (machine p)) is ≡ multi (machine p) (levels p) is }
+    ensures turns { (p : Assignment) (is : List Input) → work_of (machine p) (levels p) (seen_by p) (fresh (machine p)) same_input is ≡ work (machine p) (levels p) same_input is }
+{}
+
+/// Whatever the copies of the levels are offered of well spelled inputs, and wherever they stand: the
+/// view of each level is the same on all inputs of which the levels at or below it are offered the
+/// same.
+pub fn a_view_depends_on_what_is_offered_at_or_below()
+    ensures { (p : Assignment) (offers : Offering Input) (from : Standing State) → IsAssignment p
+        → ((before : List Input) (l : ℕ) (i x : Input) → IsInputOf p.order i → offers before l i ≡ Some x → IsInputOf p.order x)
+        → ((l : ℕ) → IsState p.fuel (from.states l))
+        → (is : List Input) → All (IsInputOf p.order) is → IsSecureAsOffered (machine p) (levels p) offers from (IsInputOf p.order) is (run_text p offers from is) }
 {}

@@ -2,18 +2,27 @@
 //! each command, and `walk`, which does a command's work over a port line by line.
 #![tactic(auto)]
 
+mod ending;
 mod format;
 mod handling;
 mod input_reader;
 mod law;
 mod multi;
+mod offered;
 mod plain;
 mod printing;
+mod splitting;
 mod work;
 
+pub use ending::close;
 pub use format::Formatting;
 pub use input_reader::InputReader;
-pub use law::a_trace_is_read_in_one_way;
-pub use multi::{Copies, new_pool};
+pub use law::{
+    a_run_goes_on_from_where_its_copies_stand, a_trace_is_read_in_one_way,
+    a_view_depends_on_what_is_offered_at_or_below,
+};
+pub use multi::{Copies, walk_copies};
+pub use offered::{new_pool, take_offers};
 pub use plain::Plain;
-pub use work::{Work, walk};
+pub use splitting::{content, is_headed, split_line};
+pub use work::{Work, status_of, walk};

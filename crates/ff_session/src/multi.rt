@@ -6,10 +6,13 @@ ghost use Rattle.ff_pool.specs.Pooled as pooled;
 ghost use Rattle.ff_trace.specs.Lines.{IsInputOf};
 ghost use Rattle.ff_stream.specs.Owed.{Streams};
 ghost use Rattle.ff_session.specs.Giving.{Gives};
-ghost use Rattle.ff_session.specs.Multi.{AreCopiesAt, AreTakenBelow, copies_entry, copies_turns};
+ghost use Rattle.ff_machine.specs.State.{State};
+ghost use Rattle.ff_levels.specs.Levels.{machine};
+ghost use Rattle.ff_reactive.specs.Standings.{Standing, Offering, fresh};
+ghost use Rattle.ff_session.specs.Multi.{AreCopiesAt, AreTakenBelow, seen_by, copies_entry, copies_turns};
 
 use crate::input_reader::InputReader;
-use crate::printing::print_level;
+use crate::offered::{new_pool, take_offers};
 use ff_io::Port;
 use ff_policy::Policy;
 use ff_pool::Pool;
@@ -17,12 +20,12 @@ use ff_route::offers;
 use ff_status::TraceFault;
 use ff_steps::Steps;
 use ff_stream::{End, Taker, stream};
-use ff_value::{Input, Level};
+use ff_value::Input;
 use std::alloc::{AllocError, Global};
 use std::sync::ledger::Ledger;
 
-/// A copy of the browser for each level takes what the level sees of the inputs; levels that saw
-/// the same so far share theirs.
+/// A copy of the browser for each level takes what the level sees of the inputs, from wherever the
+/// copies stand; levels that are one copy make their turns once.
 #[derive(Clone, Copy)]
 pub struct Copies<'a> {
     /// It says what each level sees, and which level each line is at.
@@ -34,19 +37,23 @@ pub struct Copies<'a> {
 impl Taker for Copies<'_> {
     ghost use Rattle.std.specs.Prelude.{◌<◌};
     ghost use Rattle.ff_trace.specs.Lines.{IsInputOf};
-    ghost use Rattle.ff_session.specs.Multi.{copies_entry, copies_turns, AreCopiesAt};
+    ghost use Rattle.ff_machine.specs.State.{State as BrowserState};
+    ghost use Rattle.ff_reactive.specs.Standings.{Standing};
+    ghost use Rattle.ff_session.specs.Multi.{seen_by, copies_entry, copies_turns, AreCopiesAt};
 
     type Item = Input;
 
     type State = Pool;
 
+    ghost Start = { Standing BrowserState };
+
     ghost accepts = { λ taker input. IsInputOf taker.policy.now.order input };
 
-    ghost entry = { λ taker. copies_entry taker.policy.now };
+    ghost entry = { λ taker from. copies_entry taker.policy.now (seen_by taker.policy.now) from };
 
-    ghost turns = { λ taker. copies_turns taker.policy.now };
+    ghost turns = { λ taker from. copies_turns taker.policy.now (seen_by taker.policy.now) from };
 
-    ghost is_at = { λ taker pool inputs. AreCopiesAt taker.policy.now pool inputs × (0 < taker.slice) };
+    ghost is_at = { λ taker from pool inputs. AreCopiesAt taker.policy.now (seen_by taker.policy.now) from pool inputs × (0 < taker.slice) };
 
     ghost copies_none = { λ taker. ⊥ };
 
@@ -59,61 +66,51 @@ impl Taker for Copies<'_> {
         copies: &mut Steps<C>,
         steps: &mut Steps<L>,
     ) -> Result<(), AllocError> {
-        give(alloc, self.policy, self.slice, state, item, copies, steps)?;
-        let_out(self.policy, state, text)
+        let seen = offers(alloc, self.policy, item)?;
+        take_offers(self.policy, self.slice, state, &seen, text, copies, steps)
     }
 }
 
-/// Lets an input come to the levels that see it, and all classes do what then waits.
-fn give<C: Ledger, L: Ledger>(
+/// Multi-executes the trace that the port gives from where the copies of a pool at rest stand. A
+/// class makes up to `slice` steps before the next one has its turn. After want of memory nothing
+/// is known of the pool.
+#[tactic(auto, using(crate::proofs::Giving::is_given))]
+pub fn walk_copies<P: Port, C: Ledger, L: Ledger>(
     alloc: Global,
     policy: &Policy,
     slice: u32,
     pool: &mut Pool,
-    input: &Input,
+    port: &mut P,
     copies: &mut Steps<C>,
     turns: &mut Steps<L>,
-) -> Result<(), AllocError>
+) -> End<TraceFault>
     requires slice { 0 < slice }
-    requires input { IsInputOf policy.now.order input.now }
-    requires at { (is : List Input) × AreCopiesAt policy.now pool.old is }
-    ensures given { OnOk result ((is : List Input) → AreCopiesAt policy.now pool.old is → AreTakenBelow policy.now pool.new is input.now 0) }
-    ensures levels { OnOk result (pooled.size pool.new ≡ size policy.now.order) }
-    ensures count { OnOk result ((is : List Input) → AreCopiesAt policy.now pool.old is → turns.new ≡ turns.old + copies_turns policy.now is input.now) }
+    requires at { (from : Standing State) × AreCopiesAt policy.now (seen_by policy.now) from pool.old [] }
+    ensures streams { (from : Standing State) → AreCopiesAt policy.now (seen_by policy.now) from pool.old []
+        → Streams (Gives policy.now.order) (copies_entry policy.now (seen_by policy.now) from) (copies_turns policy.now (seen_by policy.now) from)
+        (λ is. AreCopiesAt policy.now (seen_by policy.now) from pool.new is × (0 < slice))
+        (P.log port.old) (P.log port.new) (P.rest port.old) (P.rest port.new) turns.old turns.new result }
     ensures later { turns.old ≤ turns.new }
-    ensures most { (is : List Input) → AreCopiesAt policy.now pool.old is → turns.new ≤ turns.old + copies_turns policy.now is input.now }
     ensures later_copies { copies.old ≤ copies.new }
+    ensures later_writes { P.write_faults port.old ≤ P.write_faults port.new }
+    ensures read_fault { result ≡ End.ReadFault → Rose (P.read_faults port.old) (P.read_faults port.new) }
+    ensures write_fault { result ≡ End.WriteFault → Rose (P.write_faults port.old) (P.write_faults port.new) }
 {
-    let seen = offers(alloc, policy, input)?;
-    pool.arrive(&seen, copies)?;
-    pool.drain(slice, copies, turns)
-}
-
-/// Takes the outputs of each level in order, and appends the lines of those that are at the level.
-fn let_out(policy: &Policy, pool: &mut Pool, text: &mut Vec<u8>) -> Result<(), AllocError>
-    requires { pooled.size pool.old ≡ size policy.now.order }
-    ensures taken { OnOk result ((is : List Input) (i : Input) → AreTakenBelow policy.now pool.old is i 0 → AreCopiesAt policy.now pool.new (is ++ i ∷ [])) }
-    ensures text { OnOk result ((is : List Input) (i : Input) → AreTakenBelow policy.now pool.old is i 0 → text.new.items ≡ text.old.items ++ copies_entry policy.now is i) }
-{
-    for number in 0..policy.lattice().size() {
-        let level = Level(number);
-        let outs = pool.take(level)?;
-        print_level(policy, level, outs.as_slice(), text)?;
-    }
-    Ok(())
-}
-
-/// A pool for the levels of a policy, in which nothing came to any of them yet. It is refused only
-/// for want of memory.
-pub fn new_pool(alloc: Global, policy: &Policy) -> Result<Pool, AllocError>
-    ensures { IfOk result (λ pool. AreCopiesAt policy.now pool []) }
-{
-    Pool::new(alloc, policy.lattice().size(), policy.fuel())
+    let lattice = policy.lattice();
+    let reader = InputReader { lattice };
+    stream(
+        alloc,
+        &reader,
+        &Copies { policy, slice },
+        pool,
+        port,
+        copies,
+        turns,
+    )
 }
 
 /// Multi-executes the trace that the port gives. A class makes up to `slice` steps before the next
 /// one has its turn.
-#[tactic(auto, using(crate::proofs::Giving::is_given))]
 pub(crate) fn walk_multi<P: Port, C: Ledger, L: Ledger>(
     alloc: Global,
     policy: &Policy,
@@ -123,25 +120,16 @@ pub(crate) fn walk_multi<P: Port, C: Ledger, L: Ledger>(
     turns: &mut Steps<L>,
 ) -> End<TraceFault>
     requires { 0 < slice }
-    ensures streams { Streams (Gives policy.now.order) (copies_entry policy.now) (copies_turns policy.now) (λ is. ⊤)
+    ensures streams { Streams (Gives policy.now.order) (copies_entry policy.now (seen_by policy.now) (fresh (machine policy.now))) (copies_turns policy.now (seen_by policy.now) (fresh (machine policy.now))) (λ is. ⊤)
         (P.log port.old) (P.log port.new) (P.rest port.old) (P.rest port.new) turns.old turns.new result }
     ensures later { turns.old ≤ turns.new }
     ensures later_copies { copies.old ≤ copies.new }
+    ensures later_writes { P.write_faults port.old ≤ P.write_faults port.new }
     ensures read_fault { result ≡ End.ReadFault → Rose (P.read_faults port.old) (P.read_faults port.new) }
     ensures write_fault { result ≡ End.WriteFault → Rose (P.write_faults port.old) (P.write_faults port.new) }
 {
-    let lattice = policy.lattice();
-    let reader = InputReader { lattice };
     match new_pool(alloc, policy) {
-        Ok(mut pool) => stream(
-            alloc,
-            &reader,
-            &Copies { policy, slice },
-            &mut pool,
-            port,
-            copies,
-            turns,
-        ),
+        Ok(mut pool) => walk_copies(alloc, policy, slice, &mut pool, port, copies, turns),
         Err(_) => End::NoMemory,
     }
 }

@@ -37,11 +37,11 @@ impl Taker for Plain<'_> {
 
     ghost accepts = { λ taker input. IsInputOf taker.policy.now.order input };
 
-    ghost entry = { λ taker. plain_entry taker.policy.now };
+    ghost entry = { λ taker start. plain_entry taker.policy.now };
 
-    ghost turns = { λ taker. plain_turns taker.policy.now };
+    ghost turns = { λ taker start. plain_turns taker.policy.now };
 
-    ghost is_at = { λ taker. IsPlainAt taker.policy.now };
+    ghost is_at = { λ taker start. IsPlainAt taker.policy.now };
 
     ghost copies_none = { λ taker. ⊥ };
 
@@ -74,6 +74,7 @@ pub(crate) fn walk_plain<P: Port, C: Ledger, L: Ledger>(
     ensures later_copies { copies.old ≤ copies.new }
     ensures read_fault { result ≡ End.ReadFault → Rose (P.read_faults port.old) (P.read_faults port.new) }
     ensures write_fault { result ≡ End.WriteFault → Rose (P.write_faults port.old) (P.write_faults port.new) }
+    ensures later_writes { P.write_faults port.old ≤ P.write_faults port.new }
 {
     let lattice = policy.lattice();
     let reader = InputReader { lattice };

@@ -4,7 +4,8 @@ ghost use Rattle.ff_reactive.specs.Laws.{IsProjection, IsSecure, IsPrecise};
 ghost use Rattle.ff_policy.specs.Assignment.{IsAssignment};
 ghost use Rattle.ff_levels.specs.Levels.{levels, machine};
 ghost use Rattle.ff_trace.specs.Lines.{IsInputOf};
-ghost use Rattle.ff_session.specs.Works.{Exchanged, Claims, IsAnswered, status_as, fault_as};
+ghost use Rattle.ff_session.specs.Giving.{Gives};
+ghost use Rattle.ff_session.specs.Works.{Exchanged, Claims, IsAnswered, duty, status_as, fault_as};
 
 use crate::format::walk_format;
 use crate::multi::walk_multi;
@@ -42,28 +43,35 @@ pub fn walk<P: Port, C: Ledger, L: Ledger>(
     turns: &mut Steps<L>,
 ) -> Status
     requires { 0 < slice }
-    ensures exchanged { Exchanged work policy.now (P.told port.old) (P.told port.new) turns.old turns.new result }
-    ensures projected { work ≡ Work.Multi → IsAnswered result → Claims Work.Multi policy.now (P.told port.old) (P.told port.new) (λ is put. IsProjection (machine policy.now) (levels policy.now) is put) }
-    ensures secure { work ≡ Work.Multi → IsAnswered result → Claims Work.Multi policy.now (P.told port.old) (P.told port.new) (λ is put. IsSecure (machine policy.now) (levels policy.now) (IsInputOf policy.now.order) is put) }
-    ensures precise { work ≡ Work.Multi → IsAnswered result → Claims Work.Multi policy.now (P.told port.old) (P.told port.new) (λ is put. IsPrecise (machine policy.now) (levels policy.now) is put) }
+    ensures exchanged { Exchanged (Gives policy.now.order) (duty work policy.now) (P.told port.old) (P.told port.new) turns.old turns.new result }
+    ensures projected { work ≡ Work.Multi → IsAnswered result → Claims policy.now (P.told port.old) (P.told port.new) (λ is put. IsProjection (machine policy.now) (levels policy.now) is put) }
+    ensures secure { work ≡ Work.Multi → IsAnswered result → Claims policy.now (P.told port.old) (P.told port.new) (λ is put. IsSecure (machine policy.now) (levels policy.now) (IsInputOf policy.now.order) is put) }
+    ensures precise { work ≡ Work.Multi → IsAnswered result → Claims policy.now (P.told port.old) (P.told port.new) (λ is put. IsPrecise (machine policy.now) (levels policy.now) is put) }
     ensures valid { IsAssignment policy.now }
     ensures later_copies { copies.old ≤ copies.new }
     ensures uncopied { work ≡ Work.Format → copies.new ≡ copies.old }
 {
     let lattice = policy.lattice();
     match work {
-        Work::Multi => status_of(walk_multi(alloc, policy, slice, port, copies, turns)),
-        Work::Plain => status_of(walk_plain(alloc, policy, port, copies, turns)),
-        Work::Format => status_of(walk_format(alloc, lattice, port, copies, turns)),
+        Work::Multi => status_of(
+            walk_multi(alloc, policy, slice, port, copies, turns),
+            Status::Done,
+        ),
+        Work::Plain => status_of(walk_plain(alloc, policy, port, copies, turns), Status::Done),
+        Work::Format => status_of(
+            walk_format(alloc, lattice, port, copies, turns),
+            Status::Done,
+        ),
     }
 }
 
-/// The status of an end.
-fn status_of(end: End<TraceFault>) -> Status
-    ensures { result ≡ status_as end }
+/// The status of an end, where `good` is that of a trace that was read to its end and has no bad
+/// line.
+pub fn status_of(end: End<TraceFault>, good: Status) -> Status
+    ensures { result ≡ status_as end good }
 {
     match end {
-        End::Done => Status::Done,
+        End::Done => good,
         End::Bad(line) => Status::Trace(line.number, fault_of(line.fault)),
         End::ReadFault => Status::ReadFault,
         End::WriteFault => Status::WriteFault,

@@ -1,5 +1,5 @@
 -- How many cells a reduction copies at most.
-use Rattle.std.specs.Prelude.{ℕ, ◌+◌, ◌*◌, length}
+use Rattle.std.specs.Prelude.{ℕ, ◌+◌, ◌*◌, cond, length}
 use Rattle.ff_value.specs.declared.ids.ActId.{ActId}
 use Rattle.ff_value.specs.declared.value.Val.{Val}
 use Rattle.ff_value.specs.declared.value.Val.TheVariants as val
@@ -9,7 +9,9 @@ use Rattle.ff_term.specs.Redexes.{read_redex}
 use Rattle.ff_term.specs.Running as term
 use Rattle.ff_term.specs.Running.{Evaluation, innermost}
 use Rattle.ff_machine.specs.Documents.{laid}
+use Rattle.ff_machine.specs.State.{Task}
 use Rattle.ff_machine.specs.Stores.{Stores}
+use Rattle.ff_machine.specs.Windows.{is_live}
 use Rattle.ff_rows.specs.Copies.{most_copies}
 
 -- for a call: for each parameter of the function, and for its activation; none where no function is
@@ -30,3 +32,8 @@ copied s a other = 0
 -- for one reduction of an evaluation: for the row of its redex, in its innermost activation
 abbrev pub working : Stores → Evaluation → ℕ
 working s t = copied s (innermost t.base t.expr) (read_redex (term.redex t.expr))
+
+-- for one fuel of a task: for its reduction, where its page is live; a task that is dropped copies
+-- none
+abbrev pub worked_on : Stores → Task → ℕ
+worked_on s task = cond (is_live s.windows task.page) (working s task.running) 0

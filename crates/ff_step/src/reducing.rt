@@ -1,9 +1,10 @@
 //! The one reduction: which row decides, and what is put for the redex.
-ghost use Rattle.std.specs.Prelude.{◌≡◌, ◌+◌, ◌<◌, ◌≤◌, false, length, IsTrue};
+ghost use Rattle.std.specs.Prelude.{◌≡◌, ◌+◌, ◌<◌, ◌≤◌, false, length, IsTrue, OnErr};
 ghost use Rattle.ff_operators.specs.Answers.{Gives};
 ghost use Rattle.ff_term.specs.Redexes.{IsRedexOf, read_redex};
 ghost use Rattle.ff_term.specs.Running as term;
 ghost use Rattle.ff_term.specs.Running.{is_value};
+ghost use Rattle.ff_frames.specs.Emptied.{emptied};
 ghost use Rattle.ff_frames.specs.Lent.{named};
 ghost use Rattle.ff_machine.specs.Answers.{Finishes, Reduces};
 ghost use Rattle.ff_machine.specs.Reduction as red;
@@ -27,8 +28,35 @@ use std::alloc::{AllocError, Global};
 use std::sync::ledger::Ledger;
 
 /// Makes one reduction of the expression of a task of a live page. It is refused only for want of
-/// memory; a fault is an answer, with which nothing has changed.
+/// memory, and then the control is that of `null`, which fits whatever stores are left; a fault is
+/// an answer, with which nothing has changed.
 pub fn reduce<C: Ledger>(
+    alloc: Global,
+    control: &mut Control,
+    stores: &mut Stores,
+    page: PageId,
+    outs: &mut Vec<Out>,
+    copies: &mut Steps<C>,
+) -> Result<Reduced, NoMemory>
+    requires act { control.old.base.0 < length stores.old.windows.acts }
+    requires running { IsRunning (made stores.old) control.old.expr }
+    requires live { IsTrue (is_live stores.old.windows page) }
+    ensures reduces { Reduces (red.reduction stores.old page control.old) result control.new stores.new outs.old.items outs.new.items }
+    ensures emptied { OnErr result (control.new ≡ emptied) }
+    ensures later { copies.old ≤ copies.new }
+    ensures copies { copies.new ≤ copies.old + working stores.old control.old }
+{
+    match reduce_once(alloc, control, stores, page, outs, copies) {
+        Ok(reduced) => Ok(reduced),
+        Err(error) => {
+            control.clear(alloc);
+            Err(error)
+        }
+    }
+}
+
+/// The same, but for what is left after want of memory.
+fn reduce_once<C: Ledger>(
     alloc: Global,
     control: &mut Control,
     stores: &mut Stores,

@@ -4,7 +4,8 @@ ghost use Rattle.ff_machine.specs.Answers.{Works};
 ghost use Rattle.ff_machine.specs.Turns as turns;
 ghost use Rattle.ff_machine.specs.Valid.{IsStores, IsTask};
 ghost use Rattle.ff_machine.specs.Windows.{is_live};
-ghost use Rattle.ff_step.specs.Copies.{working};
+ghost use Rattle.ff_frames.specs.Emptied.{emptied};
+ghost use Rattle.ff_step.specs.Copies.{worked_on};
 ghost use Rattle.ff_step.specs.Left.{left};
 
 use crate::reducing::reduce_redex;
@@ -20,7 +21,7 @@ use std::sync::ledger::Ledger;
 impl Task {
     /// What one fuel makes of the task: one reduction, where its page is live; answers whether it goes
     /// on. It is gone where its page isn't live, where it is a value, and where it failed: then its
-    /// error is put, at the place of the page's window.
+    /// error is put, at the place of the page's window. After want of memory it runs `null`.
     pub fn work<C: Ledger>(
         &mut self,
         alloc: Global,
@@ -31,7 +32,31 @@ impl Task {
         requires { IsTask stores.old self.old }
         ensures works { Works (turns.work stores.old self.old) (left self.new result) stores.new outs.old.items outs.new.items }
         ensures later { copies.old ≤ copies.new }
-        ensures copies { copies.new ≤ copies.old + working stores.old self.old.running }
+        ensures emptied { OnErr result (self.new ≡ record { page = self.old.page; running = emptied }) }
+        ensures copies { copies.new ≤ copies.old + worked_on stores.old self.old }
+    {
+        match self.make(alloc, stores, outs, copies) {
+            Ok(goes_on) => Ok(goes_on),
+            Err(error) => {
+                self.control.clear(alloc);
+                Err(error)
+            }
+        }
+    }
+
+    /// The same, but for what is left after want of memory.
+    fn make<C: Ledger>(
+        &mut self,
+        alloc: Global,
+        stores: &mut Stores,
+        outs: &mut Vec<Out>,
+        copies: &mut Steps<C>,
+    ) -> Result<bool, NoMemory>
+        requires { IsTask stores.old self.old }
+        ensures works { Works (turns.work stores.old self.old) (left self.new result) stores.new outs.old.items outs.new.items }
+        ensures page { self.new.page ≡ self.old.page }
+        ensures later { copies.old ≤ copies.new }
+        ensures copies { copies.new ≤ copies.old + worked_on stores.old self.old }
     {
         let page = self.page;
         if !lives(stores, page) {

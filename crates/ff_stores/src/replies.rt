@@ -3,6 +3,7 @@ ghost use Rattle.std.specs.Prelude.{◌≡◌, ◌+◌, ◌*◌, ◌<◌, ◌≤
 ghost use Rattle.ff_tree.specs.Spelled.{IsWellSpelledExpr};
 ghost use Rattle.ff_machine.specs.Net as net;
 ghost use Rattle.ff_machine.specs.Stores as s;
+ghost use Rattle.ff_machine.specs.Windows as windows;
 ghost use Rattle.ff_operators.specs.declared.limits.TheConstants.{MOST_MASS};
 
 use crate::stores::Stores;
@@ -62,22 +63,23 @@ impl Stores {
         self.mass = mass;
     }
 
-    /// The slot of a page becomes the script, where it waits.
+    /// The slot of a page becomes the script, where it waits. Answers whether it did.
     pub fn fill_slot<C: Ledger>(
         &mut self,
         page: PageId,
         slot: u32,
         body: &Body,
         copies: &mut Steps<C>,
-    ) -> Result<(), NoMemory>
+    ) -> Result<bool, NoMemory>
         requires page { page.0 < length self.old.windows.pages }
         requires spelled { IsWellSpelledExpr body.now }
         ensures done { OnOk result (self.new ≡ s.fill_slot self.old page slot body.now) }
+        ensures waited { IfOk result (λ waited. waited ≡ windows.waits self.old.windows page slot) }
         ensures later { copies.old ≤ copies.new }
         ensures copies { copies.new ≤ copies.old + 33 }
     {
         match self.windows.fill(page, slot, body, copies) {
-            Ok(_waited) => Ok(()),
+            Ok(waited) => Ok(waited),
             Err(refused) => {
                 *self = Stores::new(self.alloc);
                 Err(refused)

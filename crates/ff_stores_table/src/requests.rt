@@ -1,9 +1,12 @@
 //! Pending requests.
+ghost use Rattle.std.specs.Prelude.{IfOk};
+ghost use Rattle.ff_name.specs.Address.{IsRequest};
 
 use crate::reading::{domain, number, parted, text};
 use crate::words::{spelled, yes_or_no};
 use anyhow::{Result, bail};
 use ff_machine::{Dst, Pending};
+use ff_name::{Domain, Text, Url};
 use ff_net::Requests;
 use ff_script::read_body;
 use ff_steps::Steps;
@@ -45,14 +48,33 @@ fn ask<C: Ledger>(
 ) -> Result<String> {
     let (to, rest) = parted(rest);
     let (uri, dst) = parted(rest);
-    let to = domain(alloc, to)?;
+    let (to, uri) = address(alloc, to, uri)?;
     if !requests.room(&to) {
         return Ok(format!(in alloc; "no room")?);
     }
-    let uri = text(alloc, uri)?;
-    let dst = destination(alloc, dst)?;
-    requests.ask(&to, &uri, dst, copies)?;
+    requests.ask(&to, &uri, Dst::Window(window(dst)?), copies)?;
     Ok(format!(in alloc; "done")?)
+}
+
+/// The window that a reply is for.
+fn window(words: &str) -> Result<WinId> {
+    let (word, rest) = parted(words);
+    match word {
+        "window" => Ok(WinId(number(rest)?)),
+        _ => bail!("no window that a reply is for: {word}"),
+    }
+}
+
+/// The domain and the request text of an address.
+fn address(alloc: Global, to: &str, uri: &str) -> Result<(Domain, Text)>
+    ensures { IfOk result (λ parts. IsRequest parts.1) }
+{
+    let written = format!(in alloc; "http://{to}{uri}")?;
+    let url = Url::read(alloc, written.as_bytes())?;
+    match &url {
+        Url::At(to, uri) => Ok((to.copy()?, uri.copy()?)),
+        Url::Blank => bail!("no address: {written}"),
+    }
 }
 
 /// What a reply is for.

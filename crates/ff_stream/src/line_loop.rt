@@ -29,13 +29,15 @@ pub fn stream<R: Reader, T: Taker<Item = R::Item>, P: Port, C: Ledger, L: Ledger
     copies: &mut Steps<C>,
     steps: &mut Steps<L>,
 ) -> End<R::Fault>
-    requires start { T.is_at taker.now state.old [] }
+    requires start { (start : T.Start) × T.is_at taker.now start state.old [] }
     requires fits { (line : List ℕ) (item : R.Item)
         → R.gives reader.now line (Ok (Some item)) → T.accepts taker.now item }
-    ensures streams { Streams (R.gives reader.now) (T.entry taker.now) (T.turns taker.now)
-        (T.is_at taker.now state.new) (P.log port.old) (P.log port.new) (P.rest port.old)
+    ensures streams { (start : T.Start) → T.is_at taker.now start state.old []
+        → Streams (R.gives reader.now) (T.entry taker.now start) (T.turns taker.now start)
+        (T.is_at taker.now start state.new) (P.log port.old) (P.log port.new) (P.rest port.old)
         (P.rest port.new) steps.old steps.new result }
     ensures later { steps.old ≤ steps.new }
+    ensures later_writes { P.write_faults port.old ≤ P.write_faults port.new }
     ensures later_copies { copies.old ≤ copies.new }
     ensures uncopied { T.copies_none taker.now → copies.new ≡ copies.old }
     ensures read_fault { result ≡ End.ReadFault
@@ -122,9 +124,9 @@ fn take_item<F, T: Taker, P: Port, C: Ledger, L: Ledger>(
     steps: &mut Steps<L>,
 ) -> Result<(), End<F>>
     requires accepts { ForSome item (T.accepts taker.now) }
-    requires at { (items : List T.Item) × T.is_at taker.now state.old items }
-    ensures takes { TakesItem (T.entry taker.now) (T.turns taker.now) (T.is_at taker.now state.old)
-        (T.is_at taker.now state.new) (P.log port.old) (P.log port.new) (P.rest port.old)
+    requires at { (start : T.Start) × (items : List T.Item) × T.is_at taker.now start state.old items }
+    ensures takes { (start : T.Start) → TakesItem (T.entry taker.now start) (T.turns taker.now start) (T.is_at taker.now start state.old)
+        (T.is_at taker.now start state.new) (P.log port.old) (P.log port.new) (P.rest port.old)
         (P.rest port.new) item steps.old steps.new result }
     ensures others { P.read_faults port.new ≡ P.read_faults port.old }
     ensures later { P.write_faults port.old ≤ P.write_faults port.new }

@@ -8,6 +8,7 @@ invariant-loop-ended g l = record {
   fetching : IsFetching (g.S.Shelf.files l.fn.shelf) l.name l.limit l.bytes.items l.ended;
   chunk : vec_len l.chunk ≡ MOST_FETCH_BYTES;
   files : g.S.Shelf.files l.shelf ≡ g.S.Shelf.files l.fn.shelf;
+  unfailed : g.S.Shelf.faults l.shelf l.name ≡ g.S.Shelf.faults l.fn.shelf l.name;
   later : g.S.Shelf.faults l.fn.shelf l.name ≤ g.S.Shelf.faults l.shelf l.name;
 }
 

@@ -19,17 +19,17 @@ use Rattle.ff_step.proofs.reducing.reduce_redex.Goals as goal
 pub returns-in_ok-local-in-Local-clause-reduces : goal.returns-in_ok-local-in-Local-clause-reduces
 returns-in_ok-local-in-Local-clause-reduces g c =
     rw (reduction_by c.args.stores.now c.args.page c.args.control.now (named c.redex_of.result) c.requires.unfinished c.redex_of.ensures.is, c.in-Local.is)
-    (refl, c.in_ok-local-in-Local.ensures ∙ rewritten_at local_row c.args.control.now, refl, sym (append-nil c.args.outs.now.items))
+    (refl, c.in_ok-local-in-Local.ensures.done ∙ rewritten_at local_row c.args.control.now, refl, sym (append-nil c.args.outs.now.items))
 
 pub returns-in_ok-choose-in-Test-clause-reduces : goal.returns-in_ok-choose-in-Test-clause-reduces
 returns-in_ok-choose-in-Test-clause-reduces g c =
     rw (reduction_by c.args.stores.now c.args.page c.args.control.now (named c.redex_of.result) c.requires.unfinished c.redex_of.ensures.is, c.in-Test.is)
-    (chosen c.args.stores.now c.args.control.now c.choose.new.self c.args.outs.now.items c.in-Test.v.now _ c.in_ok-yes-in-Test.ensures c.in_ok-choose-in-Test.ensures)
+    (chosen c.args.stores.now c.args.control.now c.choose.new.self c.args.outs.now.items c.in-Test.v.now _ c.in_ok-yes-in-Test.ensures c.in_ok-choose-in-Test.ensures.done)
 
 pub returns-in_ok-give_copy-in-Some-clause-reduces : goal.returns-in_ok-give_copy-in-Some-clause-reduces
 returns-in_ok-give_copy-in-Some-clause-reduces g c =
     rw (reduction_by c.args.stores.now c.args.page c.args.control.now (named c.redex_of.result) c.requires.unfinished c.redex_of.ensures.is, sym c.act_of-a.ensures.value, c.in-Var.is, sym c.lookup.ensures, c.in-Some.is)
-    (refl, c.in_ok-give_copy-in-Some.ensures, refl, sym (append-nil c.args.outs.now.items))
+    (refl, c.in_ok-give_copy-in-Some.ensures.done, refl, sym (append-nil c.args.outs.now.items))
 
 pub returns-in-None-clause-reduces : goal.returns-in-None-clause-reduces
 returns-in-None-clause-reduces g c =
@@ -40,7 +40,7 @@ pub returns-in_ok-keep-in-Let-clause-reduces : goal.returns-in_ok-keep-in-Let-cl
 returns-in_ok-keep-in-Let-clause-reduces g c =
     let is = rw c.in-Let.is at c.redex_of.ensures.is in
     rw (reduction_by c.args.stores.now c.args.page c.args.control.now (named c.redex_of.result) c.requires.unfinished c.redex_of.ensures.is, sym c.act_of-a.ensures.value, c.in-Let.is)
-    (kept c.args.stores.now c.declare.new.self _ c.args.control.now c.keep.new.self c.args.outs.now.items _ c.in-Let.v.now c.in_ok-declare-in-Let.ensures.answer c.in_ok-declare-in-Let.ensures.done (ap bound is) c.in_ok-keep-in-Let.ensures)
+    (kept c.args.stores.now c.declare.new.self _ c.args.control.now c.keep.new.self c.args.outs.now.items _ c.in-Let.v.now c.in_ok-declare-in-Let.ensures.answer c.in_ok-declare-in-Let.ensures.done (ap bound is) c.in_ok-keep-in-Let.ensures.done)
 
 pub returns-in_err-declare-in-Let-clause-reduces : goal.returns-in_err-declare-in-Let-clause-reduces
 returns-in_err-declare-in-Let-clause-reduces g c =
@@ -52,7 +52,7 @@ pub returns-in_ok-keep-in-Set-clause-reduces : goal.returns-in_ok-keep-in-Set-cl
 returns-in_ok-keep-in-Set-clause-reduces g c =
     let is = rw c.in-Set.is at c.redex_of.ensures.is in
     rw (reduction_by c.args.stores.now c.args.page c.args.control.now (named c.redex_of.result) c.requires.unfinished c.redex_of.ensures.is, sym c.act_of-a.ensures.value, c.in-Set.is)
-    (kept c.args.stores.now c.assign.new.self _ c.args.control.now c.keep-in-Set.new.self c.args.outs.now.items _ c.in-Set.v.now c.in_ok-assign-in-Set.ensures.answer c.in_ok-assign-in-Set.ensures.done (ap bound is) c.in_ok-keep-in-Set.ensures)
+    (kept c.args.stores.now c.assign.new.self _ c.args.control.now c.keep-in-Set.new.self c.args.outs.now.items _ c.in-Set.v.now c.in_ok-assign-in-Set.ensures.answer c.in_ok-assign-in-Set.ensures.done (ap bound is) c.in_ok-keep-in-Set.ensures.done)
 
 pub returns-in_err-assign-in-Set-clause-reduces : goal.returns-in_err-assign-in-Set-clause-reduces
 returns-in_err-assign-in-Set-clause-reduces g c =

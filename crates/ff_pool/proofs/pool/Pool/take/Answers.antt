@@ -1,4 +1,4 @@
-use Rattle.std.proofs.Common.{◌∙◌, ap, ap₂, set, get_or, false, [], length, ◌<◌, arith}
+use Rattle.std.proofs.Common.{◌∙◌, ap, ap₂, set, get_or, [], length, ◌<◌, arith}
 use Rattle.std.proofs.lemmas.List.{get_or_read}
 use Rattle.ff_pool.specs.Pooled.{taken, copy_of}
 use Rattle.ff_pool.proofs.Gathering.{gathered-take, kept-take, outputs_of}

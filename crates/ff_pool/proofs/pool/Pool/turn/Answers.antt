@@ -1,7 +1,8 @@
 use Rattle.std.proofs.Common.{◌≡◌, ◌∙◌, ◌≤◌, ◌+◌, ap, subst, length, arith}
 use Rattle.std.proofs.lemmas.List.{with_items_is}
 use Rattle.ff_pool.specs.Heads.{new_head}
-use Rattle.ff_pool.proofs.Reading.{read_spelled, read_turns, turn_kept, turn_seen}
+use Rattle.ff_core.specs.Copies.{turning}
+use Rattle.ff_pool.proofs.Reading.{read_spelled, read_turns, read_state, turn_kept, turn_seen}
 use Rattle.ff_pool.proofs.pool.Pool.turn.Goals as goal
 
 pub step_class-requires-clause-spelled : goal.step_class-requires-clause-spelled
@@ -43,3 +44,15 @@ returns-clause-most g c =
     let none = new_head c.self.inside.fuel in
     subst (λ n. c.step_class.new.turns ≤ c.args.turns.now + n)
     (read_turns c.self.invariant c.if-self.false c.self.view_is c.requires c.as_mut_slice.ensures.value c.as_slice.ensures.value c.from.ensures none) (c.in_ok-step_class.ensures.most none)
+
+pub returns-in_err-step_class-clause-copies : goal.returns-in_err-step_class-clause-copies
+returns-in_err-step_class-clause-copies g c = λ busy.
+    let none = new_head c.self.inside.fuel in
+    let state = read_state c.self.invariant c.if-self.false c.self.view_is c.requires c.as_mut_slice.ensures.value c.as_slice.ensures.value c.from.ensures none in
+    subst (λ s. c.step_class.new.copies ≤ c.args.copies.now + turning s) state (c.in_err-step_class.ensures.copies none (ap (λ s. s.quiet) state ∙ busy))
+
+pub returns-clause-copies : goal.returns-clause-copies
+returns-clause-copies g c = λ busy.
+    let none = new_head c.self.inside.fuel in
+    let state = read_state c.self.invariant c.if-self.false c.self.view_is c.requires c.as_mut_slice.ensures.value c.as_slice.ensures.value c.from.ensures none in
+    subst (λ s. c.step_class.new.copies ≤ c.args.copies.now + turning s) state (c.in_ok-step_class.ensures.copies none (ap (λ s. s.quiet) state ∙ busy))

@@ -1,0 +1,77 @@
+-- The audit: the lines that the plain program and the multi-executed one put at each level, and
+-- where they first differ.
+use Rattle.std.specs.Prelude.{◌≡◌, ℕ, ◌+◌, Bool, cond, Option, List, [], length}
+use Rattle.ff_reactive.specs.Runs.{work_plain}
+use Rattle.ff_value.specs.declared.input.Input.{Input}
+use Rattle.ff_io.specs.Pieces.{Piece}
+use Rattle.ff_lattice.specs.Order.{size}
+use Rattle.ff_policy.specs.Assignment.{Assignment}
+use Rattle.ff_levels.specs.Levels.{machine}
+use Rattle.ff_status.specs.declared.status.TraceFault.{TraceFault}
+use Rattle.ff_status.specs.Words.{IsGood}
+use Rattle.ff_stream.specs.declared.end.End.{End}
+use Rattle.ff_status.specs.declared.status.Status.{Status}
+use Rattle.ff_status.specs.declared.status.Status.TheVariants.{Done, Leaks}
+use Rattle.ff_session.specs.Closing.{IsClosed}
+use Rattle.ff_session.specs.Plain.{plain_text, plain_turns, IsPlainAt}
+use Rattle.ff_reactive.specs.Standings.{fresh}
+use Rattle.ff_session.specs.Multi.{seen_by, multi_text, multi_turns, copies_turns, AreCopiesAt}
+use Rattle.ff_session.specs.Works.{Duty}
+use Rattle.ff_audit.specs.Owned.{own}
+use Rattle.ff_audit.specs.Comparing.{compared, CompareAll}
+use Rattle.ff_audit.specs.Verdicts.{any_differ, report_of}
+use Rattle.ff_audit.specs.declared.verdict.Verdict.{Verdict}
+use Rattle.ff_audit.specs.declared.books.Books.{Books}
+
+-- a level's own lines of the plain run over inputs, and of the multi-executed run
+abbrev pub plain_lines : Assignment → List Input → ℕ → List (List ℕ)
+plain_lines p is l = own p.order (plain_text p is) l
+
+abbrev pub multi_lines : Assignment → List Input → ℕ → List (List ℕ)
+multi_lines p is l = own p.order (multi_text p is) l
+
+-- what is found at a level
+abbrev pub verdict : Assignment → List Input → ℕ → Verdict
+verdict p is l = compared 0 (plain_lines p is l) (multi_lines p is l)
+
+-- whether the lines of some level differ
+abbrev pub leaks : Assignment → List Input → Bool
+leaks p is = any_differ (size p.order) (plain_lines p is) (multi_lines p is)
+
+-- the report: what is found at each level in order
+abbrev pub report : Assignment → List Input → List ℕ
+report p is = report_of p.order (size p.order) (plain_lines p is) (multi_lines p is)
+
+-- how an audit ends
+abbrev pub ending : Assignment → List Input → Status
+ending p is = cond (leaks p is) Leaks Done
+
+-- the turns of both runs; those of one input after the inputs before it
+abbrev pub audit_turns : Assignment → List Input → ℕ
+audit_turns p is = work_plain (machine p) is + multi_turns p is
+
+abbrev pub feed_turns : Assignment → List Input → Input → ℕ
+feed_turns p is i = plain_turns p is i + copies_turns p (seen_by p) (fresh (machine p)) is i
+
+-- nothing is put before reading has ended
+abbrev pub no_entry : List Input → Input → List ℕ
+no_entry is i = []
+
+-- what an audit owes: the report, also after a bad line or a read that failed
+abbrev pub audit_duty : Assignment → Duty Input
+audit_duty p = record { entry = no_entry; text = λ whole is. report p is; turns = audit_turns p; good = ending p }
+
+-- Both runs have taken these inputs, and the lines of each level are compared.
+pub record IsAuditAt (p : Assignment) (books : Books) (is : List Input) : Type 0 where
+  pub plain : IsPlainAt p books.browser is
+  pub copies : AreCopiesAt p (seen_by p) (fresh (machine p)) books.pool is
+  pub count : length books.levels.items ≡ size p.order
+  pub levels : CompareAll books.levels.items (plain_lines p is) (multi_lines p is)
+
+-- The report of the books was put, or what became of it, and the status.
+pub record IsReported (p : Assignment) (books : Books) (end : End TraceFault) (log_before log_now : Option (List Piece)) (writes_before writes_now : ℕ) (status : Status) : Type 0 where
+  pub text : List ℕ
+  pub good : Status
+  pub fine : IsGood good
+  pub of_books : (is : List Input) → IsAuditAt p books is → (text ≡ report p is) × (good ≡ ending p is)
+  pub closed : IsClosed end good text log_before log_now writes_before writes_now status

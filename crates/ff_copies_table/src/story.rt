@@ -1,0 +1,268 @@
+//! Stories of a pool of two levels under the built-in policy, each told twice: by single calls, and
+//! by one `play` over the same events. A class may part in the middle of a script, and so may a
+//! fork and the pool that it was made of.
+//!
+//! | Line | What comes |
+//! |---|---|
+//! | `all INPUT` | each level is offered what it sees of the input |
+//! | `high INPUT` | the higher level alone is offered the input |
+//! | `turn LEVEL COUNT` | so many steps of the level's class |
+//! | `fork` | a fork of the pool is kept, in place of the one before |
+//! | `swap` | the story goes on with the fork, and the pool is kept in its place |
+ghost use Rattle.std.specs.Prelude.{◌≡◌, ◌<◌, All, IfOk, OnOk, false};
+ghost use Rattle.ff_lattice.specs.Order.{size as count_levels};
+ghost use Rattle.ff_value.specs.Spelled.{IsWellSpelledInput};
+ghost use Rattle.ff_reactive.specs.Worlds.{OfferOk, AreOffers};
+ghost use Rattle.ff_pool.specs.Events.{IsEvent};
+
+use crate::counting::{input_of, offers};
+use crate::{Classes, classes, is_of_two, show_classes};
+use ff_name::Level;
+use ff_policy::Policy;
+use ff_pool::{Event, NoMemory, Pool};
+use ff_steps::Steps;
+use ff_trace::print_out;
+use ff_value::{Input, Offers};
+use std::alloc::{AllocError, Global};
+use std::marker::Brand;
+use std::sync::ledger::{Blank, Ledger};
+use std::{io, mem, str};
+
+/// What is told of a pool in the end: what each level's copy has put, its class, and whether all is
+/// quiet.
+#[derive(Drop)]
+struct Ending {
+    low: Vec<u8>,
+    high: Vec<u8>,
+    classes: Classes,
+}
+
+/// What is told of a story: the classes after each line, the endings of the pool and of its fork,
+/// and the same of the one call.
+#[derive(Drop)]
+struct Told {
+    lines: Vec<Classes>,
+    pool: Ending,
+    fork: Ending,
+    played: Ending,
+}
+
+/// What the two levels are offered where the higher one alone is offered something.
+fn for_high(alloc: Global, input: Input) -> Result<Offers, NoMemory>
+    requires { IsWellSpelledInput input }
+    ensures { IfOk result (λ offers. AreOffers IsWellSpelledInput 2 offers) }
+{
+    let mut offers = Offers::new(alloc);
+    offers.push(None)?;
+    offers.push(Some(input))?;
+    Ok(offers)
+}
+
+/// What the two levels are offered by a line.
+fn offers_of(alloc: Global, policy: &Policy, word: &str, rest: &str) -> Result<Offers, NoMemory>
+    ensures { IfOk result (λ offers. AreOffers IsWellSpelledInput 2 offers) }
+{
+    match input_of(alloc, policy, rest)? {
+        Some(input) => {
+            if word == "high" {
+                for_high(alloc, input)
+            } else {
+                offers(alloc, policy, &input)
+            }
+        }
+        None => Err(AllocError),
+    }
+}
+
+/// The level and the number of steps that a line tells.
+fn steps_of(rest: &str) -> Result<(u8, u32), NoMemory>
+    ensures { IfOk result (λ steps. steps.0 < 2) }
+{
+    match rest.split_once(' ') {
+        Some((level, count)) => match (level.parse::<u8>(), count.parse::<u32>()) {
+            (Ok(level), Ok(count)) if level < 2 => Ok((level, count)),
+            _ => Err(AllocError),
+        },
+        None => Err(AllocError),
+    }
+}
+
+/// Does what a line says.
+fn follow<C: Ledger, L: Ledger>(
+    alloc: Global,
+    policy: &Policy,
+    line: &str,
+    pool: &mut Pool,
+    kept: &mut Pool,
+    copies: &mut Steps<C>,
+    turns: &mut Steps<L>,
+) -> Result<(), NoMemory> {
+    let (word, rest) = line.split_once(' ').unwrap_or((line, ""));
+    match word {
+        "fork" => *kept = pool.fork(copies)?,
+        "swap" => mem::swap(pool, kept),
+        "turn" => {
+            let (level, count) = steps_of(rest)?;
+            for _ in 0..count {
+                if !is_of_two(pool) {
+                    return Err(AllocError);
+                }
+                pool.turn(Level(level), copies, turns)?;
+            }
+        }
+        _ => {
+            let offers = offers_of(alloc, policy, word, rest)?;
+            if !is_of_two(pool) {
+                return Err(AllocError);
+            }
+            pool.arrive(&offers, copies)?;
+        }
+    }
+    Ok(())
+}
+
+/// Puts the events of a line behind the others. A fork is none.
+fn add_events(
+    alloc: Global,
+    policy: &Policy,
+    line: &str,
+    events: &mut Vec<Event>,
+) -> Result<(), NoMemory>
+    requires { All (IsEvent 2) events.old.items }
+    ensures { OnOk result (All (IsEvent 2) events.new.items) }
+{
+    let (word, rest) = line.split_once(' ').unwrap_or((line, ""));
+    match word {
+        "fork" | "swap" => Ok(()),
+        "turn" => {
+            let (level, count) = steps_of(rest)?;
+            add_turns(level, count, events)
+        }
+        _ => {
+            let offers = offers_of(alloc, policy, word, rest)?;
+            events.push(Event::Arrive(offers))?;
+            Ok(())
+        }
+    }
+}
+
+/// Puts so many steps of a level behind the other events.
+fn add_turns(level: u8, count: u32, events: &mut Vec<Event>) -> Result<(), NoMemory>
+    requires level { level < 2 }
+    requires events { All (IsEvent 2) events.old.items }
+    ensures { OnOk result (All (IsEvent 2) events.new.items) }
+{
+    for _ in 0..count {
+        events.push(Event::Turn(Level(level)))?;
+    }
+    Ok(())
+}
+
+/// The events of all lines.
+fn events_of(alloc: Global, policy: &Policy, lines: &[String]) -> Result<Vec<Event>, NoMemory>
+    ensures { IfOk result (λ events. All (IsEvent 2) events.items) }
+{
+    let mut events = Vec::new(alloc);
+    for line in lines {
+        add_events(alloc, policy, line.as_str(), &mut events)?;
+    }
+    Ok(events)
+}
+
+/// The lines of all that a level's copy has put.
+fn put_by(alloc: Global, policy: &Policy, pool: &mut Pool, l: u8) -> Result<Vec<u8>, NoMemory>
+    requires { l < 2 }
+{
+    let mut text = Vec::new(alloc);
+    if !is_of_two(pool) || policy.lattice().size() != 2 {
+        return Err(AllocError);
+    }
+    for out in pool.take(Level(l))? {
+        print_out(Level(l), policy.lattice(), &out, &mut text)?;
+    }
+    Ok(text)
+}
+
+/// What is told of a pool in the end.
+fn end_of(alloc: Global, policy: &Policy, pool: &mut Pool) -> Result<Ending, NoMemory> {
+    let classes = classes(pool);
+    Ok(Ending {
+        low: put_by(alloc, policy, pool, 0)?,
+        high: put_by(alloc, policy, pool, 1)?,
+        classes,
+    })
+}
+
+/// Tells a story.
+fn tell<C: Ledger, L: Ledger>(
+    alloc: Global,
+    lines: &[String],
+    copies: Blank,
+    turns: Blank,
+) -> Result<Told, NoMemory>
+    requires copies_name { copies.name ≡ C.name }
+    requires copies_parts { copies.parts ≡ C.parts }
+    requires copies_some { 0 < copies.parts }
+    requires turns_name { turns.name ≡ L.name }
+    requires turns_parts { turns.parts ≡ L.parts }
+    requires turns_some { 0 < turns.parts }
+{
+    let mut copies = Steps::<C>::new(copies);
+    let mut turns = Steps::<L>::new(turns);
+    let policy = Policy::builtin(alloc)?;
+    let mut pool = Pool::new(alloc, 2, policy.fuel())?;
+    let mut kept = Pool::new(alloc, 2, policy.fuel())?;
+    let mut told = Vec::new(alloc);
+    for line in lines {
+        follow(
+            alloc,
+            &policy,
+            line.as_str(),
+            &mut pool,
+            &mut kept,
+            &mut copies,
+            &mut turns,
+        )?;
+        told.push(classes(&pool))?;
+    }
+    let events = events_of(alloc, &policy, lines)?;
+    let mut other = Pool::new(alloc, 2, policy.fuel())?;
+    if !is_of_two(&other) {
+        return Err(AllocError);
+    }
+    other.play(events.as_slice(), &mut copies, &mut turns)?;
+    Ok(Told {
+        lines: told,
+        pool: end_of(alloc, &policy, &mut pool)?,
+        fork: end_of(alloc, &policy, &mut kept)?,
+        played: end_of(alloc, &policy, &mut other)?,
+    })
+}
+
+/// Prints what is told of a pool in the end, below a heading.
+fn show_ending(rt: &HostRuntime, heading: &str, ending: &Ending) -> io::Result<()> {
+    println!(rt; "{heading}:")?;
+    show_classes(rt, &ending.classes)?;
+    for text in [ending.low.as_slice(), ending.high.as_slice()] {
+        match str::from_utf8(text) {
+            Ok(text) => print!(rt; "{text}")?,
+            Err(_) => println!(rt; "no text")?,
+        }
+    }
+    Ok(())
+}
+
+/// Prints a story.
+pub fn show(rt: &HostRuntime, lines: &[String]) -> io::Result<()> {
+    let told = tell::<Brand, Brand>(rt.alloc(), lines, Blank::new(1), Blank::new(1));
+    let Ok(told) = told else {
+        return println!(rt; "no memory");
+    };
+    for (line, classes) in lines.iter().zip(told.lines.iter()) {
+        print!(rt; "{line}: ")?;
+        show_classes(rt, classes)?;
+    }
+    show_ending(rt, "the pool", &told.pool)?;
+    show_ending(rt, "the kept one", &told.fork)?;
+    show_ending(rt, "in one call", &told.played)
+}

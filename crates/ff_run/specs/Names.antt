@@ -1,0 +1,51 @@
+-- What a name stands for: something built in at `-`, and else what the bytes of the file of this
+-- name give.
+use Rattle.std.specs.Prelude.{◌≡◌, ◌≢◌, ◌⊎◌, ℕ, Some, Result, Err, List}
+use Rattle.ff_io.specs.Counts.{Rose}
+use Rattle.ff_io.specs.Shelf.{Files, ShelfTold}
+use Rattle.ff_io.specs.Fetched.{IsFetched}
+use Rattle.ff_status.specs.declared.status.Status.{Status}
+use Rattle.ff_status.specs.declared.status.Status.TheVariants.{ShelfFault, NoMemory}
+use Rattle.ff_run.specs.Words.{dash}
+
+-- a fetch of the file of this name failed
+abbrev pub FetchFailed : List ℕ → ShelfTold → ShelfTold → Type 0
+FetchFailed name before now = Rose (before.faults name) (now.faults name)
+
+-- no fetch of it failed, or the run ends with that it did
+abbrev pub FetchedOrFailed : List ℕ → ShelfTold → ShelfTold → Status → Type 0
+FetchedOrFailed name before now status = (status ≡ ShelfFault) ⊎ (now.faults name ≡ before.faults name)
+
+-- what the name stands for is known: what is built in, or the files are told
+abbrev pub IsKnown : ShelfTold → List ℕ → Type 0
+IsKnown shelf name = (name ≡ dash) ⊎ ((files : Files) × (shelf.files ≡ Some files))
+
+-- By what is built in, how many bytes of a file count, what they give, and how a run ends where they
+-- give nothing.
+module _ {X : Type 0} (built_in : X) (most : ℕ) (Gives : List ℕ → X → Type 0) (IsBad : List ℕ → Status → Type 0) where
+  -- The name stands for this.
+  pub data Names (shelf : ShelfTold) : List ℕ → X → Type 0 where
+    at_dash : (name : List ℕ) → name ≡ dash → Names shelf name built_in
+    in_file : (name bytes : List ℕ) (x : X) → name ≢ dash → IsFetched shelf.files name most bytes → Gives bytes x → Names shelf name x
+
+  -- The file of this name gives nothing, and the run ends so.
+  pub record NamesBad (shelf : ShelfTold) (name : List ℕ) (status : Status) : Type 0 where
+    pub bytes : List ℕ
+    pub no_dash : name ≢ dash
+    pub fetched : IsFetched shelf.files name most bytes
+    pub bad : IsBad bytes status
+
+  -- Why nothing was found: a fetch of the file failed, the file gives nothing, or there is no
+  -- memory.
+  pub data Refuses (before now : ShelfTold) (name : List ℕ) : Status → Type 0 where
+    no_file : name ≢ dash → FetchFailed name before now → Refuses before now name ShelfFault
+    bad_file : (status : Status) → NamesBad before name status → Refuses before now name status
+    no_memory : Refuses before now name NoMemory
+
+-- no fetch of the file failed, or that one did is the answer
+abbrev pub IsFetchedOrFails : {X : Type 0} → List ℕ → ShelfTold → ShelfTold → Result X Status → Type 0
+IsFetchedOrFails name before now found = (found ≡ Err ShelfFault) ⊎ (now.faults name ≡ before.faults name)
+
+-- a refusal that the file's bytes have no part in
+abbrev pub IsOutside : {X : Type 0} → Result X Status → Type 0
+IsOutside found = (found ≡ Err ShelfFault) ⊎ (found ≡ Err NoMemory)

@@ -1,0 +1,94 @@
+//! A name, and what it stands for.
+ghost use Rattle.std.specs.Prelude.{◌≡◌, ◌≢◌, ◌<◌, ◌⊎◌, ℕ, List, IfOk, IfErr, Ok, Err};
+ghost use Rattle.ff_run.specs.Names.{Names, NamesBad, Refuses, IsFetchedOrFails, IsKnown, IsOutside};
+ghost use Rattle.ff_run.specs.Words.{dash};
+ghost use Rattle.ff_status.specs.declared.status.Status.{Status};
+
+use ff_io::{FetchFail, Shelf, fetch_front};
+use ff_status::Status;
+use std::alloc::{AllocError, Global};
+
+/// What a name may stand for: something built in at `-`, and else what a file's bytes give.
+pub(crate) trait Named {
+    /// What is found.
+    type Found: Drop;
+
+    // What is built in.
+    ghost at_dash: { Self → Self.Found };
+
+    // How many bytes of a file count.
+    ghost most: { Self → ℕ };
+
+    // The bytes give this.
+    ghost gives: { Self → List ℕ → Self.Found → Type 0 };
+
+    // The bytes give nothing, and the run ends so.
+    ghost is_bad: { Self → List ℕ → Status → Type 0 };
+
+    /// How many bytes of a file count, from 1 on.
+    fn most(&self) -> usize
+        ensures value { result ≡ most self.now }
+        ensures some { 0 < result };
+
+    /// What is built in. Its one refusal is want of memory.
+    fn at_dash(&self, alloc: Global) -> Result<Self::Found, AllocError>
+        ensures { IfOk result (λ found. found ≡ at_dash self.now) };
+
+    /// What the bytes of a file give.
+    fn read(&self, alloc: Global, bytes: &[u8]) -> Result<Self::Found, Status>
+        ensures found { IfOk result (gives self.now bytes.now) }
+        ensures bad { IfErr result (λ status. (status ≡ Status.NoMemory) ⊎ is_bad self.now bytes.now status) }
+        ensures only { (found : Self.Found) → gives self.now bytes.now found → (result ≡ Ok found) ⊎ (result ≡ Err Status.NoMemory) }
+        ensures exact { (status : Status) → is_bad self.now bytes.now status → (result ≡ Err status) ⊎ (result ≡ Err Status.NoMemory) };
+}
+
+/// What this name stands for. The shelf isn't called for `-`.
+///
+/// # Errors
+///
+/// `ShelfFault` where a fetch failed, `NoMemory`, and what the bytes of the file end a run with.
+#[tactic(auto, using(crate::proofs::Finding::no_memory, crate::proofs::Finding::named_at_dash, crate::proofs::Finding::accepts_at_dash, crate::proofs::Finding::none_at_dash))]
+pub(crate) fn find<N: Named, S: Shelf>(
+    alloc: Global,
+    what: &N,
+    shelf: &mut S,
+    name: &str,
+) -> Result<N::Found, Status>
+    ensures named { IfOk result (Names (N.at_dash what.now) (N.most what.now) (N.gives what.now) (N.is_bad what.now) (S.told shelf.old) name.now) }
+    ensures refused { IfErr result (Refuses (N.at_dash what.now) (N.most what.now) (N.gives what.now) (N.is_bad what.now) (S.told shelf.old) (S.told shelf.new) name.now) }
+    ensures only { (found : N.Found) → IsKnown (S.told shelf.old) name.now → Names (N.at_dash what.now) (N.most what.now) (N.gives what.now) (N.is_bad what.now) (S.told shelf.old) name.now found → (result ≡ Ok found) ⊎ IsOutside result }
+    ensures exact { (status : Status) → IsKnown (S.told shelf.old) name.now → NamesBad (N.at_dash what.now) (N.most what.now) (N.gives what.now) (N.is_bad what.now) (S.told shelf.old) name.now status → (result ≡ Err status) ⊎ IsOutside result }
+    ensures fetched { IsFetchedOrFails name.now (S.told shelf.old) (S.told shelf.new) result }
+    ensures untouched { name.now ≡ dash → shelf.new ≡ shelf.old }
+{
+    if name == "-" {
+        match what.at_dash(alloc) {
+            Ok(found) => Ok(found),
+            Err(_) => Err(Status::NoMemory),
+        }
+    } else {
+        fetch(alloc, what, shelf, name)
+    }
+}
+
+/// What the bytes of the file of this name give.
+#[tactic(auto, using(crate::proofs::Finding::no_memory))]
+fn fetch<N: Named, S: Shelf>(
+    alloc: Global,
+    what: &N,
+    shelf: &mut S,
+    name: &str,
+) -> Result<N::Found, Status>
+    requires { name.now ≢ dash }
+    ensures named { IfOk result (Names (N.at_dash what.now) (N.most what.now) (N.gives what.now) (N.is_bad what.now) (S.told shelf.old) name.now) }
+    ensures refused { IfErr result (Refuses (N.at_dash what.now) (N.most what.now) (N.gives what.now) (N.is_bad what.now) (S.told shelf.old) (S.told shelf.new) name.now) }
+    ensures only { (found : N.Found) → IsKnown (S.told shelf.old) name.now → Names (N.at_dash what.now) (N.most what.now) (N.gives what.now) (N.is_bad what.now) (S.told shelf.old) name.now found → (result ≡ Ok found) ⊎ IsOutside result }
+    ensures exact { (status : Status) → IsKnown (S.told shelf.old) name.now → NamesBad (N.at_dash what.now) (N.most what.now) (N.gives what.now) (N.is_bad what.now) (S.told shelf.old) name.now status → (result ≡ Err status) ⊎ IsOutside result }
+    ensures fetched { IsFetchedOrFails name.now (S.told shelf.old) (S.told shelf.new) result }
+{
+    match fetch_front(alloc, shelf, name, what.most()) {
+        Ok(bytes) => what.read(alloc, bytes.as_slice()),
+        Err(FetchFail::Fetch) => Err(Status::ShelfFault),
+        Err(FetchFail::NoMemory) => Err(Status::NoMemory),
+    }
+}

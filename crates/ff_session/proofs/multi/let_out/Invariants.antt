@@ -1,5 +1,0 @@
-use Rattle.ff_session.proofs.Feeding.{IsLettingOut}
-use Rattle.ff_session.proofs.multi.let_out.Given as goal
-
-abbrev pub invariant-loop-number : goal.invariant-loop-number
-invariant-loop-number l = IsLettingOut l.policy l.fn.pool l.fn.text.items l.pool l.text.items l.number

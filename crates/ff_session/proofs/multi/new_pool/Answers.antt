@@ -1,9 +1,0 @@
-use Rattle.std.proofs.Common.{ap, ◌∙◌}
-use Rattle.std.proofs.lemmas.Result.{IfOk-weaker}
-use Rattle.ff_lattice.specs.Order.{size}
-use Rattle.ff_session.proofs.Feeding.{fresh_copies}
-use Rattle.ff_session.proofs.multi.new_pool.Goals as goal
-
-pub returns : goal.returns
-returns c =
-    IfOk-weaker c.new.result _ _ (λ pool fresh. fresh_copies c.args.policy.now pool c.size.result c.fuel.result (c.size.ensures.value ∙ ap size c.lattice.ensures.value) c.fuel.ensures.value fresh) c.new.ensures

@@ -1,6 +1,0 @@
-use Rattle.ff_step_table.specs.Ready.{IsReady}
-use Rattle.ff_step_table.proofs.running.follow.Given as goal
-
--- the script may go on
-abbrev pub invariant-loop-made : goal.invariant-loop-made
-invariant-loop-made g l = IsReady l.stores l.control
