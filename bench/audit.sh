@@ -1,8 +1,9 @@
 #!/bin/sh
 # Prints what `audit` takes beside `multi` and `plain` on the same trace: seconds of the processor, instructions as callgrind
-# counts them over a tenth of the trace, and the most memory that is held. First a trace of 100,000 inputs on which both
-# programs put the same lines, then the loop on a secret, where one of them puts more. Of three runs each the fastest counts.
-# It wants valgrind.
+# counts them over a tenth of the trace, and the most memory that is held. First two traces of 100,000 inputs on which both
+# programs put the same lines: of one the handler of a page makes an activation for each, so that each browser grows; of the
+# other no browser does, so what grows there is what the audit keeps. Then a page that asks for more after a secret, where
+# one program puts more. Of three runs each the fastest counts. It wants valgrind.
 cd "$(dirname "$0")/.." || exit 1
 if [ ! -f crates/ffox/out/stamp ] || [ "$(scripts/stamp)" != "$(cat crates/ffox/out/stamp)" ]; then
     echo "audit: ./build has not built these sources" >&2
@@ -17,6 +18,12 @@ cd "$work" || exit 1
 agreeing() {
     echo 'open http://a.com/'
     echo 'reply a.com 0 (doc () (text t "") (box b "" (fn (n) (set-text (find (page (self)) "t") (text n)))))'
+    yes 'type 0 0 "hi"' | head -n "$1"
+}
+# The same without a handler.
+still() {
+    echo 'open http://a.com/'
+    echo 'reply a.com 0 (doc () (box b ""))'
     yes 'type 0 0 "hi"' | head -n "$1"
 }
 # A page that asks again and again, and so many clicks after a secret.
@@ -52,6 +59,8 @@ shown() {
         }'
 }
 agreeing 100000 >trace
-shown "100,000 inputs on which both put the same"
+shown "100,000 inputs of a handler, on which both put the same"
+still 100000 >trace
+shown "100,000 inputs without a handler, on which both put the same"
 differing 20000 >trace
 shown "20,000 inputs after a difference"
