@@ -7,5 +7,6 @@ pub mod NameLemmas
 pub mod Named
 pub mod Orders
 pub mod Tables
+pub mod Total
 pub mod Two
 pub mod Words

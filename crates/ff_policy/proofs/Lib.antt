@@ -13,6 +13,7 @@ pub mod Rising
 pub mod Seeking
 pub mod Sorted
 pub mod Steps
+pub mod Total
 pub mod Unique
 pub mod Values
 pub mod Within

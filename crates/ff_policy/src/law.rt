@@ -1,4 +1,4 @@
-ghost use Rattle.std.specs.Prelude.{◌≡◌, ℕ, ◌<◌, Bool, true, Option, Some, None, List, [], length, get_or, Result, Err};
+ghost use Rattle.std.specs.Prelude.{◌≡◌, ℕ, ◌<◌, Bool, true, Some, None, List, [], length, get_or, Result, Err};
 ghost use Rattle.std.specs.Cmp.Lexicographic.{slice_cmp};
 ghost use Rattle.std.specs.List.{find};
 ghost use Rattle.std.specs.Ordering.{nat_cmp};
@@ -12,10 +12,10 @@ ghost use Rattle.ff_policy.specs.Members.{keys_of, plan_in};
 ghost use Rattle.ff_policy.specs.Reading.{Reads};
 ghost use Rattle.ff_policy.specs.Table.{IsMemberFault};
 
-/// Bytes are one policy or have one fault, and not both.
-#[tactic(auto, using(crate::proofs::Unique::reads_unique))]
+/// Bytes are a policy or have a fault, one of them and not both.
 pub fn bytes_read_as_one_policy_or_fault()
-    ensures { (bytes : List ℕ) (r s : Result Assignment PolicyFault) → Reads bytes r → Reads bytes s → r ≡ s }
+    ensures some { (bytes : List ℕ) → (answer : Result Assignment PolicyFault) × Reads bytes answer }
+    ensures one { (bytes : List ℕ) (r s : Result Assignment PolicyFault) → Reads bytes r → Reads bytes s → r ≡ s }
 {}
 
 /// A value is no plan of a policy exactly where its members have a fault, which is the first one in

@@ -1,6 +1,5 @@
 -- A trace is read in one way; what follows for how going through it ends.
 use Rattle.std.proofs.Common.{◌≡◌, ℕ, ◌+◌, ◌<◌, ◌≤◌, ◌⊎◌, inl, inr, Bool, true, false, cond, Option, Some, None, Result, Ok, Err, List, [], ◌++◌, length, All, refl, sym, ap, subst, ◌∙◌, arith, length-append}
-use Rattle.std.specs.Bool.{⊤}
 use Rattle.std.specs.Option.{IfSome}
 use Rattle.std.proofs.lemmas.List.Elements.{All-nil, All-cons}
 use Rattle.std.specs.Io.KnownBytes.{IsAtEnd}
@@ -13,7 +12,7 @@ use Rattle.ff_io.specs.Cutting.{has_newline, content, after_line, line_size, Has
 use Rattle.ff_io.proofs.CuttingLemmas.{content-none, content-after, content-more, line_size-more}
 use Rattle.ff_io.proofs.Joins.{rest_was_got}
 use Rattle.ff_stream.specs.Traces.{Reads, IsTrace, onto}
-use Rattle.ff_stream.specs.Owed.{text_from, text_of, turns_of, Owes, OwesMore, Streams, IsStreamed}
+use Rattle.ff_stream.specs.Owed.{text_from, text_of, turns_of, OwesMore, Streams, IsStreamed}
 use Rattle.ff_stream.specs.declared.end.BadLine.{BadLine}
 use Rattle.ff_stream.specs.declared.end.End as declared
 use Rattle.ff_stream.specs.declared.end.End.TheVariants.{Done, Bad, ReadFault, WriteFault, NoMemory}
@@ -234,27 +233,3 @@ reads_each {Gives = Gives} P each ended number start bytes items bad (Reads.good
 reads_each P each ended number start bytes items bad (Reads.bad_line n s bs f there fits gives) = All-nil P
 reads_each P each ended number start bytes items bad (Reads.too_long n s bs long) = All-nil P
 reads_each P each ended number start bytes items bad (Reads.too_much n s bs much) = All-nil P
-
--- the state of the taker left out
-module _ {X F : Type 0} (Gives : List ℕ → Result (Option X) F → Type 0) (entry : List X → X → List ℕ) (turns : List X → X → ℕ) (IsAt : List X → Type 0) (turns_before turns_now : ℕ) where
-  forget : (got put : List ℕ) (ended : Bool) (bad : Option (BadLine F)) → Owes Gives entry turns IsAt got put ended bad turns_before turns_now → Owes Gives entry turns (λ is. ⊤) got put ended bad turns_before turns_now
-  forget got put ended bad owes = record { items = owes.items; read = owes.read; text_is = owes.text_is; counted = owes.counted; at = tt }
-
-  forget_held : (end : declared.End F) (got put : List ℕ) (ended : Bool) → IsStreamed Gives entry turns IsAt end got put ended turns_before turns_now → IsStreamed Gives entry turns (λ is. ⊤) end got put ended turns_before turns_now
-  forget_held Done got put ended held = (held.0, forget got put ended None held.1)
-  forget_held (Bad line) got put ended held = forget got put ended (Some line) held
-  forget_held ReadFault got put ended held = (held.0, forget got put ended None held.1)
-  forget_held WriteFault got put ended held = held
-  forget_held NoMemory got put ended held = held
-
--- what is said of the state of the taker may be left out
-pub streams_anywhere : {X F : Type 0} {Gives : List ℕ → Result (Option X) F → Type 0} {entry : List X → X → List ℕ} {turns : List X → X → ℕ} {IsAt : List X → Type 0} {log_before log_now : Option (List Piece)} {rest_before rest_now : Option (List ℕ)} {turns_before turns_now : ℕ}
-    → (end : declared.End F) → Streams Gives entry turns IsAt log_before log_now rest_before rest_now turns_before turns_now end → Streams Gives entry turns (λ is. ⊤) log_before log_now rest_before rest_now turns_before turns_now end
-streams_anywhere {X} {F} {Gives} {entry} {turns} {IsAt} {log_before} {log_now} {rest_before} {rest_now} {turns_before} {turns_now} end streams = record {
-  pieces = streams.pieces;
-  added = streams.added;
-  left = streams.left;
-  at_end = streams.at_end;
-  prompt = streams.prompt;
-  held = forget_held Gives entry turns IsAt turns_before turns_now end (got_of streams.pieces) (put_of streams.pieces) (has_end streams.pieces) streams.held;
-}

@@ -138,6 +138,14 @@ pub verdict_from_fault : (bytes : List ℕ) (which : TextFault) → FirstFault b
 verdict_from_fault bytes which (at_prefix n found within meets none) = ap verdict_of (stopped_by bytes n found meets)
 verdict_from_fault bytes which (at_end place none unclosed) = unclosed_verdict bytes place unclosed
 
+-- so a text spells items or has a first fault
+pub items_or_fault : (bytes : List ℕ) → ((items : List Sexp) × SpellsItems bytes items) ⊎ ((which : TextFault) × FirstFault bytes which)
+items_or_fault bytes = from (verdict bytes) refl
+  where
+    from : (read : Result (List Sexp) TextFault) → verdict bytes ≡ read → ((items : List Sexp) × SpellsItems bytes items) ⊎ ((which : TextFault) × FirstFault bytes which)
+    from (Ok items) is = inl (items, spelled_from_verdict bytes items is)
+    from (Err which) is = inr (which, fault_from_verdict bytes which is)
+
 -- the clauses of a call that answers what the reader does
 pub found_items : (bytes : List ℕ) (answer : Result (List Sexp) TextFault) → Answers answer (verdict bytes) (Err fault.NoMemory) → IfOk answer (SpellsItems bytes)
 found_items bytes answer (inl is) = of_answer answer is where

@@ -7,6 +7,7 @@
 mod bytes;
 mod escaped;
 mod items;
+mod law;
 mod printing;
 mod reader;
 mod reading;
@@ -15,5 +16,6 @@ mod rows;
 pub use escaped::{Escaped, MOST_ESCAPED_BYTES, is_plain};
 pub use ff_name::{NoMemory, Text};
 pub use items::{Items, Sexp, Span, TextFault};
+pub use law::a_text_spells_items_or_has_a_fault;
 pub use printing::{print, quote};
 pub use reading::{MOST_BYTES, read, read_items};

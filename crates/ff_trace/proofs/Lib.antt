@@ -8,4 +8,5 @@ pub mod Once
 pub mod Reread
 pub mod Sorting
 pub mod Spelt
+pub mod Wells
 pub mod Worded

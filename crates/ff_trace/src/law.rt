@@ -1,4 +1,4 @@
-ghost use Rattle.std.specs.Prelude.{◌≡◌, ◌↔◌, ◌<◌, ◌^◌, ℕ, List, Option, Some, Result, Err};
+ghost use Rattle.std.specs.Prelude.{◌≡◌, ◌↔◌, ◌<◌, ◌^◌, ℕ, List, Option, Some, Result, Ok, Err};
 ghost use Rattle.std.specs.List.Sorted.{IsPermutation, IsSortedBy, IsStableBy};
 ghost use Rattle.ff_lattice.specs.Order.{Order};
 ghost use Rattle.ff_name.specs.Address.{Spells};
@@ -10,13 +10,16 @@ ghost use Rattle.ff_value.specs.declared.input.Input.{Input};
 ghost use Rattle.ff_value.specs.declared.output.Pair.{Pair};
 ghost use Rattle.ff_trace.specs.declared.fault.LineFault.{LineFault};
 ghost use Rattle.ff_trace.specs.Faults.{IsLineFault};
-ghost use Rattle.ff_trace.specs.Lines.{ReadsLine};
+ghost use Rattle.ff_trace.specs.Lines.{ReadsLine, IsInputOf};
 ghost use Rattle.ff_trace.specs.Parts.{domain_of, number_of};
 ghost use Rattle.ff_trace.specs.Printed.{in_key_order, key_below};
 
-/// A line is read in one way: its bytes determine the input, that there is none, or the fault.
+/// A line is read, and in one way: its bytes determine the input, that there is none, or the fault.
+/// An input that it gives is spelled, and its tag names a level.
 pub fn a_line_is_read_in_one_way()
-    ensures { (order : Order) (line : List ℕ) (one other : Result (Option Input) LineFault) → ReadsLine order line one → ReadsLine order line other → one ≡ other }
+    ensures some { (order : Order) (line : List ℕ) → (answer : Result (Option Input) LineFault) × ReadsLine order line answer }
+    ensures spelled { (order : Order) (line : List ℕ) (input : Input) → ReadsLine order line (Ok (Some input)) → IsInputOf order input }
+    ensures one { (order : Order) (line : List ℕ) (one other : Result (Option Input) LineFault) → ReadsLine order line one → ReadsLine order line other → one ≡ other }
 {}
 
 /// A line is refused exactly for its first fault.
