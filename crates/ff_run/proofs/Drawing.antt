@@ -1,5 +1,5 @@
 -- Inputs are drawn and multi-executed, one after another.
-use Rattle.std.proofs.Common.{◌≡◌, ℕ, zero, suc, ◌+◌, ◌<◌, ◌≤◌, ◌⊎◌, inl, inr, Option, Some, None, Result, Ok, Err, List, [], ◌∷◌, ◌++◌, refl, sym, ap, ap₂, subst, ◌∙◌, append_assoc, append-nil, arith}
+use Rattle.std.proofs.Common.{◌≡◌, ℕ, zero, suc, ◌+◌, ◌<◌, ◌≤◌, ◌⊎◌, inl, inr, Option, Some, None, Result, Ok, Err, IfOk, IfErr, Vec, Global, List, [], ◌∷◌, ◌++◌, refl, sym, ap, ap₂, subst, ◌∙◌, append_assoc, append-nil, arith}
 use Rattle.std.proofs.lemmas.Bool.{cases_eq}
 use Rattle.std.proofs.lemmas.Option.{same_Some}
 use Rattle.ff_reactive.proofs.Lines.{text_start, text_more}
@@ -13,13 +13,17 @@ use Rattle.ff_reactive.specs.Text.{text_of}
 use Rattle.ff_reactive.proofs.Standings.{puts_fresh, turns_fresh}
 use Rattle.ff_policy.specs.Assignment.{Assignment}
 use Rattle.ff_gen.specs.Workload.{following, number_at}
-use Rattle.ff_levels.specs.Levels.{levels, machine}
+use Rattle.ff_session.specs.Levels.{levels, machine}
 use Rattle.ff_session.specs.Giving.{Gives}
 use Rattle.ff_session.specs.Once.{gives_once}
 use Rattle.ff_session.specs.Multi.{seen_by, multi_text, multi_turns, copies_entry, copies_turns, AreCopiesAt}
 use Rattle.ff_status.specs.declared.status.TraceFault.{TraceFault}
 use Rattle.ff_run.proofs.DrawnLines.{same_front}
-use Rattle.ff_run.specs.Generated.{IsDrawn, AreDrawn, RanDrawn, AtMostDrawn}
+use Rattle.ff_io.specs.Port.{Told}
+use Rattle.ff_status.specs.declared.status.Status.{Status}
+use Rattle.ff_status.specs.declared.status.Status.TheVariants.{Done, Leaks, Usage, Policy, Trace, ReadFault, WriteFault, ShelfFault, NoMemory}
+use Rattle.ff_run.specs.Checked.{IsPut}
+use Rattle.ff_run.specs.Generated.{IsDrawn, AreDrawn, RanDrawn, AtMostDrawn, Generates, summary}
 
 -- ---- lines give inputs in one way
 
@@ -61,6 +65,21 @@ at_most p start k n before turns is low few within js many =
 -- what follows for the text
 pub ran_then : {p : Assignment} {start n before turns : ℕ} {P Q : List ℕ → Type 0} → RanDrawn p start n before turns P → ((text : List ℕ) → P text → Q text) → RanDrawn p start n before turns Q
 ran_then {p} run follows = record { drawn = run.drawn; are_drawn = run.are_drawn; counted = run.counted; held = follows (multi_text p run.drawn) run.held }
+
+-- the summary was made and written, or there was no memory for it
+pub generated : {E : Type 0} (p : Assignment) (start n before turns : ℕ) (made : Result (Vec ℕ Global) E) (told now : Told) (status : Status)
+    → IfOk made (λ sum. RanDrawn p start n before turns (λ text. sum.items ≡ summary p.order n text)) → AtMostDrawn p start n before turns
+    → IfOk made (λ sum. IsPut sum.items told now status) → IfErr made (λ refused. status ≡ NoMemory) → IfErr made (λ refused. now ≡ told) → Generates p start n told now before turns status
+generated p start n before turns (Err refused) told now status ran most put none same = subst (Generates p start n told now before turns) (sym none) (same, most)
+generated p start n before turns (Ok sum) told now Done ran most put none same = ran_then ran (λ text is. subst (λ bytes. IsPut bytes told now Done) is put)
+generated p start n before turns (Ok sum) told now WriteFault ran most put none same = ran_then ran (λ text is. subst (λ bytes. IsPut bytes told now WriteFault) is put)
+generated p start n before turns (Ok sum) told now NoMemory ran most put none same = (put, most)
+generated p start n before turns (Ok sum) told now (Policy fault) ran most put none same = put
+generated p start n before turns (Ok sum) told now (Trace number fault) ran most put none same = put
+generated p start n before turns (Ok sum) told now Usage ran most put none same = put
+generated p start n before turns (Ok sum) told now Leaks ran most put none same = put
+generated p start n before turns (Ok sum) told now ReadFault ran most put none same = put
+generated p start n before turns (Ok sum) told now ShelfFault ran most put none same = put
 
 -- ---- the loop over the lines
 

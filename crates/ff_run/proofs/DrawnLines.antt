@@ -7,10 +7,10 @@ use Rattle.std.proofs.lemmas.Nat.{mod_below}
 use Rattle.ff_number.specs.Decimal.{nat_text}
 use Rattle.ff_gen.specs.Workload.{following, typed, line_of, draw_of}
 
-record IsShortLine (bytes : List ℕ) : Type 0 where
-  line : List ℕ
-  is : bytes ≡ line ++ 10 ∷ []
-  short : length bytes ≤ 300
+pub record IsShortLine (bytes : List ℕ) : Type 0 where
+  pub line : List ℕ
+  pub is : bytes ≡ line ++ 10 ∷ []
+  pub short : length bytes ≤ 300
 
 either : (b : Bool) (x y : List ℕ) → IsShortLine x → IsShortLine y → IsShortLine (if b then x else y)
 either true x y first second = first
@@ -27,7 +27,7 @@ typed_line head draw few small =
       short = omega (arith, digits, inner, all);
     }
 
-short_line : (draw : ℕ) → draw < 65536 → IsShortLine (line_of draw)
+pub short_line : (draw : ℕ) → draw < 65536 → IsShortLine (line_of draw)
 short_line draw small =
     either (draw % 8 == 0) _ _ (record { line = codes "open http://a.com/p"; is = refl; short = omega arith })
     (either (draw % 8 == 1) _ _ (record { line = codes "reply a.com 0 (doc () (box b \"\" (fn (n) (ask \"http://b.com/q\" (text n) (fn (r) null)))) (button g \"go\" (fn (n) (set-text n (cat \"s\" (text (find (page (self)) \"b\")))))))"; is = refl; short = omega arith })

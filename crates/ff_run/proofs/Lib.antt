@@ -2,6 +2,7 @@ pub mod Checking
 pub mod Writing
 pub mod Tallies
 pub mod DrawnLines
+pub mod DrawnTrace
 pub mod Drawing
 pub mod Commands
 pub mod Finding

@@ -1,5 +1,5 @@
 -- What a command that writes one text alone puts.
-use Rattle.std.proofs.Common.{◌≡◌, ℕ, false, Option, Result, Ok, Err, List, [], sym, subst, ◌∙◌}
+use Rattle.std.proofs.Common.{◌≡◌, ℕ, false, Option, Result, Ok, Err, IfOk, IfErr, List, [], Vec, Global, sym, subst, ◌∙◌}
 use Rattle.std.specs.Result.{OnOk, OnErr}
 use Rattle.std.proofs.lemmas.Bool.{false≢true}
 use Rattle.ff_io.specs.Counts.{Rose, HasCause}
@@ -8,7 +8,8 @@ use Rattle.ff_io.specs.Pieces.{Piece, got_of, put_of, has_end}
 use Rattle.ff_io.specs.Port.{Told, Leaves}
 use Rattle.ff_io.specs.Whole.{Puts}
 use Rattle.ff_io.proofs.Joins.{got_of-then_put, has_end-then_put, Leaves-nil}
-use Rattle.ff_status.specs.declared.status.Status.TheVariants.{Done, WriteFault}
+use Rattle.ff_status.specs.declared.status.Status.{Status}
+use Rattle.ff_status.specs.declared.status.Status.TheVariants.{Done, WriteFault, NoMemory}
 use Rattle.ff_run.specs.Checked.{OnlyPuts, IsPut}
 
 -- what a port tells
@@ -40,3 +41,9 @@ module _ {T E : Type 0} (whole : List ℕ) (log_before log_now : Option (List Pi
     only_puts (λ put. IsProperFront put whole) (subst (IsProperFront (put_of puts.pieces)) text_is (subst (λ r. OnErr r (IsProperFront (put_of puts.pieces) text)) failed puts.part)),
     subst (λ r. OnErr r (Rose before now)) failed cause.failed,
   )
+
+-- where a text is made and written: what was put of it, whether it was made or not
+pub put_made : {E : Type 0} (whole : List ℕ) (made : Result (Vec ℕ Global) E) (before now : Told) (status : Status)
+    → IfOk made (λ text. text.items ≡ whole) → IfOk made (λ text. IsPut text.items before now status) → IfErr made (λ refused. status ≡ NoMemory) → IfErr made (λ refused. now ≡ before) → IsPut whole before now status
+put_made whole (Ok text) before now status is put none same = subst (λ bytes. IsPut bytes before now status) is put
+put_made whole (Err refused) before now status is put none same = subst (IsPut whole before now) (sym none) same

@@ -3,23 +3,19 @@ ghost use Rattle.ff_reactive.specs.Copies.{below};
 ghost use Rattle.ff_lattice.specs.Order.{leq, name, size};
 ghost use Rattle.ff_run.specs.Checked.{IsListed, check_text, level_line};
 
-use ff_io::{Port, put_all};
+use crate::whole::write;
+use ff_io::Port;
 use ff_lattice::Lattice;
 use ff_name::Level;
 use ff_status::Status;
 use std::alloc::{AllocError, Global};
 
 /// Writes for each level which levels it sees. The port is never read.
+#[tactic(auto, using(crate::proofs::Writing::put_made))]
 pub(crate) fn check<P: Port>(alloc: Global, lattice: &Lattice, port: &mut P) -> Status
     ensures { IsListed lattice.now (P.told port.old) (P.told port.new) result }
 {
-    let Ok(text) = levels_seen(alloc, lattice) else {
-        return Status::NoMemory;
-    };
-    match put_all(port, text.as_slice()) {
-        Ok(()) => Status::Done,
-        Err(_) => Status::WriteFault,
-    }
+    write(levels_seen(alloc, lattice), port)
 }
 
 /// The text for a policy alone: a line for each level in order, with the names of the levels that
@@ -34,6 +30,7 @@ fn levels_seen(alloc: Global, lattice: &Lattice) -> Result<Vec<u8>, AllocError>
     }
     Ok(text)
 }
+
 /// Appends the line of a level.
 fn print_level_line(lattice: &Lattice, level: Level, text: &mut Vec<u8>) -> Result<(), AllocError>
     requires { level.0 < size lattice.now }

@@ -1,12 +1,13 @@
 //! Inputs that are drawn from a start, multi-executed.
-ghost use Rattle.std.specs.Prelude.{◌≡◌, ◌≤◌, ◌<◌, ◌+◌, ◌++◌, ℕ, List, IfOk, OnOk};
+ghost use Rattle.std.specs.Prelude.{◌≡◌, ◌≤◌, ◌<◌, IfOk};
 ghost use Rattle.ff_gen.specs.Workload.{following};
 ghost use Rattle.ff_trace.specs.Lines.{IsInputOf};
 ghost use Rattle.ff_run.specs.Generated.{IsDrawn, RanDrawn, AtMostDrawn, Generates, summary};
 
 use crate::tally::print_summary;
+use crate::whole::write;
 use ff_gen::Draws;
-use ff_io::{Port, put_all};
+use ff_io::Port;
 use ff_lattice::Lattice;
 use ff_policy::Policy;
 use ff_session::{Copies, InputReader, new_pool};
@@ -34,13 +35,10 @@ pub(crate) fn generate<P: Port, C: Ledger, L: Ledger>(
     ensures generates { Generates policy.now start inputs (P.told port.old) (P.told port.new) turns.old turns.new result }
     ensures later_copies { copies.old ≤ copies.new }
 {
-    let Ok(text) = summed(alloc, policy, slice, start, inputs, copies, turns) else {
-        return Status::NoMemory;
-    };
-    match put_all(port, text.as_slice()) {
-        Ok(()) => Status::Done,
-        Err(_) => Status::WriteFault,
-    }
+    write(
+        summed(alloc, policy, slice, start, inputs, copies, turns),
+        port,
+    )
 }
 
 /// The summary of a run over drawn inputs.

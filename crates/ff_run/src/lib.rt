@@ -7,14 +7,17 @@
 
 mod check;
 mod generate;
+mod law;
 mod named;
 mod policies;
 mod tally;
 mod top;
 mod upgrade;
+mod whole;
 mod words;
 
 pub use ff_session::Work;
 pub use ff_status::{Status, TraceFault};
+pub use law::drawn_lines_are_a_trace;
 pub use top::run;
 pub use words::Command;

@@ -2,22 +2,18 @@ ghost use Rattle.std.specs.Prelude.{◌≡◌, IfOk};
 ghost use Rattle.ff_run.specs.Checked.{IsPut};
 ghost use Rattle.ff_run.specs.Upgraded.{upgrade_text};
 
-use ff_io::{Port, put_all};
+use crate::whole::write;
+use ff_io::Port;
 use ff_policy::Policy;
 use ff_status::Status;
 use std::alloc::{AllocError, Global};
 
 /// Writes the policy as version 2, and a newline. The port is never read.
+#[tactic(auto, using(crate::proofs::Writing::put_made))]
 pub(crate) fn upgrade<P: Port>(alloc: Global, policy: &Policy, port: &mut P) -> Status
     ensures { IsPut (upgrade_text policy.now) (P.told port.old) (P.told port.new) result }
 {
-    let Ok(text) = upgraded(alloc, policy) else {
-        return Status::NoMemory;
-    };
-    match put_all(port, text.as_slice()) {
-        Ok(()) => Status::Done,
-        Err(_) => Status::WriteFault,
-    }
+    write(upgraded(alloc, policy), port)
 }
 
 /// The policy as version 2, and a newline.

@@ -2,7 +2,7 @@
 use Rattle.std.proofs.Common.{◌≡◌, ℕ, ◌+◌, ◌<◌, Option, Some, List, [], ◌∷◌, ◌++◌, length, refl, sym, ap, subst, ◌∙◌, append-nil, append_assoc}
 use Rattle.ff_reactive.specs.Copies.{at_level}
 use Rattle.ff_reactive.specs.Text.{text_of}
-use Rattle.ff_reactive.specs.Worlds.{World, levels, copy_at, world_arrive, world_take, world_drain, world_left, AreOffers}
+use Rattle.ff_reactive.specs.Worlds.{levels, copy_at, world_arrive, world_take, world_drain, world_left, AreOffers}
 use Rattle.ff_reactive.proofs.Text.{text_of_none, text_of-append}
 use Rattle.ff_reactive.proofs.Worlds.{new_world_ok, arrive_ok, take_ok, drain_ok, leaders-take}
 use Rattle.ff_reactive.specs.Standings.{Standing, Offering, fresh, puts_own, puts_below}
@@ -21,8 +21,8 @@ use Rattle.ff_pool.specs.Pooled.{Pooled, arrived, drained, taken, left, copy_of,
 use Rattle.ff_pool.proofs.Parting.{same_input_decides}
 use Rattle.ff_pool.proofs.Gathering.{ends}
 use Rattle.ff_policy.specs.Assignment.{Assignment}
-use Rattle.ff_levels.specs.Levels as run
-use Rattle.ff_levels.specs.Levels.{machine}
+use Rattle.ff_session.specs.Levels as run
+use Rattle.ff_session.specs.Levels.{machine}
 use Rattle.ff_route.proofs.Fits.{sees_spelled}
 use Rattle.ff_trace.specs.Lines.{IsInputOf}
 use Rattle.ff_session.specs.Multi.{seen_by, copies_entry, copies_turns, AreCopiesAt, AreTakenBelow, IsOffered}

@@ -10,6 +10,8 @@ use Rattle.ff_status.specs.declared.status.TraceFault.TheVariants as fault
 use Rattle.ff_policy.specs.Assignment.{Assignment}
 use Rattle.ff_stream.specs.declared.end.BadLine.{BadLine}
 use Rattle.ff_stream.proofs.Laws.{trace_once}
+use Rattle.ff_stream.proofs.Total.{trace_some}
+use Rattle.ff_trace.proofs.Wells.{reads_some, input_well}
 use Rattle.ff_session.specs.Giving.{Gives}
 use Rattle.ff_session.specs.Once.{gives_once}
 use Rattle.ff_session.specs.Works.{IsTraceFor}
@@ -40,3 +42,16 @@ is_given order line item gives = from (Ok (Some item)) refl gives
 -- the bytes of a trace give one list of inputs, and have one first bad line
 pub trace_read_once : (p : Assignment) (ended : Bool) (bytes : List ℕ) (is js : List Input) (bad other : Option (BadLine TraceFault)) → IsTraceFor p ended bytes is bad → IsTraceFor p ended bytes js other → (is ≡ js) × (bad ≡ other)
 trace_read_once p ended bytes is js bad other first second = trace_once (gives_once p.order) ended bytes is js bad other first second
+
+-- a line gives something
+gives_some : (order : Order) (line : List ℕ) → (answer : Result (Option Input) TraceFault) × Gives order line answer
+gives_some order line = let read = reads_some order line in from read.0 read.1
+  where
+    from : (answer : Result (Option Input) LineFault) → ReadsLine order line answer → (answer : Result (Option Input) TraceFault) × Gives order line answer
+    from (Ok None) reads = (Ok None, Gives.no_input reads)
+    from (Ok (Some i)) reads = (Ok (Some i), Gives.an_input i reads (input_well order line i reads))
+    from (Err which) reads = (Err (fault.Line which), Gives.a_fault which reads)
+
+-- and so do the bytes of a trace
+pub trace_read : (p : Assignment) (ended : Bool) (bytes : List ℕ) → (is : List Input) × (bad : Option (BadLine TraceFault)) × IsTraceFor p ended bytes is bad
+trace_read p ended bytes = trace_some (gives_some p.order) ended bytes

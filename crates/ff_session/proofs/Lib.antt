@@ -1,4 +1,6 @@
 pub mod Lines
+pub mod Lawful
+pub mod Inputs
 pub mod Giving
 pub mod Turning
 pub mod Texts

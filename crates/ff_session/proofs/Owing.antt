@@ -1,5 +1,5 @@
 -- What the work over a trace owes, by what its loop owes for one input after another.
-use Rattle.std.proofs.Common.{◌≡◌, ℕ, ◌+◌, ◌≤◌, Option, Some, None, List, [], ◌∷◌, ◌++◌, refl, sym, ap, subst, ◌∙◌, append-nil, flat_map, arith}
+use Rattle.std.proofs.Common.{◌≡◌, ℕ, ◌+◌, ◌≤◌, Option, List, [], ◌∷◌, ◌++◌, refl, sym, ap, ◌∙◌, append-nil, flat_map, arith}
 use Rattle.std.proofs.lemmas.Grind.{flat_map-append}
 use Rattle.std.proofs.lemmas.List.Concat.{flat_map-cons}
 use Rattle.ff_io.specs.Counts.{Rose}
@@ -12,7 +12,7 @@ use Rattle.ff_pool.specs.Heads.{same_input}
 use Rattle.ff_reactive.proofs.Lines.{text_start, text_more, plain_text_start, plain_text_more}
 use Rattle.ff_value.specs.declared.input.Input.{Input}
 use Rattle.ff_policy.specs.Assignment.{Assignment}
-use Rattle.ff_levels.specs.Levels.{levels, machine}
+use Rattle.ff_session.specs.Levels.{levels, machine}
 use Rattle.ff_status.specs.declared.status.Status.TheVariants.{Done}
 use Rattle.ff_status.specs.declared.status.TraceFault.{TraceFault}
 use Rattle.ff_stream.specs.Owed as owed

@@ -1,25 +1,24 @@
 -- Where copies stand, inputs leave them: each browser valid and quiet, and levels that are one copy
 -- with one browser.
-use Rattle.std.proofs.Common.{◌≡◌, ℕ, ◌+◌, true, Option, Some, None, List, [], ◌∷◌, ◌++◌, All, refl, sym, ap, subst, ◌∙◌}
+use Rattle.std.proofs.Common.{◌≡◌, ℕ, ◌+◌, true, Option, Some, None, List, [], ◌∷◌, ◌++◌, All, refl}
 use Rattle.std.specs.List.{cons_option}
 use Rattle.std.proofs.lemmas.List.Elements.{All-nil, All-cons, All-head, All-tail}
 use Rattle.ff_reactive.specs.Runs.{Machine, after_from}
 use Rattle.ff_reactive.specs.Copies.{multi}
 use Rattle.ff_reactive.specs.Sharing.{work}
-use Rattle.ff_reactive.specs.Standings.{Standing, Offering, fresh, run, work_of, given_from, given, state_after, standing_after}
+use Rattle.ff_reactive.specs.Standings.{Standing, Offering, fresh, run, work_of, given_from, given, state_after}
 use Rattle.ff_reactive.proofs.Standings.{run_rest, run_fresh, work_fresh}
 use Rattle.ff_value.specs.Spelled.{IsWellSpelledInput}
 use Rattle.ff_value.specs.declared.input.Input.{Input}
-use Rattle.ff_value.specs.declared.output.Out.{Out}
 use Rattle.ff_machine.specs.State.{State}
 use Rattle.ff_machine.specs.Valid.{IsState}
-use Rattle.ff_machine.specs.Machine.{reactor, browser}
+use Rattle.ff_machine.specs.Machine.{browser}
 use Rattle.ff_laws.proofs.States.{handled_state}
 use Rattle.ff_pool.specs.Heads.{same_input}
 use Rattle.ff_pool.proofs.Gathering.{ends}
 use Rattle.ff_policy.specs.Assignment.{Assignment, IsAssignment}
-use Rattle.ff_levels.specs.Levels.{levels, machine}
-use Rattle.ff_levels.proofs.Lawful.{lawful}
+use Rattle.ff_session.specs.Levels.{levels, machine}
+use Rattle.ff_session.proofs.Lawful.{lawful}
 use Rattle.ff_reactive.specs.Given.{IsSecureAsOffered}
 use Rattle.ff_reactive.proofs.Given.{secured_as_offered}
 use Rattle.ff_trace.specs.Lines.{IsInputOf}

@@ -10,7 +10,7 @@ use Rattle.ff_value.specs.declared.input.Input.{Input}
 use Rattle.ff_value.specs.declared.output.Out.{Out}
 use Rattle.ff_policy.specs.Assignment.{Assignment, level_out}
 use Rattle.ff_trace.specs.Printed.{input_line, out_line}
-use Rattle.ff_levels.specs.Levels.{levels}
+use Rattle.ff_session.specs.Levels.{levels}
 use Rattle.ff_session.specs.Formatting.{format_entry}
 
 -- no output yet

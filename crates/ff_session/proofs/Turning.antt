@@ -13,7 +13,7 @@ use Rattle.ff_machine.specs.Inputs.{begin}
 use Rattle.ff_machine.specs.Turns.{turn}
 use Rattle.ff_core.proofs.Keeping.{keeps, fuelled}
 use Rattle.ff_policy.specs.Assignment.{Assignment}
-use Rattle.ff_levels.specs.Levels.{machine}
+use Rattle.ff_session.specs.Levels.{machine}
 use Rattle.ff_session.specs.Handling.{IsReady, handled}
 use Rattle.ff_session.specs.Plain.{IsPlainAt}
 

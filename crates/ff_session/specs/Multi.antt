@@ -13,7 +13,7 @@ use Rattle.ff_machine.specs.Machine.{reactor}
 use Rattle.ff_pool.specs.Heads.{same_input, IsWorldOf}
 use Rattle.ff_pool.specs.Pooled.{Pooled}
 use Rattle.ff_policy.specs.Assignment.{Assignment}
-use Rattle.ff_levels.specs.Levels.{levels, machine}
+use Rattle.ff_session.specs.Levels.{levels, machine}
 
 -- the text of the multi-executed run over inputs
 abbrev pub multi_text : Assignment → List Input → List ℕ

@@ -5,7 +5,7 @@ use Rattle.ff_reactive.specs.Text.{text_of, text_out}
 use Rattle.ff_value.specs.declared.input.Input.{Input}
 use Rattle.ff_machine.specs.State.{State}
 use Rattle.ff_policy.specs.Assignment.{Assignment}
-use Rattle.ff_levels.specs.Levels.{levels, machine}
+use Rattle.ff_session.specs.Levels.{levels, machine}
 use Rattle.ff_session.specs.Handling.{IsReady}
 
 -- the text for inputs

@@ -1,15 +1,16 @@
-ghost use Rattle.std.specs.Prelude.{◌≡◌, ◌≤◌, false, ⊤};
-ghost use Rattle.ff_io.specs.Counts.{Rose};
-ghost use Rattle.ff_stream.specs.Owed.{Streams};
+ghost use Rattle.std.specs.Prelude.{◌≡◌};
+ghost use Rattle.ff_policy.specs.Assignment.{Assignment};
 ghost use Rattle.ff_session.specs.Giving.{Gives};
-ghost use Rattle.ff_session.specs.Formatting.{format_entry, no_turns};
+ghost use Rattle.ff_session.specs.Works.{Exchanged, duty};
 
+use crate::ending::status_of;
 use crate::input_reader::InputReader;
+use crate::work::Work;
 use ff_io::Port;
 use ff_lattice::Lattice;
-use ff_status::TraceFault;
+use ff_status::Status;
 use ff_steps::Steps;
-use ff_stream::{End, Taker, stream};
+use ff_stream::{Taker, stream};
 use ff_trace::print_input;
 use ff_value::Input;
 use std::alloc::{AllocError, Global};
@@ -63,17 +64,12 @@ pub(crate) fn walk_format<P: Port, C: Ledger, L: Ledger>(
     port: &mut P,
     copies: &mut Steps<C>,
     turns: &mut Steps<L>,
-) -> End<TraceFault>
-    ensures streams { Streams (Gives lattice.now) (format_entry lattice.now) no_turns (λ is. ⊤)
-        (P.log port.old) (P.log port.new) (P.rest port.old) (P.rest port.new) turns.old turns.new result }
-    ensures later { turns.old ≤ turns.new }
+) -> Status
+    ensures exchanged { (p : Assignment) → lattice.now ≡ p.order → Exchanged (Gives p.order) (duty Work.Format p) (P.told port.old) (P.told port.new) turns.old turns.new result }
     ensures uncopied { copies.new ≡ copies.old }
-    ensures read_fault { result ≡ End.ReadFault → Rose (P.read_faults port.old) (P.read_faults port.new) }
-    ensures write_fault { result ≡ End.WriteFault → Rose (P.write_faults port.old) (P.write_faults port.new) }
-    ensures later_writes { P.write_faults port.old ≤ P.write_faults port.new }
 {
     let reader = InputReader { lattice };
-    stream(
+    let end = stream(
         alloc,
         &reader,
         &Formatting { lattice },
@@ -81,5 +77,6 @@ pub(crate) fn walk_format<P: Port, C: Ledger, L: Ledger>(
         port,
         copies,
         turns,
-    )
+    );
+    status_of(end, Status::Done)
 }

@@ -2,11 +2,12 @@ ghost use Rattle.std.specs.Prelude.{◌≡◌, ◌++◌, ℕ, Bool, Option, Some
 ghost use Rattle.ff_reactive.specs.Copies.{multi};
 ghost use Rattle.ff_reactive.specs.Sharing.{work};
 ghost use Rattle.ff_reactive.specs.Given.{IsSecureAsOffered};
+ghost use Rattle.ff_reactive.specs.Laws.{IsNoninterfering};
 ghost use Rattle.ff_reactive.specs.Standings.{Standing, Offering, fresh, run, work_of};
 ghost use Rattle.ff_machine.specs.State.{State};
 ghost use Rattle.ff_machine.specs.Valid.{IsState};
 ghost use Rattle.ff_pool.specs.Heads.{same_input};
-ghost use Rattle.ff_levels.specs.Levels.{levels, machine};
+ghost use Rattle.ff_session.specs.Levels.{levels, machine};
 ghost use Rattle.ff_session.specs.Multi.{run_text, seen_by, stands_after};
 ghost use Rattle.ff_trace.specs.Lines.{IsInputOf};
 ghost use Rattle.ff_value.specs.declared.input.Input.{Input};
@@ -15,11 +16,11 @@ ghost use Rattle.ff_status.specs.declared.status.TraceFault.{TraceFault};
 ghost use Rattle.ff_stream.specs.declared.end.BadLine.{BadLine};
 ghost use Rattle.ff_session.specs.Works.{IsTraceFor};
 
-/// A trace is read in one way: the bytes, and whether they are all, determine the inputs before the
-/// first bad line, and that line with its fault.
-#[tactic(auto, using(crate::proofs::Giving::trace_read_once))]
+/// A trace is read, and in one way: the bytes, and whether they are all, determine the inputs before
+/// the first bad line, and that line with its fault.
 pub fn a_trace_is_read_in_one_way()
-    ensures { (p : Assignment) (ended : Bool) (bytes : List ℕ) (is js : List Input) (bad other : Option (BadLine TraceFault)) → IsTraceFor p ended bytes is bad → IsTraceFor p ended bytes js other → (is ≡ js) × (bad ≡ other) }
+    ensures some { (p : Assignment) (ended : Bool) (bytes : List ℕ) → (is : List Input) × (bad : Option (BadLine TraceFault)) × IsTraceFor p ended bytes is bad }
+    ensures one { (p : Assignment) (ended : Bool) (bytes : List ℕ) (is js : List Input) (bad other : Option (BadLine TraceFault)) → IsTraceFor p ended bytes is bad → IsTraceFor p ended bytes js other → (is ≡ js) × (bad ≡ other) }
 {}
 
 /// A run over inputs is the run over the first of them, and then the run over the others from where
@@ -39,4 +40,12 @@ pub fn a_view_depends_on_what_is_offered_at_or_below()
         → ((before : List Input) (l : ℕ) (i x : Input) → IsInputOf p.order i → offers before l i ≡ Some x → IsInputOf p.order x)
         → ((l : ℕ) → IsState p.fuel (from.states l))
         → (is : List Input) → All (IsInputOf p.order) is → IsSecureAsOffered (machine p) (levels p) offers from (IsInputOf p.order) is (run_text p offers from is) }
+{}
+
+/// The multi-executed run is noninterfering under every policy: any two lists of well spelled
+/// inputs that look the same to a level give that level the same view, byte for byte. Nothing of
+/// the kind holds of the plain run.
+#[tactic(auto, using(crate::proofs::Lawful::multi_is_noninterfering))]
+pub fn multi_is_noninterfering()
+    ensures { (p : Assignment) → IsAssignment p → IsNoninterfering (machine p) (levels p) (IsInputOf p.order) }
 {}

@@ -14,15 +14,15 @@ mod printing;
 mod splitting;
 mod work;
 
-pub use ending::close;
+pub use ending::{close, status_of};
 pub use format::Formatting;
 pub use input_reader::InputReader;
 pub use law::{
     a_run_goes_on_from_where_its_copies_stand, a_trace_is_read_in_one_way,
-    a_view_depends_on_what_is_offered_at_or_below,
+    a_view_depends_on_what_is_offered_at_or_below, multi_is_noninterfering,
 };
 pub use multi::{Copies, walk_copies};
 pub use offered::{new_pool, take_offers};
 pub use plain::Plain;
 pub use splitting::{content, is_headed, split_line};
-pub use work::{Work, status_of, walk};
+pub use work::{Work, walk};

@@ -1,23 +1,24 @@
-ghost use Rattle.std.specs.Prelude.{◌≡◌, ◌<◌, ◌≤◌, ◌+◌, ◌++◌, ◌∷◌, [], ℕ, List, OnOk, IfOk, true, ⊤};
+ghost use Rattle.std.specs.Prelude.{◌≡◌, ◌<◌, ◌≤◌, []};
 ghost use Rattle.ff_io.specs.Counts.{Rose};
-ghost use Rattle.ff_lattice.specs.Order.{size};
 ghost use Rattle.ff_value.specs.declared.input.Input.{Input};
 ghost use Rattle.ff_pool.specs.Pooled as pooled;
 ghost use Rattle.ff_trace.specs.Lines.{IsInputOf};
 ghost use Rattle.ff_stream.specs.Owed.{Streams};
 ghost use Rattle.ff_session.specs.Giving.{Gives};
+ghost use Rattle.ff_session.specs.Works.{Exchanged, duty};
 ghost use Rattle.ff_machine.specs.State.{State};
-ghost use Rattle.ff_levels.specs.Levels.{machine};
-ghost use Rattle.ff_reactive.specs.Standings.{Standing, Offering, fresh};
-ghost use Rattle.ff_session.specs.Multi.{AreCopiesAt, AreTakenBelow, seen_by, copies_entry, copies_turns};
+ghost use Rattle.ff_reactive.specs.Standings.{Standing};
+ghost use Rattle.ff_session.specs.Multi.{AreCopiesAt, seen_by, copies_entry, copies_turns};
 
+use crate::ending::status_of;
 use crate::input_reader::InputReader;
 use crate::offered::{new_pool, take_offers};
+use crate::work::Work;
 use ff_io::Port;
 use ff_policy::Policy;
 use ff_pool::Pool;
 use ff_route::offers;
-use ff_status::TraceFault;
+use ff_status::{Status, TraceFault};
 use ff_steps::Steps;
 use ff_stream::{End, Taker, stream};
 use ff_value::Input;
@@ -118,18 +119,16 @@ pub(crate) fn walk_multi<P: Port, C: Ledger, L: Ledger>(
     port: &mut P,
     copies: &mut Steps<C>,
     turns: &mut Steps<L>,
-) -> End<TraceFault>
+) -> Status
     requires { 0 < slice }
-    ensures streams { Streams (Gives policy.now.order) (copies_entry policy.now (seen_by policy.now) (fresh (machine policy.now))) (copies_turns policy.now (seen_by policy.now) (fresh (machine policy.now))) (λ is. ⊤)
-        (P.log port.old) (P.log port.new) (P.rest port.old) (P.rest port.new) turns.old turns.new result }
-    ensures later { turns.old ≤ turns.new }
+    ensures exchanged { Exchanged (Gives policy.now.order) (duty Work.Multi policy.now) (P.told port.old) (P.told port.new) turns.old turns.new result }
     ensures later_copies { copies.old ≤ copies.new }
-    ensures later_writes { P.write_faults port.old ≤ P.write_faults port.new }
-    ensures read_fault { result ≡ End.ReadFault → Rose (P.read_faults port.old) (P.read_faults port.new) }
-    ensures write_fault { result ≡ End.WriteFault → Rose (P.write_faults port.old) (P.write_faults port.new) }
 {
     match new_pool(alloc, policy) {
-        Ok(mut pool) => walk_copies(alloc, policy, slice, &mut pool, port, copies, turns),
-        Err(_) => End::NoMemory,
+        Ok(mut pool) => status_of(
+            walk_copies(alloc, policy, slice, &mut pool, port, copies, turns),
+            Status::Done,
+        ),
+        Err(_) => Status::NoMemory,
     }
 }

@@ -6,9 +6,8 @@ ghost use Rattle.ff_value.specs.Spelled.{IsWellSpelledInput};
 ghost use Rattle.ff_reactive.specs.Worlds.{AreOffers};
 ghost use Rattle.ff_pool.specs.Pooled as pooled;
 ghost use Rattle.ff_machine.specs.State.{State};
-ghost use Rattle.ff_levels.specs.Levels.{machine};
+ghost use Rattle.ff_session.specs.Levels.{machine};
 ghost use Rattle.ff_reactive.specs.Standings.{Standing, Offering, fresh};
-ghost use Rattle.ff_reactive.specs.Rested.{offers_of};
 ghost use Rattle.ff_session.specs.Multi.{AreCopiesAt, AreTakenBelow, IsOffered, copies_entry, copies_turns};
 
 use crate::printing::print_level;

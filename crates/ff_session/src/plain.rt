@@ -1,20 +1,19 @@
-ghost use Rattle.std.specs.Prelude.{◌≡◌, ◌≤◌, ◌+◌, ◌++◌, ◌∷◌, [], ℕ, List, OnOk, true, ⊤};
-ghost use Rattle.ff_io.specs.Counts.{Rose};
-ghost use Rattle.ff_reactive.specs.Text.{text_of};
+ghost use Rattle.std.specs.Prelude.{◌≤◌, true};
 ghost use Rattle.ff_value.specs.declared.input.Input.{Input};
-ghost use Rattle.ff_stream.specs.Owed.{Streams};
 ghost use Rattle.ff_session.specs.Giving.{Gives};
-ghost use Rattle.ff_session.specs.Plain.{plain_entry, plain_turns};
+ghost use Rattle.ff_session.specs.Works.{Exchanged, duty};
 
+use crate::ending::status_of;
 use crate::handling::handle;
 use crate::input_reader::InputReader;
 use crate::printing::print_all;
+use crate::work::Work;
 use ff_core::Browser;
 use ff_io::Port;
 use ff_policy::Policy;
-use ff_status::TraceFault;
+use ff_status::Status;
 use ff_steps::Steps;
-use ff_stream::{End, Taker, stream};
+use ff_stream::{Taker, stream};
 use ff_value::Input;
 use std::alloc::{AllocError, Global};
 use std::sync::ledger::Ledger;
@@ -67,19 +66,14 @@ pub(crate) fn walk_plain<P: Port, C: Ledger, L: Ledger>(
     port: &mut P,
     copies: &mut Steps<C>,
     turns: &mut Steps<L>,
-) -> End<TraceFault>
-    ensures streams { Streams (Gives policy.now.order) (plain_entry policy.now) (plain_turns policy.now) (λ is. ⊤)
-        (P.log port.old) (P.log port.new) (P.rest port.old) (P.rest port.new) turns.old turns.new result }
-    ensures later { turns.old ≤ turns.new }
+) -> Status
+    ensures exchanged { Exchanged (Gives policy.now.order) (duty Work.Plain policy.now) (P.told port.old) (P.told port.new) turns.old turns.new result }
     ensures later_copies { copies.old ≤ copies.new }
-    ensures read_fault { result ≡ End.ReadFault → Rose (P.read_faults port.old) (P.read_faults port.new) }
-    ensures write_fault { result ≡ End.WriteFault → Rose (P.write_faults port.old) (P.write_faults port.new) }
-    ensures later_writes { P.write_faults port.old ≤ P.write_faults port.new }
 {
     let lattice = policy.lattice();
     let reader = InputReader { lattice };
     let mut browser = Browser::new(alloc, policy.fuel());
-    stream(
+    let end = stream(
         alloc,
         &reader,
         &Plain { policy },
@@ -87,5 +81,6 @@ pub(crate) fn walk_plain<P: Port, C: Ledger, L: Ledger>(
         port,
         copies,
         turns,
-    )
+    );
+    status_of(end, Status::Done)
 }

@@ -1,20 +1,19 @@
+//! The work that a command does over a trace.
 ghost use Rattle.std.specs.Prelude.{◌≡◌, ◌≤◌, ◌<◌};
-ghost use Rattle.ff_io.specs.Counts.{Rose};
 ghost use Rattle.ff_reactive.specs.Laws.{IsProjection, IsSecure, IsPrecise};
 ghost use Rattle.ff_policy.specs.Assignment.{IsAssignment};
-ghost use Rattle.ff_levels.specs.Levels.{levels, machine};
+ghost use Rattle.ff_session.specs.Levels.{levels, machine};
 ghost use Rattle.ff_trace.specs.Lines.{IsInputOf};
 ghost use Rattle.ff_session.specs.Giving.{Gives};
-ghost use Rattle.ff_session.specs.Works.{Exchanged, Claims, IsAnswered, duty, status_as, fault_as};
+ghost use Rattle.ff_session.specs.Works.{Exchanged, Claims, IsAnswered, duty};
 
 use crate::format::walk_format;
 use crate::multi::walk_multi;
 use crate::plain::walk_plain;
 use ff_io::Port;
 use ff_policy::Policy;
-use ff_status::{Status, TraceFault};
+use ff_status::Status;
 use ff_steps::Steps;
-use ff_stream::{End, Fault};
 use std::alloc::Global;
 use std::sync::ledger::Ledger;
 
@@ -53,39 +52,8 @@ pub fn walk<P: Port, C: Ledger, L: Ledger>(
 {
     let lattice = policy.lattice();
     match work {
-        Work::Multi => status_of(
-            walk_multi(alloc, policy, slice, port, copies, turns),
-            Status::Done,
-        ),
-        Work::Plain => status_of(walk_plain(alloc, policy, port, copies, turns), Status::Done),
-        Work::Format => status_of(
-            walk_format(alloc, lattice, port, copies, turns),
-            Status::Done,
-        ),
-    }
-}
-
-/// The status of an end, where `good` is that of a trace that was read to its end and has no bad
-/// line.
-pub fn status_of(end: End<TraceFault>, good: Status) -> Status
-    ensures { result ≡ status_as end good }
-{
-    match end {
-        End::Done => good,
-        End::Bad(line) => Status::Trace(line.number, fault_of(line.fault)),
-        End::ReadFault => Status::ReadFault,
-        End::WriteFault => Status::WriteFault,
-        End::NoMemory => Status::NoMemory,
-    }
-}
-
-/// The fault of a line, as the status has it.
-fn fault_of(fault: Fault<TraceFault>) -> TraceFault
-    ensures { result ≡ fault_as fault }
-{
-    match fault {
-        Fault::TooLong => TraceFault::TooLong,
-        Fault::TooMuch => TraceFault::TooMuch,
-        Fault::Line(fault) => fault,
+        Work::Multi => walk_multi(alloc, policy, slice, port, copies, turns),
+        Work::Plain => walk_plain(alloc, policy, port, copies, turns),
+        Work::Format => walk_format(alloc, lattice, port, copies, turns),
     }
 }

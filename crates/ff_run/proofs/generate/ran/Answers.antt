@@ -1,6 +1,6 @@
 use Rattle.std.proofs.Common.{subst, arith}
 use Rattle.ff_reactive.specs.Standings.{fresh}
-use Rattle.ff_levels.specs.Levels.{machine}
+use Rattle.ff_session.specs.Levels.{machine}
 use Rattle.ff_session.specs.Multi.{seen_by}
 use Rattle.ff_run.specs.Generated.{IsDrawn}
 use Rattle.ff_run.proofs.Drawing.{drawing_start, drawing_more, drawing_at_most, drawing_within}

@@ -12,8 +12,8 @@ use Rattle.ff_core.proofs.Keeping as core
 use Rattle.ff_policy.specs.Assignment.{Assignment, IsAssignment}
 use Rattle.ff_route.proofs.Fits.{sees_below, level_ok, name_ok, names_differ}
 use Rattle.ff_trace.proofs.Fitting.{out_one_line}
-use Rattle.ff_levels.proofs.Inputs.{seen_input}
-use Rattle.ff_levels.specs.Levels.{levels, machine}
+use Rattle.ff_session.proofs.Inputs.{seen_input}
+use Rattle.ff_session.specs.Levels.{levels, machine}
 use Rattle.ff_trace.specs.Lines.{IsInputOf}
 
 keeps : (order : Order) (fuel : ℕ) → KeepsOk (reactor fuel) (IsInputOf order) (IsState fuel) IsWellSpelledOut
