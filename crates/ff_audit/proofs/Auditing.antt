@@ -13,7 +13,7 @@ use Rattle.ff_pool.specs.Heads.{same_input}
 use Rattle.ff_lattice.specs.Order.{Order, size}
 use Rattle.ff_value.specs.declared.input.Input.{Input}
 use Rattle.ff_policy.specs.Assignment.{Assignment}
-use Rattle.ff_levels.specs.Levels.{levels, machine}
+use Rattle.ff_session.specs.Levels.{levels, machine}
 use Rattle.ff_status.specs.declared.status.Status.{Status}
 use Rattle.ff_status.specs.declared.status.Status.TheVariants.{Done, Leaks, NoMemory}
 use Rattle.ff_status.specs.declared.status.TraceFault.{TraceFault}
@@ -36,8 +36,7 @@ use Rattle.ff_session.specs.Closing.{IsEnded, IsClosed}
 use Rattle.ff_session.proofs.Closing as closing
 use Rattle.ff_session.proofs.Closing.{told_of, none_put, none_owed_at}
 use Rattle.ff_audit.specs.Owned.{own}
-use Rattle.ff_audit.specs.Comparing.{CompareAll, plain_more, multi_more}
-use Rattle.ff_audit.specs.declared.comparison.Side.{Side}
+use Rattle.ff_audit.specs.Comparing.{CompareAll}
 use Rattle.ff_audit.specs.Verdicts.{any_differ, report_of}
 use Rattle.ff_audit.specs.Audited.{plain_lines, multi_lines, report, audit_turns, feed_turns, no_entry, audit_duty, IsAuditAt, IsReported}
 use Rattle.ff_audit.specs.declared.books.Books.{Books}
@@ -71,29 +70,29 @@ audit_none p books plain copies count all = record {
 }
 
 -- one input more, whose lines came to the comparisons
-pub audit_more : (p : Assignment) (books now : Books) (mid : List Comparison) (is : List Input) (i : Input) (text other : List ℕ) → IsAuditAt p books is
+pub audit_more : (p : Assignment) (books now : Books) (is : List Input) (i : Input) (text other : List ℕ) → IsAuditAt p books is
     → IsPlainAt p now.browser (is ++ i ∷ []) → AreCopiesAt p (seen_by p) (fresh (machine p)) now.pool (is ++ i ∷ []) → length now.levels.items ≡ length books.levels.items
     → text ≡ plain_entry p is i → other ≡ copies_entry p (seen_by p) (fresh (machine p)) is i
-    → ((ps ms : ℕ → List (List ℕ)) → CompareAll books.levels.items ps ms → CompareAll mid (λ l. ps l ++ own p.order text l) ms)
-    → ((ps ms : ℕ → List (List ℕ)) → CompareAll mid ps ms → CompareAll now.levels.items ps (λ l. ms l ++ own p.order other l))
+    → ((ps ms : ℕ → List (List ℕ)) → CompareAll books.levels.items ps ms → CompareAll now.levels.items (λ l. ps l ++ own p.order text l) (λ l. ms l ++ own p.order other l))
     → IsAuditAt p now (is ++ i ∷ [])
-audit_more p books now mid is i text other at plain copies count text_is other_is hears_plain hears_multi = record {
+audit_more p books now is i text other at plain copies count text_is other_is hears = record {
   plain = plain;
   copies = copies;
   count = count ∙ at.count;
   levels = compare_same now.levels.items (λ l. plain_lines p is l ++ own p.order text l) (λ l. multi_lines p is l ++ own p.order other l) (plain_lines p (is ++ i ∷ [])) (multi_lines p (is ++ i ∷ []))
       (λ l. ap (λ t. plain_lines p is l ++ own p.order t l) text_is ∙ plain_longer p is i l)
       (λ l. ap (λ t. multi_lines p is l ++ own p.order t l) other_is ∙ multi_longer p is i l)
-      (hears_multi (λ l. plain_lines p is l ++ own p.order text l) (multi_lines p is) (hears_plain (plain_lines p is) (multi_lines p is) at.levels));
+      (hears (plain_lines p is) (multi_lines p is) at.levels);
 }
 
--- the same of an order and a text that are these
-pub heard_as : (side : Side) (old new : List Comparison) (order order' : Order) (text text' : List ℕ) → order ≡ order' → text ≡ text'
-    → ((ps ms : ℕ → List (List ℕ)) → CompareAll old ps ms → CompareAll new (λ l. plain_more side (ps l) (own order text l)) (λ l. multi_more side (ms l) (own order text l)))
-    → ((ps ms : ℕ → List (List ℕ)) → CompareAll old ps ms → CompareAll new (λ l. plain_more side (ps l) (own order' text' l)) (λ l. multi_more side (ms l) (own order' text' l)))
-heard_as side old new order order' text text' same_order same_text heard =
-    subst (λ o. (ps ms : ℕ → List (List ℕ)) → CompareAll old ps ms → CompareAll new (λ l. plain_more side (ps l) (own o text' l)) (λ l. multi_more side (ms l) (own o text' l))) same_order
-    (subst (λ t. (ps ms : ℕ → List (List ℕ)) → CompareAll old ps ms → CompareAll new (λ l. plain_more side (ps l) (own order t l)) (λ l. multi_more side (ms l) (own order t l))) same_text heard)
+-- the same of an order and of texts that are these
+pub heard_as : (old new : List Comparison) (order order' : Order) (text text' other other' : List ℕ) → order ≡ order' → text ≡ text' → other ≡ other'
+    → ((ps ms : ℕ → List (List ℕ)) → CompareAll old ps ms → CompareAll new (λ l. ps l ++ own order text l) (λ l. ms l ++ own order other l))
+    → ((ps ms : ℕ → List (List ℕ)) → CompareAll old ps ms → CompareAll new (λ l. ps l ++ own order' text' l) (λ l. ms l ++ own order' other' l))
+heard_as old new order order' text text' other other' same_order same_text same_other heard =
+    subst (λ o. (ps ms : ℕ → List (List ℕ)) → CompareAll old ps ms → CompareAll new (λ l. ps l ++ own o text' l) (λ l. ms l ++ own o other' l)) same_order
+    (subst (λ t. (ps ms : ℕ → List (List ℕ)) → CompareAll old ps ms → CompareAll new (λ l. ps l ++ own order t l) (λ l. ms l ++ own order other' l)) same_text
+    (subst (λ t. (ps ms : ℕ → List (List ℕ)) → CompareAll old ps ms → CompareAll new (λ l. ps l ++ own order text l) (λ l. ms l ++ own order t l)) same_other heard))
 
 -- ---- what is owed
 

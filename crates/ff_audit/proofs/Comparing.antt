@@ -121,6 +121,14 @@ pub multi_meets : {T E : Type 0} (r : Result T E) (equal : ℕ) (plain multi : L
 multi_meets (Ok done) equal plain multi line plain' multi' equal' meets = λ ps ms has. multi_line equal plain multi line plain' multi' equal' ps ms meets has
 multi_meets (Err e) equal plain multi line plain' multi' equal' meets = tt
 
+-- one line that is the same in both
+pub same_line : (equal more : ℕ) (plain multi : List (List ℕ)) → plain ≡ [] → multi ≡ [] → more ≡ equal + 1
+    → (line : List ℕ) (ps ms : List (List ℕ)) → Compares equal plain multi ps ms → Compares more plain multi (ps ++ line ∷ []) (ms ++ line ∷ [])
+same_line equal more plain multi no_plain no_multi counted line ps ms has =
+    multi_line equal (plain ++ line ∷ []) multi line plain multi more (ps ++ line ∷ []) ms
+    (subst (λ n. Meets multi (plain ++ line ∷ []) equal line multi plain n) (sym counted) (Meets.agrees plain no_multi (ap (λ qs. qs ++ line ∷ []) no_plain ∙ ap (λ qs. line ∷ qs) (sym no_plain))))
+    (plain_line equal plain multi line (plain ++ line ∷ []) multi equal ps ms (Meets.waits no_multi) has)
+
 -- ---- what is found
 
 pub at_now : (equal : ℕ) (plain multi ps ms : List (List ℕ)) → Compares equal plain multi ps ms → compared 0 ps ms ≡ compared equal plain multi

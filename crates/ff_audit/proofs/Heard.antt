@@ -1,5 +1,5 @@
--- The lines of a text that come to a comparison, one after another; and the lines of a longer text.
-use Rattle.std.proofs.Common.{◌≡◌, ℕ, ◌==◌, Bool, true, false, cond, List, [], ◌∷◌, ◌++◌, length, filter, map, bytes_eq, refl, sym, ap, subst, ◌∙◌, append-nil, append_assoc, arith}
+-- The lines of two texts that come to a comparison, one after another; and the lines of a longer text.
+use Rattle.std.proofs.Common.{◌≡◌, ℕ, ◌+◌, ◌<◌, ◌≤◌, ◌==◌, Bool, true, false, cond, List, [], ◌∷◌, ◌++◌, length, filter, map, bytes_eq, refl, sym, ap, subst, ◌∙◌, append-nil, append_assoc, arith}
 use Rattle.std.specs.List.{onto_first}
 use Rattle.std.proofs.lemmas.Bool.{true≢false, ne_eqb}
 use Rattle.std.proofs.lemmas.List.Elements.{filter-append}
@@ -10,7 +10,7 @@ use Rattle.ff_reactive.specs.Runs.{joined}
 use Rattle.ff_session.specs.OwnLines.{own_lines, own_contents}
 use Rattle.ff_lattice.specs.Order.{Order, name}
 use Rattle.ff_audit.specs.Owned.{own}
-use Rattle.ff_audit.specs.Comparing.{plain_more, multi_more, ComparesAt}
+use Rattle.ff_audit.specs.Comparing.{plain_more, multi_more, ComparesAt, TakesSame}
 use Rattle.ff_audit.specs.declared.comparison.Comparison.{Comparison}
 use Rattle.ff_audit.specs.declared.comparison.Side.{Side}
 use Rattle.ff_audit.specs.declared.comparison.Side.TheVariants.{Plain, Multi}
@@ -46,38 +46,98 @@ heard_none side word text first = record {
   goes = λ ps ms has. subst (λ qs. ComparesAt first qs (multi_more side ms [])) (sym (plain_none side ps)) (subst (ComparesAt first ps) (sym (multi_none side ms)) has);
 }
 
-module _ (side : Side) (word text rest line more : List ℕ) (first now : Comparison) (has : HasHeard side word text rest first now) (cut : lines rest ≡ line ∷ lines more) where
-  split_by : (test : Bool) → bytes_eq word (first_word line) ≡ test → own_contents word rest ≡ cond test (content line ∷ own_contents word more) (own_contents word more)
-  split_by true is = ap (λ ls. map content (filter (λ l. bytes_eq word (first_word l)) ls)) cut ∙ ap (λ b. map content (cond b (line ∷ own_lines word more) (own_lines word more))) is
-  split_by false is = ap (λ ls. map content (filter (λ l. bytes_eq word (first_word l)) ls)) cut ∙ ap (λ b. map content (cond b (line ∷ own_lines word more) (own_lines word more))) is
+-- one line more, which comes next
+pub heard_more : (side : Side) (word text rest line more : List ℕ) (first now next : Comparison) → HasHeard side word text rest first now → own_contents word rest ≡ content line ∷ own_contents word more
+    → ((ps ms : List (List ℕ)) → ComparesAt now ps ms → ComparesAt next (plain_more side ps (content line ∷ [])) (multi_more side ms (content line ∷ [])))
+    → HasHeard side word text more first next
+heard_more side word text rest line more first now next has is goes = record {
+  done = has.done ++ content line ∷ [];
+  split = has.split ∙ ap (λ ls. has.done ++ ls) is ∙ sym (append_assoc has.done (content line ∷ []) (own_contents word more));
+  goes = λ ps ms at.
+      subst (λ qs. ComparesAt next qs (multi_more side ms (has.done ++ content line ∷ []))) (plain_twice side ps has.done (content line))
+      (subst (ComparesAt next (plain_more side (plain_more side ps has.done) (content line ∷ []))) (multi_twice side ms has.done (content line))
+      (goes (plain_more side ps has.done) (multi_more side ms has.done) (has.goes ps ms at)));
+}
 
-  -- the line is one of the word
-  pub heard_more : (next : Comparison) → bytes_eq word (first_word line) ≡ true
-      → ((ps ms : List (List ℕ)) → ComparesAt now ps ms → ComparesAt next (plain_more side ps (content line ∷ [])) (multi_more side ms (content line ∷ [])))
-      → HasHeard side word text more first next
-  heard_more next is goes = record {
-    done = has.done ++ content line ∷ [];
-    split = has.split ∙ ap (λ ls. has.done ++ ls) (split_by true is) ∙ sym (append_assoc has.done (content line ∷ []) (own_contents word more));
-    goes = λ ps ms at.
-        subst (λ qs. ComparesAt next qs (multi_more side ms (has.done ++ content line ∷ []))) (plain_twice side ps has.done (content line))
-        (subst (ComparesAt next (plain_more side (plain_more side ps has.done) (content line ∷ []))) (multi_twice side ms has.done (content line))
-        (goes (plain_more side ps has.done) (multi_more side ms has.done) (has.goes ps ms at)));
-  }
-
-  -- or of another
-  pub heard_other : bytes_eq word (first_word line) ≡ false → HasHeard side word text more first now
-  heard_other is = record { done = has.done; split = has.split ∙ ap (λ ls. has.done ++ ls) (split_by false is); goes = has.goes }
-
--- the rest is empty where the test says so
-pub none_left : (rest : List ℕ) (test : Bool) → test ≡ true → test ≡ (length rest == 0) → rest ≡ []
-none_left [] test some is = refl
-none_left (x ∷ xs) test some is = absurd (true≢false (sym some ∙ is ∙ ne_eqb (length (x ∷ xs)) 0 (λ e. omega arith)))
-
-pub heard_all : (side : Side) (word text rest : List ℕ) (first now : Comparison) → HasHeard side word text rest first now → rest ≡ []
+pub heard_all : (side : Side) (word text rest : List ℕ) (first now : Comparison) → HasHeard side word text rest first now → own_contents word rest ≡ []
     → (ps ms : List (List ℕ)) → ComparesAt first ps ms → ComparesAt now (plain_more side ps (own_contents word text)) (multi_more side ms (own_contents word text))
 heard_all side word text rest first now has none ps ms at =
-    let all : has.done ≡ own_contents word text = sym (has.split ∙ ap (λ r. has.done ++ own_contents word r) none ∙ append-nil has.done) in
+    let all : has.done ≡ own_contents word text = sym (has.split ∙ ap (λ ls. has.done ++ ls) none ∙ append-nil has.done) in
     subst (λ ls. ComparesAt now (plain_more side ps ls) (multi_more side ms ls)) all (has.goes ps ms at)
+
+-- ---- the next line of a word
+
+-- where the search stands: no line of the word was passed
+pub record Seeks (word text rest : List ℕ) : Type 0 where
+  pub same : own_contents word text ≡ own_contents word rest
+  pub shorter : length rest ≤ length text
+
+pub seeks_first : (word text : List ℕ) → Seeks word text text
+seeks_first word text = record { same = refl; shorter = omega arith }
+
+module _ (word text rest line more : List ℕ) (seeks : Seeks word text rest) (cut : lines rest ≡ line ∷ lines more) where
+  split_by : (test : Bool) → bytes_eq word (first_word line) ≡ test → own_contents word rest ≡ map content (cond test (line ∷ own_lines word more) (own_lines word more))
+  split_by test is = ap (λ ls. map content (filter (λ l. bytes_eq word (first_word l)) ls)) cut ∙ ap (λ b. map content (cond b (line ∷ own_lines word more) (own_lines word more))) is
+
+  pub found_own : bytes_eq word (first_word line) ≡ true → own_contents word text ≡ content line ∷ own_contents word more
+  found_own is = seeks.same ∙ split_by true is
+
+  pub seeks_more : bytes_eq word (first_word line) ≡ false → length rest ≡ length line + length more → Seeks word text more
+  seeks_more is whole = record { same = seeks.same ∙ split_by false is; shorter = let short = seeks.shorter in omega (arith, short, whole) }
+
+-- the rest is empty where the test says so
+pub none_left : (word text rest : List ℕ) (test : Bool) → Seeks word text rest → test ≡ true → test ≡ (length rest == 0) → own_contents word text ≡ []
+none_left word text [] test seeks some is = seeks.same
+none_left word text (x ∷ xs) test seeks some is = absurd (true≢false (sym some ∙ is ∙ ne_eqb (length (x ∷ xs)) 0 (λ e. omega arith)))
+
+-- ---- the lines that are the same in both texts
+
+pub taken : (word plain multi more others line other : List ℕ) (before now : Comparison) → own_contents word plain ≡ content line ∷ own_contents word more → own_contents word multi ≡ content other ∷ own_contents word others
+    → length more < length plain → line ≡ other → ((x : List ℕ) (ps ms : List (List ℕ)) → ComparesAt before ps ms → ComparesAt now (ps ++ x ∷ []) (ms ++ x ∷ [])) → TakesSame word plain multi more others before now
+taken word plain multi more others line other before now found also less same counted = record {
+  line = content line;
+  in_plain = found;
+  in_multi = also ∙ ap (λ l. content l ∷ own_contents word others) (sym same);
+  shorter = less;
+  counted = counted (content line);
+}
+
+-- These lines were taken from both, and what is left is to come.
+pub record HasMet (word plain multi plain_rest multi_rest : List ℕ) (first now : Comparison) : Type 0 where
+  pub done : List (List ℕ)
+  pub in_plain : own_contents word plain ≡ done ++ own_contents word plain_rest
+  pub in_multi : own_contents word multi ≡ done ++ own_contents word multi_rest
+  pub goes : (ps ms : List (List ℕ)) → ComparesAt first ps ms → ComparesAt now (ps ++ done) (ms ++ done)
+
+pub met_none : (word plain multi : List ℕ) (first : Comparison) → HasMet word plain multi plain multi first first
+met_none word plain multi first = record {
+  done = [];
+  in_plain = refl;
+  in_multi = refl;
+  goes = λ ps ms has. subst (λ qs. ComparesAt first qs (ms ++ [])) (sym (append-nil ps)) (subst (ComparesAt first ps) (sym (append-nil ms)) has);
+}
+
+pub met_more : (word plain multi plain_rest multi_rest more others : List ℕ) (first now next : Comparison) → HasMet word plain multi plain_rest multi_rest first now
+    → TakesSame word plain_rest multi_rest more others now next → HasMet word plain multi more others first next
+met_more word plain multi plain_rest multi_rest more others first now next has takes = record {
+  done = has.done ++ takes.line ∷ [];
+  in_plain = has.in_plain ∙ ap (λ ls. has.done ++ ls) takes.in_plain ∙ sym (append_assoc has.done (takes.line ∷ []) (own_contents word more));
+  in_multi = has.in_multi ∙ ap (λ ls. has.done ++ ls) takes.in_multi ∙ sym (append_assoc has.done (takes.line ∷ []) (own_contents word others));
+  goes = λ ps ms at.
+      subst (λ qs. ComparesAt next qs (ms ++ (has.done ++ takes.line ∷ []))) (append_assoc ps has.done (takes.line ∷ []))
+      (subst (ComparesAt next ((ps ++ has.done) ++ takes.line ∷ [])) (append_assoc ms has.done (takes.line ∷ []))
+      (takes.counted (ps ++ has.done) (ms ++ has.done) (has.goes ps ms at)));
+}
+
+-- then what is left of each text came
+pub met_all : (word plain multi plain_rest multi_rest : List ℕ) (first now mid last : Comparison) → HasMet word plain multi plain_rest multi_rest first now
+    → ((ps ms : List (List ℕ)) → ComparesAt now ps ms → ComparesAt mid (ps ++ own_contents word plain_rest) ms)
+    → ((ps ms : List (List ℕ)) → ComparesAt mid ps ms → ComparesAt last ps (ms ++ own_contents word multi_rest))
+    → (ps ms : List (List ℕ)) → ComparesAt first ps ms → ComparesAt last (ps ++ own_contents word plain) (ms ++ own_contents word multi)
+met_all word plain multi plain_rest multi_rest first now mid last has hears_plain hears_multi ps ms at =
+    subst (λ qs. ComparesAt last qs (ms ++ own_contents word multi)) (append_assoc ps has.done (own_contents word plain_rest) ∙ ap (λ ls. ps ++ ls) (sym has.in_plain))
+    (subst (ComparesAt last ((ps ++ has.done) ++ own_contents word plain_rest)) (append_assoc ms has.done (own_contents word multi_rest) ∙ ap (λ ls. ms ++ ls) (sym has.in_multi))
+    (hears_multi ((ps ++ has.done) ++ own_contents word plain_rest) (ms ++ has.done) (hears_plain (ps ++ has.done) (ms ++ has.done) (has.goes ps ms at))))
 
 -- ---- the lines of a longer text
 

@@ -8,10 +8,9 @@ use Rattle.ff_reactive.specs.Copies.{below}
 use Rattle.ff_reactive.proofs.Lists.{flat_map_agree_below}
 use Rattle.ff_lattice.specs.Order.{Order, name, size}
 use Rattle.ff_audit.specs.Owned.{own}
-use Rattle.ff_audit.specs.Comparing.{compared, differs, plain_more, multi_more, ComparesAt, CompareAll}
+use Rattle.ff_audit.specs.Comparing.{compared, differs, ComparesAt, CompareAll}
 use Rattle.ff_audit.specs.Verdicts.{any_differ, report_of, verdict_text}
 use Rattle.ff_audit.specs.declared.comparison.Comparison.{Comparison}
-use Rattle.ff_audit.specs.declared.comparison.Side.{Side}
 use Rattle.ff_audit.specs.declared.verdict.Verdict.{Verdict}
 use Rattle.ff_audit.proofs.Comparing.{at_now}
 
@@ -39,42 +38,42 @@ all_more cs more c n fresh added new = record {
     from (x ∷ xs) zero d old lt = old (omega arith)
     from (x ∷ xs) (suc l) d old lt = from xs l d (λ less. old (omega arith)) (omega arith)
 
--- ---- a text is heard at each level
+-- ---- both texts are heard at each level
 
-pub record HearsBelow (order : Order) (side : Side) (text : List ℕ) (first now : List Comparison) (n : ℕ) : Type 0 where
+pub record HearsBelow (order : Order) (plain multi : List ℕ) (first now : List Comparison) (n : ℕ) : Type 0 where
   pub count : length now ≡ length first
   pub done : (ps ms : ℕ → List (List ℕ)) → CompareAll first ps ms → (l : ℕ) (d : Comparison) → l < n → l < length now
-      → ComparesAt (slice_index_or now l d) (plain_more side (ps l) (own order text l)) (multi_more side (ms l) (own order text l))
+      → ComparesAt (slice_index_or now l d) (ps l ++ own order plain l) (ms l ++ own order multi l)
   pub waiting : (l : ℕ) (d : Comparison) → n ≤ l → slice_index_or now l d ≡ slice_index_or first l d
 
-pub hears_start : (order : Order) (side : Side) (text : List ℕ) (first : List Comparison) → HearsBelow order side text first first 0
-hears_start order side text first = record { count = refl; done = λ ps ms all l d less lt. absurd (omega arith); waiting = λ l d past. refl }
+pub hears_start : (order : Order) (plain multi : List ℕ) (first : List Comparison) → HearsBelow order plain multi first first 0
+hears_start order plain multi first = record { count = refl; done = λ ps ms all l d less lt. absurd (omega arith); waiting = λ l d past. refl }
 
-pub hears_more : (order : Order) (side : Side) (text : List ℕ) (first now next : List Comparison) (n : ℕ) (c e : Comparison) → HearsBelow order side text first now n → n < length now → next ≡ set now n c
-    → ((ps ms : List (List ℕ)) → ComparesAt (slice_index_or now n e) ps ms → ComparesAt c (plain_more side ps (own order text n)) (multi_more side ms (own order text n)))
-    → HearsBelow order side text first next (n + 1)
-hears_more order side text first now next n c e has lt written heard = record {
+pub hears_more : (order : Order) (plain multi : List ℕ) (first now next : List Comparison) (n : ℕ) (c e : Comparison) → HearsBelow order plain multi first now n → n < length now → next ≡ set now n c
+    → ((ps ms : List (List ℕ)) → ComparesAt (slice_index_or now n e) ps ms → ComparesAt c (ps ++ own order plain n) (ms ++ own order multi n))
+    → HearsBelow order plain multi first next (n + 1)
+hears_more order plain multi first now next n c e has lt written heard = record {
   count = ap length written ∙ length-set now n c ∙ has.count;
   done = λ ps ms all l d less within. from ps ms all l d less within (cases_lt l n);
   waiting = λ l d past. ap (λ cs. slice_index_or cs l d) written ∙ get_or-set_other now n l c d (λ e. omega arith) ∙ has.waiting l d (omega arith);
 }
   where
     from : (ps ms : ℕ → List (List ℕ)) → CompareAll first ps ms → (l : ℕ) (d : Comparison) → l < n + 1 → l < length next → (l < n) ⊎ (n ≤ l)
-        → ComparesAt (slice_index_or next l d) (plain_more side (ps l) (own order text l)) (multi_more side (ms l) (own order text l))
+        → ComparesAt (slice_index_or next l d) (ps l ++ own order plain l) (ms l ++ own order multi l)
     from ps ms all l d less within (inl low) =
         let same : slice_index_or next l d ≡ slice_index_or now l d = ap (λ cs. slice_index_or cs l d) written ∙ get_or-set_other now n l c d (λ e. omega arith) in
-        subst (λ k. ComparesAt k (plain_more side (ps l) (own order text l)) (multi_more side (ms l) (own order text l))) (sym same)
+        subst (λ k. ComparesAt k (ps l ++ own order plain l) (ms l ++ own order multi l)) (sym same)
         (has.done ps ms all l d low (omega (arith, ap length written, length-set now n c)))
     from ps ms all l d less within (inr high) =
         let here : n ≡ l = omega arith in
         let got : slice_index_or next n d ≡ c = ap (λ cs. slice_index_or cs n d) written ∙ get_or-set_same now n c d lt in
         let old : ComparesAt (slice_index_or now n e) (ps n) (ms n) = subst (λ k. ComparesAt k (ps n) (ms n)) (sym (has.waiting n e (omega arith))) (all.each n e (let same = has.count in omega (arith, same))) in
-        subst (λ k. ComparesAt (slice_index_or next k d) (plain_more side (ps k) (own order text k)) (multi_more side (ms k) (own order text k))) here
-        (subst (λ k. ComparesAt k (plain_more side (ps n) (own order text n)) (multi_more side (ms n) (own order text n))) (sym got) (heard (ps n) (ms n) old))
+        subst (λ k. ComparesAt (slice_index_or next k d) (ps k ++ own order plain k) (ms k ++ own order multi k)) here
+        (subst (λ k. ComparesAt k (ps n ++ own order plain n) (ms n ++ own order multi n)) (sym got) (heard (ps n) (ms n) old))
 
-pub hears_done : (order : Order) (side : Side) (text : List ℕ) (first now : List Comparison) (n : ℕ) → HearsBelow order side text first now n → length first ≤ n
-    → (ps ms : ℕ → List (List ℕ)) → CompareAll first ps ms → CompareAll now (λ l. plain_more side (ps l) (own order text l)) (λ l. multi_more side (ms l) (own order text l))
-hears_done order side text first now n has all ps ms at = record { each = λ l d lt. has.done ps ms at l d (let e = has.count in omega (arith, e)) lt }
+pub hears_done : (order : Order) (plain multi : List ℕ) (first now : List Comparison) (n : ℕ) → HearsBelow order plain multi first now n → length first ≤ n
+    → (ps ms : ℕ → List (List ℕ)) → CompareAll first ps ms → CompareAll now (λ l. ps l ++ own order plain l) (λ l. ms l ++ own order multi l)
+hears_done order plain multi first now n has all ps ms at = record { each = λ l d lt. has.done ps ms at l d (let e = has.count in omega (arith, e)) lt }
 
 -- ---- differences
 

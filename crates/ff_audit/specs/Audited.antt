@@ -6,7 +6,7 @@ use Rattle.ff_value.specs.declared.input.Input.{Input}
 use Rattle.ff_io.specs.Pieces.{Piece}
 use Rattle.ff_lattice.specs.Order.{size}
 use Rattle.ff_policy.specs.Assignment.{Assignment}
-use Rattle.ff_levels.specs.Levels.{machine}
+use Rattle.ff_session.specs.Levels.{machine}
 use Rattle.ff_status.specs.declared.status.TraceFault.{TraceFault}
 use Rattle.ff_status.specs.Words.{IsGood}
 use Rattle.ff_stream.specs.declared.end.End.{End}

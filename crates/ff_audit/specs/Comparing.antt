@@ -1,5 +1,6 @@
 -- Two lists of lines, compared.
 use Rattle.std.specs.Prelude.{◌≡◌, ◌≢◌, ℕ, suc, ◌+◌, ◌<◌, Bool, true, false, cond, bytes_eq, Option, Some, None, List, [], ◌∷◌, ◌++◌, length, slice_get, slice_index_or, ⊤}
+use Rattle.ff_session.specs.OwnLines.{own_contents}
 use Rattle.ff_audit.specs.declared.verdict.Verdict.{Verdict}
 use Rattle.ff_audit.specs.declared.verdict.Verdict.TheVariants.{Clean, Differs}
 use Rattle.ff_audit.specs.declared.comparison.Comparison.{Comparison}
@@ -73,6 +74,14 @@ ComparesAt c ps ms = Compares c.equal c.plain.items c.multi.items ps ms
 -- a comparison for each level
 pub record CompareAll (cs : List Comparison) (ps ms : ℕ → List (List ℕ)) : Type 0 where
   pub each : (l : ℕ) (d : Comparison) → l < length cs → ComparesAt (slice_index_or cs l d) (ps l) (ms l)
+
+-- A line that comes next in both texts under a word was taken: what is left of them, and the comparison before and after.
+pub record TakesSame (word plain multi plain_rest multi_rest : List ℕ) (before now : Comparison) : Type 0 where
+  pub line : List ℕ
+  pub in_plain : own_contents word plain ≡ line ∷ own_contents word plain_rest
+  pub in_multi : own_contents word multi ≡ line ∷ own_contents word multi_rest
+  pub shorter : length plain_rest < length plain
+  pub counted : (ps ms : List (List ℕ)) → ComparesAt before ps ms → ComparesAt now (ps ++ line ∷ []) (ms ++ line ∷ [])
 
 -- One of the levels below n whose lists of lines differ.
 pub record DiffersAt (n : ℕ) (ps ms : ℕ → List (List ℕ)) : Type 0 where

@@ -7,8 +7,8 @@ ghost use Rattle.ff_audit.specs.Comparing.{compared, CompareAll};
 ghost use Rattle.ff_audit.specs.Verdicts.{any_differ, report_of};
 ghost use Rattle.ff_audit.specs.Audited.{IsAuditAt, feed_turns};
 
-use crate::comparison::{Comparison, Side};
-use crate::hearing::hear_text;
+use crate::comparison::Comparison;
+use crate::hearing::hear_texts;
 use crate::levels::{any_leak, fresh_levels, report_levels, verdict_at};
 use crate::verdict::Verdict;
 use ff_core::Browser;
@@ -76,17 +76,10 @@ impl Books {
         };
         let mut other = Vec::new(alloc);
         multi.take(alloc, &mut self.pool, input, &mut other, copies, turns)?;
-        hear_text(
+        hear_texts(
             alloc,
             lattice,
-            Side::Plain,
             text.as_slice(),
-            &mut self.levels,
-        )?;
-        hear_text(
-            alloc,
-            lattice,
-            Side::Multi,
             other.as_slice(),
             &mut self.levels,
         )

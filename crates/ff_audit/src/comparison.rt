@@ -1,5 +1,6 @@
 //! Two growing lists of lines, compared.
 ghost use Rattle.std.specs.Prelude.{◌≡◌, ◌+◌, [], ◌∷◌, ◌++◌, ℕ, List, IfOk, OnOk};
+ghost use Rattle.std.specs.Bool.{OnFalse};
 ghost use Rattle.ff_audit.specs.Comparing.{Compares, Meets, compared, differs, first, found, plain_more, multi_more};
 
 use crate::verdict::Verdict;
@@ -50,6 +51,17 @@ impl Comparison {
         }
     }
 
+    /// One line more that is the same in both, where no line waits for its like.
+    pub(crate) fn add_same(&mut self) -> Result<(), NoMemory>
+        requires plain { self.old.plain.items ≡ [] }
+        requires multi { self.old.multi.items ≡ [] }
+        ensures { OnOk result ((line : List ℕ) (ps ms : List (List ℕ)) → Compares self.old.equal self.old.plain.items self.old.multi.items ps ms
+            → Compares self.new.equal self.new.plain.items self.new.multi.items (ps ++ line ∷ []) (ms ++ line ∷ [])) }
+    {
+        self.equal = one_more(self.equal)?;
+        Ok(())
+    }
+
     /// What is found of them.
     #[tactic(auto, using(crate::proofs::Comparing::found_is))]
     pub(crate) fn verdict(&self) -> Result<Verdict, NoMemory>
@@ -63,7 +75,9 @@ impl Comparison {
     /// Whether they differ.
     #[tactic(auto, using(crate::proofs::Comparing::differs_plain, crate::proofs::Comparing::differs_multi))]
     pub(crate) fn differs(&self) -> bool
-        ensures { (ps ms : List (List ℕ)) → Compares self.now.equal self.now.plain.items self.now.multi.items ps ms → result ≡ differs (compared 0 ps ms) }
+        ensures found { (ps ms : List (List ℕ)) → Compares self.now.equal self.now.plain.items self.now.multi.items ps ms → result ≡ differs (compared 0 ps ms) }
+        ensures plain { OnFalse result (self.now.plain.items ≡ []) }
+        ensures multi { OnFalse result (self.now.multi.items ≡ []) }
     {
         match self.plain.front() {
             Some(_) => true,
@@ -120,8 +134,8 @@ fn next_of(lines: &VecDeque<Text>) -> Result<Option<Text>, NoMemory>
     }
 }
 
-#[tactic(auto, using(crate::proofs::Comparing::found_more))]
 /// What is found after so many equal lines by the next line of each list.
+#[tactic(auto, using(crate::proofs::Comparing::found_more))]
 fn found(equal: u64, plain: Option<Text>, multi: Option<Text>) -> Result<Verdict, NoMemory>
     ensures { IfOk result (λ verdict. verdict ≡ found equal plain multi) }
 {
