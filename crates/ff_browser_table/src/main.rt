@@ -10,12 +10,14 @@
 
 ghost use Rattle.std.specs.Prelude.{◌≡◌, ◌<◌};
 
+mod calls;
 mod frames;
 mod redexes;
 mod running;
 mod scripts;
 mod setting;
 mod shown;
+mod tasks;
 mod tree_changes;
 mod tree_shown;
 mod tree_words;

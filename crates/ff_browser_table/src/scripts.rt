@@ -12,12 +12,15 @@
 //! - `@ PLACE EXPRESSION` does so as a script of the page of the window at that place.
 //! - `mass` prints the mass of the stores that the line before left, `ready` takes out of them the
 //!   first script that may run, and `settle` puts the pages that were touched.
+//! - `call ..` is a single call of the stores that the line before left.
+//! - `task EXPRESSION` makes a task of a script of the first window's page, forks it with its stores,
+//!   and works once on each.
 //!
 //! A text of more than 60 bytes is printed as `*` and its length. Of many outputs the last are
 //! printed.
 
 use crate::setting::{open, page_at};
-use crate::{running, shown};
+use crate::{calls, running, shown, tasks};
 use anyhow::{Context, Result, bail};
 use ff_script::read_body;
 use ff_steps::Steps;
@@ -61,6 +64,8 @@ pub fn follow<C: Ledger>(
         "mass" => mass(rt, &table.left),
         "settle" => settle(rt, alloc, &mut table.left),
         "ready" => ready(rt, alloc, &mut table.left, copies),
+        "call" => calls::follow(rt, alloc, &mut table.left, rest, copies),
+        "task" => tasks::show(rt, alloc, &mut table.left, rest, copies),
         _ => fresh(rt, alloc, table, line, copies),
     }
 }

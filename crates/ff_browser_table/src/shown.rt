@@ -70,7 +70,8 @@ pub fn expression(alloc: Global, body: &Expr) -> Result<String> {
     Ok(String::from_utf8(out)?)
 }
 
-fn pairs(alloc: Global, cookies: &Pairs) -> Result<String> {
+/// The pairs of a domain's cookies.
+pub fn pairs(alloc: Global, cookies: &Pairs) -> Result<String> {
     let mut out = Vec::new(alloc);
     print_pairs(cookies, &mut out)?;
     Ok(String::from_utf8(out)?)

@@ -131,7 +131,8 @@ fn done(alloc: Global, answer: Result<(), Fail>) -> Result<String, NoMemory> {
     }
 }
 
-fn failed(alloc: Global, fail: &Fail) -> Result<String, NoMemory> {
+/// The words for a refusal.
+pub fn failed(alloc: Global, fail: &Fail) -> Result<String, NoMemory> {
     match fail {
         Fail::Fault(fault) => format!(in alloc; "fault {}", fault.word()),
         Fail::NoMemory => format!(in alloc; "no memory"),

@@ -1,5 +1,5 @@
 //! What a line takes.
-ghost use Rattle.std.specs.Prelude.{◌≡◌, ◌<◌, ◌≤◌, IfOk, length, map};
+ghost use Rattle.std.specs.Prelude.{◌<◌, ◌≤◌, IfOk, length, map};
 ghost use Rattle.std.specs.List.{AllByRecursion};
 ghost use Rattle.ff_name.specs.declared.limits.TheConstants.{MOST_DEPTH};
 ghost use Rattle.ff_text.specs.Printed.{IsWellSpelled};
@@ -68,9 +68,15 @@ pub fn documents(alloc: Global, text: &str) -> Result<Docs>
     ensures spelled { IfOk result (λ docs. AllByRecursion IsSpelledDoc docs) }
     ensures shallow { IfOk result (λ docs. most (map doc_depth docs) ≤ MOST_DEPTH) }
 {
+    docs_of(&response(alloc, text)?)
+}
+
+/// The response that a text spells.
+pub fn response(alloc: Global, text: &str) -> Result<Resp>
+    ensures { IfOk result IsWellSpelledResp }
+{
     let item = item(alloc, text)?;
-    let response = read_resp(alloc, &item)?;
-    docs_of(&response)
+    Ok(read_resp(alloc, &item)?)
 }
 
 fn docs_of(response: &Resp) -> Result<Docs>

@@ -6,7 +6,7 @@ use Rattle.ff_policy.specs.Assignment.{Assignment}
 use Rattle.ff_route.specs.Route.{sees}
 use Rattle.ff_reactive.specs.Worlds.{OfferOk}
 use Rattle.ff_trace.specs.Lines.{IsInputOf}
-use Rattle.ff_levels.proofs.Inputs.{seen_spelled}
+use Rattle.ff_session.proofs.Inputs.{seen_spelled}
 
 pub seen_ok : (p : Assignment) (l : ℕ) (i : Input) (seen : Option Input) → IsInputOf p.order i → seen ≡ sees p l i → OfferOk IsWellSpelledInput seen
 seen_ok p l i None good is = tt

@@ -1,11 +1,12 @@
-//! Prints what a browser by itself and its fork do, and the story of a pool of two levels, of which the lower one is level 0: an arrival of equal
-//! offers, one step, an arrival for the higher level alone, and steps of both until all is quiet;
-//! and that of a pool that is drained, forked and taken. Then, for each trace of its input, which a
-//! heading begins, how many turns each of its inputs takes, or the story that its lines tell, where
-//! the heading says so.
+//! Prints what a browser by itself and its fork do, and two stories of a pool of two levels, of which
+//! the lower one is level 0. One is an arrival of equal offers, one step, an arrival for the higher
+//! level alone, and steps of both until all is quiet; in the other the pool is drained, forked and
+//! taken. Then, for each trace of its input, which a heading begins, how many turns each of its inputs
+//! takes; or, where the heading says so, the story that its lines tell, or what an audit of them finds.
 #![tactic(auto)]
 
 mod alone;
+mod auditing;
 mod counting;
 mod story;
 
@@ -222,17 +223,22 @@ fn show_classes(rt: &HostRuntime, classes: &Classes) -> io::Result<()> {
     }
 }
 
-/// Prints a heading, and the story that the lines tell, or how many turns their inputs take.
+/// Prints a heading, and the story that the lines tell, what an audit of them finds, or how many turns
+/// their inputs take.
 fn show_lines(rt: &HostRuntime, heading: &str, lines: &[String]) -> io::Result<()> {
     if lines.is_empty() {
         return Ok(());
     }
-    match heading.strip_prefix("Story: ") {
-        Some(title) => {
+    match heading.split_once(": ") {
+        Some(("Story", title)) => {
             println!(rt; "{title}")?;
             story::show(rt, lines)
         }
-        None => show_turns(rt, heading, lines),
+        Some(("Audit", title)) => {
+            println!(rt; "{title}")?;
+            auditing::show(rt, lines)
+        }
+        _ => show_turns(rt, heading, lines),
     }
 }
 

@@ -6,7 +6,7 @@ use ff_value::{ActId, NoMemory, Val};
 
 /// What stands around the part at hand. Its values lie in the [`Hand`](crate::hand::Hand).
 #[derive(Drop)]
-pub enum Head {
+pub(crate) enum Head {
     /// A form, and how many of its first operands are values. A `while`, `and` or `or` stands for
     /// the `if` that it becomes, with the part at hand for its test.
     Part(Source, usize),
@@ -22,14 +22,14 @@ pub enum Head {
 
 /// The part at hand.
 #[derive(Drop)]
-pub enum Focus {
+pub(crate) enum Focus {
     Value(Val),
     Part(Source),
 }
 
 impl Head {
     /// An equal frame.
-    pub fn copy(&self) -> Result<Head, NoMemory>
+    pub(crate) fn copy(&self) -> Result<Head, NoMemory>
         ensures { IfOk result (λ h. h ≡ self.now) }
     {
         match self {

@@ -21,16 +21,16 @@ use std::alloc::Global;
 /// The values of all frames, those of the outermost first, and behind them the part at hand: a form,
 /// or else the last value.
 #[derive(Drop)]
-pub struct Hand {
-    pub values: Vec<Val>,
-    pub form: Option<Source>,
+pub(crate) struct Hand {
+    pub(crate) values: Vec<Val>,
+    pub(crate) form: Option<Source>,
     /// What is at hand where there is neither a form nor a value: `null`.
-    pub null: Val,
+    pub(crate) null: Val,
 }
 
 impl Hand {
     /// No values, and nothing at hand.
-    pub fn new(alloc: Global) -> Hand
+    pub(crate) fn new(alloc: Global) -> Hand
         ensures values { result.values.items ≡ [] }
         ensures form { result.form ≡ None }
         ensures null { result.null ≡ val.Null }
@@ -43,7 +43,7 @@ impl Hand {
     }
 
     /// An equal hand.
-    pub fn copied(&self, alloc: Global) -> Result<Hand, NoMemory>
+    pub(crate) fn copied(&self, alloc: Global) -> Result<Hand, NoMemory>
         ensures values { IfOk result (λ h. h.values.items ≡ self.now.values.items) }
         ensures form { IfOk result (λ h. h.form ≡ self.now.form) }
         ensures null { IfOk result (λ h. h.null ≡ val.Null) }
@@ -64,7 +64,7 @@ impl Hand {
     }
 
     /// Takes the form out of the hand, if one is there.
-    pub fn take_form(&mut self) -> Option<Source>
+    pub(crate) fn take_form(&mut self) -> Option<Source>
         ensures form { result ≡ self.old.form }
         ensures rest { self.new ≡ record self.old { form = None } }
     {
@@ -72,7 +72,7 @@ impl Hand {
     }
 
     /// The value at hand, if it is one.
-    pub fn value(&self) -> Option<&Val>
+    pub(crate) fn value(&self) -> Option<&Val>
         ensures { option_copied result ≡ value_of self.now.form self.now.null self.now.values.items }
     {
         match &self.form {
@@ -85,7 +85,7 @@ impl Hand {
     }
 
     /// The values of the innermost frame, and behind them the one at hand.
-    pub fn operands(&self, head: &Head) -> &[Val]
+    pub(crate) fn operands(&self, head: &Head) -> &[Val]
         requires { held head.now < length self.now.values.items }
         ensures { (kept all : List Value) → self.now.values.items ≡ kept ++ all → length all ≡ held head.now + 1 → result.now ≡ all }
     {
@@ -104,7 +104,7 @@ impl Hand {
     }
 
     /// Drops the value at hand, and those of a frame that is taken off.
-    pub fn drop_values(&mut self, head: &Head)
+    pub(crate) fn drop_values(&mut self, head: &Head)
         requires { held head.now < length self.old.values.items }
         ensures left { (kept all : List Value) → self.old.values.items ≡ kept ++ all → length all ≡ held head.now + 1 → self.new.values.items ≡ kept }
         ensures form { self.new.form ≡ self.old.form }
@@ -113,7 +113,7 @@ impl Hand {
     }
 
     /// Puts a part at hand.
-    pub fn hold(&mut self, part: Focus) -> Result<(), NoMemory>
+    pub(crate) fn hold(&mut self, part: Focus) -> Result<(), NoMemory>
         requires { self.old.form ≡ None }
         ensures { OnOk result (IsHolding self.old.values.items part self.new) }
     {
@@ -125,7 +125,7 @@ impl Hand {
     }
 
     /// Puts a value at hand.
-    pub fn hold_value(&mut self, value: Val) -> Result<(), NoMemory>
+    pub(crate) fn hold_value(&mut self, value: Val) -> Result<(), NoMemory>
         requires { self.old.form ≡ None }
         ensures { OnOk result (IsHolding self.old.values.items (focus.Value value) self.new) }
     {
@@ -134,7 +134,7 @@ impl Hand {
     }
 
     /// Puts a copy of a value at hand.
-    pub fn hold_copy(&mut self, value: &Val) -> Result<(), NoMemory>
+    pub(crate) fn hold_copy(&mut self, value: &Val) -> Result<(), NoMemory>
         requires { self.old.form ≡ None }
         ensures { OnOk result (IsHolding self.old.values.items (focus.Value value.now) self.new) }
     {
@@ -152,7 +152,7 @@ impl Hand {
     }
 
     /// Puts an expression at hand.
-    pub fn hold_source(&mut self, expr: Source) -> Result<(), NoMemory>
+    pub(crate) fn hold_source(&mut self, expr: Source) -> Result<(), NoMemory>
         requires { self.old.form ≡ None }
         ensures { OnOk result ((x : Focus) × Shows expr x × IsHolding self.old.values.items x self.new) }
     {
@@ -164,7 +164,7 @@ impl Hand {
     }
 
     /// Puts a body at hand.
-    pub fn hold_body(&mut self, body: &Body) -> Result<(), NoMemory>
+    pub(crate) fn hold_body(&mut self, body: &Body) -> Result<(), NoMemory>
         requires { self.old.form ≡ None }
         ensures { OnOk result ((x : Focus) × Shows body.now x × IsHolding self.old.values.items x self.new) }
     {
@@ -176,7 +176,7 @@ impl Hand {
     }
 
     /// Puts the expression at a place of a list at hand; answers whether there is one.
-    pub fn hold_item(&mut self, list: &Exprs, at: usize) -> Result<bool, NoMemory>
+    pub(crate) fn hold_item(&mut self, list: &Exprs, at: usize) -> Result<bool, NoMemory>
         requires { self.old.form ≡ None }
         ensures { IfOk result (λ there. IsHeld (slice_get list.now at) self.old there self.new) }
     {
@@ -191,7 +191,12 @@ impl Hand {
     }
 
     /// Puts the expression at a place of a list at hand for some of the last values.
-    pub fn next_item(&mut self, count: usize, list: &Exprs, at: usize) -> Result<(), NoMemory>
+    pub(crate) fn next_item(
+        &mut self,
+        count: usize,
+        list: &Exprs,
+        at: usize,
+    ) -> Result<(), NoMemory>
         requires free { self.old.form ≡ None }
         requires enough { count ≤ length self.old.values.items }
         requires within { at < length list.now }
@@ -203,7 +208,7 @@ impl Hand {
     }
 
     /// Puts a copy of an expression at hand for the last value.
-    pub fn next_copy(&mut self, expr: &Source) -> Result<(), NoMemory>
+    pub(crate) fn next_copy(&mut self, expr: &Source) -> Result<(), NoMemory>
         requires free { self.old.form ≡ None }
         requires enough { 1 ≤ length self.old.values.items }
         ensures { OnOk result (IsHeldFor 1 expr.now self.old self.new) }
@@ -213,7 +218,7 @@ impl Hand {
     }
 
     /// Puts the operand at a place at hand; answers whether there is one.
-    pub fn hold_operand(&mut self, expr: &Expr, at: usize) -> Result<bool, NoMemory>
+    pub(crate) fn hold_operand(&mut self, expr: &Expr, at: usize) -> Result<bool, NoMemory>
         requires { self.old.form ≡ None }
         ensures { IfOk result (λ there. IsHeld (slice_get (operands (out-Expr expr.now)) at) self.old there self.new) }
     {

@@ -8,7 +8,7 @@ use ff_tree::{Body, Expr, Lit};
 use ff_value::{NoMemory, Val};
 
 /// The value of a literal.
-pub fn literal(lit: &Lit) -> Result<Val, NoMemory>
+pub(crate) fn literal(lit: &Lit) -> Result<Val, NoMemory>
     ensures { IfOk result (λ v. v ≡ the_literal lit.now) }
 {
     match lit {
@@ -20,7 +20,7 @@ pub fn literal(lit: &Lit) -> Result<Val, NoMemory>
 }
 
 /// A body as the part at hand. Its one refusal is a count of owners that is full.
-pub fn focus_on_body(body: &Body) -> Result<Focus, NoMemory>
+pub(crate) fn focus_on_body(body: &Body) -> Result<Focus, NoMemory>
     ensures { IfOk result (Shows body.now) }
 {
     match body.get() {

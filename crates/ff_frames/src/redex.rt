@@ -40,7 +40,7 @@ pub enum Redex<'a> {
 }
 
 /// The redex that an expression is as it stands.
-pub fn read_form(form: &Expr) -> Redex<'_>
+pub(crate) fn read_form(form: &Expr) -> Redex<'_>
     requires { IsRow (out-Expr form.now) }
     ensures { IsRedexOf (named result) (layer (out-Expr form.now)) }
 {
@@ -54,7 +54,7 @@ pub fn read_form(form: &Expr) -> Redex<'_>
 }
 
 /// The redex that the values of a frame and the last one complete with it.
-pub fn read_frame<'a>(head: &'a Head, values: &'a [Val]) -> Redex<'a>
+pub(crate) fn read_frame<'a>(head: &'a Head, values: &'a [Val]) -> Redex<'a>
     requires { 0 < length values.now }
     ensures { (vs : List Value) (v : Value) → values.now ≡ vs ++ v ∷ [] → IsFull (with_values head.now vs) → (a : ActId) → IsRedexOf (named result) (wrap (with_values head.now vs) a (Done v)) }
 {

@@ -18,7 +18,7 @@ use ff_value::{NoMemory, Val};
 
 /// Puts what stands for a form that is a redex which no store decides: the test of the `if` that it
 /// becomes, or else `null`. Nothing is at hand before.
-pub fn put_form(form: Source, heads: &mut Vec<Head>, hand: &mut Hand) -> Result<(), NoMemory>
+pub(crate) fn put_form(form: Source, heads: &mut Vec<Head>, hand: &mut Hand) -> Result<(), NoMemory>
     requires row { IsRow (out-Expr form) }
     requires local { IsLocal (layer (out-Expr form)) }
     requires free { hand.old.form ≡ None }
@@ -49,7 +49,7 @@ fn hold_test(hand: &mut Hand, form: &Expr) -> Result<bool, NoMemory>
 
 /// Puts the next part of a `do` or of a loop at hand for the value there, with its frame; answers
 /// whether there is one. If not, nothing changes.
-pub fn turn(head: &mut Head, hand: &mut Hand) -> Result<bool, NoMemory>
+pub(crate) fn turn(head: &mut Head, hand: &mut Hand) -> Result<bool, NoMemory>
     requires ending { IsEnding head.old }
     requires free { hand.old.form ≡ None }
     requires value { held head.old < length hand.old.values.items }
@@ -113,7 +113,7 @@ fn rest_of(parts: &Exprs, at: usize) -> Result<Head, NoMemory>
 }
 
 /// Puts the branch of an `if`, or of a form that becomes one, whose test is evaluated.
-pub fn put_branch(
+pub(crate) fn put_branch(
     form: Source,
     yes: bool,
     heads: &mut Vec<Head>,

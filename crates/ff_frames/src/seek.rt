@@ -68,7 +68,7 @@ fn step(heads: &mut Vec<Head>, hand: &mut Hand) -> Result<bool, NoMemory>
 }
 
 /// Walks from the part at hand to the redex.
-pub fn seek(heads: &mut Vec<Head>, hand: &mut Hand) -> Result<(), NoMemory>
+pub(crate) fn seek(heads: &mut Vec<Head>, hand: &mut Hand) -> Result<(), NoMemory>
     requires laid { IsLaid heads.old.items hand.old }
     requires fit { AllByRecursion IsFit heads.old.items }
     requires settled { IsSettled (at_hand heads.old.items hand.old) }

@@ -7,7 +7,7 @@ use std::alloc::Global;
 use std::marker::Model;
 
 /// Where an expression stands: by itself, or at a place in a list.
-pub enum Place {
+pub(crate) enum Place {
     Body(Body),
     Item(Exprs, usize),
 }
@@ -24,7 +24,7 @@ impl Drop for Place {
 
 /// An expression of a script, held by a reference to where it stands. Contracts see the expression.
 #[derive(Drop)]
-pub struct Source {
+pub(crate) struct Source {
     place: Place,
 }
 
@@ -44,7 +44,7 @@ impl Model for Source {
 
 impl Source {
     /// A body's expression. Its one refusal is a count of owners that is full.
-    pub fn of(body: &Body) -> Result<Source, NoMemory>
+    pub(crate) fn of(body: &Body) -> Result<Source, NoMemory>
         ensures { IfOk result (λ s. s ≡ body.now) }
     {
         Ok(Source {
@@ -53,7 +53,7 @@ impl Source {
     }
 
     /// The expression at a place of a list. Its one refusal is a count of owners that is full.
-    pub fn at(list: &Exprs, at: usize) -> Result<Source, NoMemory>
+    pub(crate) fn at(list: &Exprs, at: usize) -> Result<Source, NoMemory>
         requires { at < length list.now }
         ensures { IfOk result (λ s. slice_get list.now at ≡ Some s) }
     {
@@ -62,7 +62,7 @@ impl Source {
     }
 
     /// An expression that stands nowhere yet.
-    pub fn made(alloc: Global, expr: Expr) -> Result<Source, NoMemory>
+    pub(crate) fn made(alloc: Global, expr: Expr) -> Result<Source, NoMemory>
         ensures { IfOk result (λ s. s ≡ expr) }
     {
         Ok(Source {
@@ -71,7 +71,7 @@ impl Source {
     }
 
     /// The expression, lent.
-    pub fn get(&self) -> &Expr
+    pub(crate) fn get(&self) -> &Expr
         ensures { result.now ≡ self.now }
     {
         match &self.place {
@@ -81,7 +81,7 @@ impl Source {
     }
 
     /// An equal expression. Its one refusal is a count of owners that is full.
-    pub fn copy(&self) -> Result<Source, NoMemory>
+    pub(crate) fn copy(&self) -> Result<Source, NoMemory>
         ensures { IfOk result (λ s. s ≡ self.now) }
     {
         let place = match &self.place {

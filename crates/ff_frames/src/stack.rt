@@ -34,11 +34,11 @@ use std::alloc::Global;
 /// A runtime expression as what stands around the part at hand, that part with the values of all
 /// frames, the innermost activation, and how many calls stand around.
 #[derive(Drop)]
-pub struct Stack {
-    pub heads: Vec<Head>,
-    pub hand: Hand,
-    pub act: ActId,
-    pub depth: u32,
+pub(crate) struct Stack {
+    pub(crate) heads: Vec<Head>,
+    pub(crate) hand: Hand,
+    pub(crate) act: ActId,
+    pub(crate) depth: u32,
 }
 
 /// The frame around the one argument of a function. Its form gives only its kind: the function's
@@ -65,7 +65,7 @@ fn form_of(frame: Head) -> Source
 
 impl Stack {
     /// The stack of `null`.
-    pub fn empty(alloc: Global) -> Stack
+    pub(crate) fn empty(alloc: Global) -> Stack
         ensures valid { IsValid result }
         ensures null { evaluation result ≡ emptied }
     {
@@ -90,7 +90,7 @@ impl Stack {
     }
 
     /// The stack of an expression that runs in an activation.
-    pub fn started(alloc: Global, body: &Body, act: ActId) -> Result<Stack, NoMemory>
+    pub(crate) fn started(alloc: Global, body: &Body, act: ActId) -> Result<Stack, NoMemory>
         ensures is { IfOk result (λ s. evaluation s ≡ record { base = act; expr = whole body.now }) }
         ensures valid { IfOk result IsValid }
     {
@@ -101,7 +101,12 @@ impl Stack {
     }
 
     /// The stack of a call of a function with one argument.
-    pub fn called(alloc: Global, code: &Code, arg: &Val, act: ActId) -> Result<Stack, NoMemory>
+    pub(crate) fn called(
+        alloc: Global,
+        code: &Code,
+        arg: &Val,
+        act: ActId,
+    ) -> Result<Stack, NoMemory>
         ensures is { IfOk result (λ s. evaluation s ≡ record { base = act; expr = Apply (Done (val.Code code.now)) (more (Done arg.now) none) }) }
         ensures valid { IfOk result IsValid }
     {
@@ -115,7 +120,7 @@ impl Stack {
     }
 
     /// An equal stack.
-    pub fn copied(&self, alloc: Global) -> Result<Stack, NoMemory>
+    pub(crate) fn copied(&self, alloc: Global) -> Result<Stack, NoMemory>
         requires { IsValid self.now }
         ensures same { IfOk result (λ s. evaluation s ≡ evaluation self.now) }
         ensures valid { IfOk result IsValid }
@@ -217,7 +222,7 @@ impl Stack {
     }
 
     /// Puts a call that runs in an activation of its own for the redex.
-    pub fn enter(&mut self, act: ActId, body: &Body) -> Result<(), NoMemory>
+    pub(crate) fn enter(&mut self, act: ActId, body: &Body) -> Result<(), NoMemory>
         requires valid { IsValid self.old }
         requires open { is_value (evaluation self.old).expr ≡ false }
         requires shallow { insides (evaluation self.old).expr < MOST_CALLS }
@@ -233,7 +238,7 @@ impl Stack {
     }
 
     /// Puts a value for the redex.
-    pub fn give(&mut self, value: Val) -> Result<(), NoMemory>
+    pub(crate) fn give(&mut self, value: Val) -> Result<(), NoMemory>
         requires valid { IsValid self.old }
         requires open { is_value (evaluation self.old).expr ≡ false }
         ensures rewrites { OnOk result (evaluation self.new ≡ rewritten_in (λ _. Done value) (evaluation self.old)) }
@@ -245,7 +250,7 @@ impl Stack {
     }
 
     /// Puts a copy of a value for the redex.
-    pub fn give_copy(&mut self, value: &Val) -> Result<(), NoMemory>
+    pub(crate) fn give_copy(&mut self, value: &Val) -> Result<(), NoMemory>
         requires valid { IsValid self.old }
         requires open { is_value (evaluation self.old).expr ≡ false }
         ensures rewrites { OnOk result (evaluation self.new ≡ rewritten_in (λ _. Done value.now) (evaluation self.old)) }
@@ -257,7 +262,7 @@ impl Stack {
     }
 
     /// Puts the value of a `let` or `set` for it.
-    pub fn keep(&mut self) -> Result<(), NoMemory>
+    pub(crate) fn keep(&mut self) -> Result<(), NoMemory>
         requires valid { IsValid self.old }
         requires open { is_value (evaluation self.old).expr ≡ false }
         requires binding { IsBinding (redex (evaluation self.old).expr) }
@@ -269,7 +274,7 @@ impl Stack {
     }
 
     /// Reduces a redex that no store decides.
-    pub fn reduce(&mut self) -> Result<(), NoMemory>
+    pub(crate) fn reduce(&mut self) -> Result<(), NoMemory>
         requires valid { IsValid self.old }
         requires open { is_value (evaluation self.old).expr ≡ false }
         requires local { IsLocal (redex (evaluation self.old).expr) }
@@ -317,7 +322,7 @@ impl Stack {
     }
 
     /// Takes a branch of an `if` whose test is evaluated.
-    pub fn choose(&mut self, yes: bool) -> Result<(), NoMemory>
+    pub(crate) fn choose(&mut self, yes: bool) -> Result<(), NoMemory>
         requires valid { IsValid self.old }
         requires open { is_value (evaluation self.old).expr ≡ false }
         requires test { IsTest (redex (evaluation self.old).expr) }
@@ -337,7 +342,7 @@ impl Stack {
     }
 
     /// The value, where the expression is one.
-    pub fn value(&self) -> Option<&Val>
+    pub(crate) fn value(&self) -> Option<&Val>
         requires { IsValid self.now }
         ensures { MatchOption result (is_value (evaluation self.now).expr ≡ false) (λ v. (evaluation self.now).expr ≡ Done v.now) }
     {
@@ -348,7 +353,7 @@ impl Stack {
     }
 
     /// The redex.
-    pub fn next(&self) -> Redex<'_>
+    pub(crate) fn next(&self) -> Redex<'_>
         requires valid { IsValid self.now }
         requires open { is_value (evaluation self.now).expr ≡ false }
         ensures { IsRedexOf (named result) (redex (evaluation self.now).expr) }

@@ -3,7 +3,7 @@
 ghost use Rattle.std.specs.Prelude.{◌≡◌, ◌<◌};
 
 use super::given::text_of;
-use ff_cow::{Cell, CowVec, MOST_CELLS, NoMemory, PushFail};
+use ff_cow::{Cell, CowVec, Edit, MOST_CELLS, NoMemory, PushFail};
 use ff_steps::Steps;
 use std::alloc::{AllocError, Global};
 use std::io;
@@ -19,6 +19,20 @@ impl<C: Ledger> Cell<C> for Number {
     fn copy(&self, copies: &mut Steps<C>) -> Result<Number, NoMemory> {
         copies.tick();
         Ok(Number { value: self.value })
+    }
+}
+
+/// The change of a number, where it lies, into another one.
+#[derive(Drop)]
+struct Become {
+    value: u32,
+}
+
+impl Edit<Number> for Become {
+    ghost edited = { λ change number. record number { value = change.value } };
+
+    fn edit(self, cell: &mut Number) {
+        cell.value = self.value;
     }
 }
 
@@ -75,7 +89,8 @@ fn counted_up<C: Ledger>(
     Ok(list)
 }
 
-/// The list of the numbers 1, 2 and 3, and a fork of it whose second cell is 9.
+/// The list of the numbers 1, 2 and 3, and a fork of it whose second cell is 9, and whose third one
+/// became 8 where it lies.
 fn number_lists<C: Ledger>(
     alloc: Global,
     blank: Blank,
@@ -91,7 +106,12 @@ fn number_lists<C: Ledger>(
             return Err(AllocError);
         };
     }
-    let fork = fork_with(&list, 1, Number { value: 9 }, &mut copies)?;
+    let mut fork = fork_with(&list, 1, Number { value: 9 }, &mut copies)?;
+    if fork.len() == 3 {
+        let Ok(()) = fork.edit(2, Become { value: 8 }, &mut copies) else {
+            return Err(AllocError);
+        };
+    }
     Ok((list, fork))
 }
 
@@ -146,7 +166,7 @@ fn show_numbers(rt: &HostRuntime) -> io::Result<()> {
     let numbers = numbers_of(rt.alloc(), &list)?;
     let others = numbers_of(rt.alloc(), &fork)?;
     println!(rt; "a list of numbers: {numbers:?}")?;
-    println!(rt; "its fork, whose second cell was set to 9: {others:?}")
+    println!(rt; "its fork, whose second cell was set to 9, and the third changed: {others:?}")
 }
 
 fn show_words(rt: &HostRuntime) -> io::Result<()> {

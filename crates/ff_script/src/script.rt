@@ -79,14 +79,13 @@ fn reduce(alloc: Global, control: &mut Control, store: &mut Store) -> Result<(),
             let yes = is_true(test);
             control.choose(alloc, yes)
         }
-        Redex::Var(name) => {
-            let value = store.get(control.act(), name)?;
-            control.give(alloc, value)
-        }
+        Redex::Var(name) => match store.get(control.act(), name) {
+            Some(value) => control.give_copy(alloc, value),
+            None => control.give(alloc, Val::Null),
+        },
         Redex::Let(name, value) | Redex::Set(name, value) => {
             store.set(control.act(), name, value)?;
-            let value = value.copy()?;
-            control.give(alloc, value)
+            control.keep(alloc)
         }
         Redex::Make(params, body) => {
             let code = code(params, body, control.act())?;

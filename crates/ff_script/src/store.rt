@@ -33,15 +33,12 @@ impl Store {
         })
     }
 
-    /// The value of a variable.
-    pub fn get(&self, act: ActId, name: &Name) -> Result<Val, NoMemory> {
+    /// The value of a variable, if the activation has one.
+    pub fn get(&self, act: ActId, name: &Name) -> Option<&Val> {
         if is_function(name) {
-            return self.function.copy();
+            return Some(&self.function);
         }
-        match self.values.get(act.0 as usize) {
-            Some(value) => value.copy(),
-            None => Ok(Val::Null),
-        }
+        self.values.get(act.0 as usize)
     }
 
     /// Puts the value of a variable.
