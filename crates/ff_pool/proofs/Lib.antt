@@ -6,5 +6,6 @@ pub mod Forking
 pub mod Offering
 pub mod Gathering
 pub mod Reading
+pub mod Waiting
 pub mod Onward
 pub mod Playing

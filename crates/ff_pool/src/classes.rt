@@ -52,8 +52,8 @@ fn keep_together(leaders: &[usize], offers: &[Option<Input>], k: usize, l: usize
     leaders[k] == leaders[l] && same_offer(&offers[k], &offers[l])
 }
 
-/// Whether two offers are equal.
-fn same_offer(a: &Option<Input>, b: &Option<Input>) -> bool
+/// Whether two offers are equal, with the tags of their inputs.
+pub fn same_offer(a: &Option<Input>, b: &Option<Input>) -> bool
     ensures { result ≡ option_eq same_input a.now b.now }
 {
     match a {

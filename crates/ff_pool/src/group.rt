@@ -5,6 +5,7 @@ ghost use Rattle.ff_core.specs.Copies.{turning};
 ghost use Rattle.ff_core.specs.declared.browser.TheConstants.{MOST_BUDGET};
 ghost use Rattle.ff_pool.specs.Heads.{new_head, step_of, step_head, offer_head, head_works, head_turns};
 
+use crate::inbox::Inbox;
 use ff_core::{Browser, NoMemory};
 use ff_steps::Steps;
 use ff_value::{Input, Out};
@@ -15,9 +16,8 @@ use std::sync::ledger::Ledger;
 /// A browser, and the inputs that wait for it in order.
 #[derive(Drop)]
 pub(crate) struct Group {
-    alloc: Global,
     browser: Browser,
-    inbox: Vec<Input>,
+    inbox: Inbox,
 }
 
 impl Model for Group {
@@ -27,7 +27,7 @@ impl Model for Group {
 
     ghost coded = { coded_head };
 
-    ghost view = { λ g. record { state = g.browser; inbox = g.inbox.items } };
+    ghost view = { λ g. record { state = g.browser; inbox = g.inbox } };
 }
 
 impl Group {
@@ -39,9 +39,8 @@ impl Group {
         ensures { result ≡ new_head fuel }
     {
         Group {
-            alloc,
             browser: Browser::new(alloc, fuel),
-            inbox: Vec::new(alloc),
+            inbox: Inbox::new(alloc),
         }
     }
 
@@ -52,9 +51,8 @@ impl Group {
     {
         let browser = self.browser.fork(copies)?;
         Ok(Group {
-            alloc: self.alloc,
             browser,
-            inbox: inputs_again(self.alloc, self.inbox.as_slice())?,
+            inbox: self.inbox.fork(copies)?,
         })
     }
 
@@ -69,8 +67,7 @@ impl Group {
     pub(crate) fn offer(&mut self, input: Input) -> Result<(), NoMemory>
         ensures { OnOk result (self.new ≡ offer_head self.old (Some input)) }
     {
-        self.inbox.push(input)?;
-        Ok(())
+        self.inbox.push(input)
     }
 
     /// One step: a quiet browser takes the first input that waits, if there is one, and any other
@@ -93,21 +90,9 @@ impl Group {
         if !self.browser.quiet() {
             return self.browser.turn(outs, copies, turns);
         }
-        if self.inbox.is_empty() {
-            return Ok(());
+        match self.inbox.take_first()? {
+            Some(input) => self.browser.accept(&input, outs, copies),
+            None => Ok(()),
         }
-        let input = self.inbox.remove(0);
-        self.browser.accept(&input, outs, copies)
     }
-}
-
-/// The same inputs once more.
-fn inputs_again(alloc: Global, inputs: &[Input]) -> Result<Vec<Input>, NoMemory>
-    ensures { IfOk result (λ copies. copies.items ≡ inputs.now) }
-{
-    let mut copies = Vec::new(alloc);
-    for input in inputs {
-        copies.push(input.copy()?)?;
-    }
-    Ok(copies)
 }

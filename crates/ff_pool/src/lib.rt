@@ -18,11 +18,13 @@ mod classes;
 mod drain;
 mod event;
 mod group;
+mod inbox;
 mod outs;
 mod play;
 mod pool;
 mod steps;
 
+pub use classes::same_offer;
 pub use event::Event;
 pub use ff_core::NoMemory;
 pub use pool::Pool;
