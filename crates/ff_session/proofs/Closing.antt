@@ -339,6 +339,26 @@ module _ {X : Type 0} {Given : List ℕ → Result (Option X) TraceFault → Typ
         | inr e ↦ inr e
       ]
 
+-- what became of a closing text that isn't there
+none_closed : (writes : ℕ) (end : End TraceFault) → Closes end status.Done [] [] writes writes (status_as end status.Done)
+none_closed writes Done = Closes.closed tt refl
+none_closed writes (Bad line) = Closes.closed tt refl
+none_closed writes ReadFault = Closes.closed tt refl
+none_closed writes WriteFault = Closes.failed (λ is. is) refl
+none_closed writes NoMemory = Closes.failed (λ is. is) refl
+
+-- a command that puts no closing text and ends as done
+pub unclosed : {X : Type 0} {Given : List ℕ → Result (Option X) TraceFault → Type 0} (once : (line : List ℕ) (a b : Result (Option X) TraceFault) → Given line a → Given line b → a ≡ b) (owed : Duty X)
+    {turns : List X → X → ℕ} {IsAt : List X → Type 0} {log_before log_now : Option (List Piece)} {rest_before rest_now : Option (List ℕ)} {turns_before turns_now : ℕ} (end : End TraceFault)
+    (streams : Streams Given owed.entry turns IsAt log_before log_now rest_before rest_now turns_before turns_now end)
+    → ((items : List X) → stream.turns_of turns items ≡ owed.turns items) → ((whole : Bool) (items : List X) → owed.text whole items ≡ stream.text_of owed.entry items)
+    → ((items : List X) → status.Done ≡ owed.good items)
+    → (reads_before reads_now writes_before writes_now : ℕ) → turns_before ≤ turns_now → (end ≡ ReadFault → Rose reads_before reads_now) → (end ≡ WriteFault → Rose writes_before writes_now) → writes_before ≤ writes_now
+    → Exchanged Given owed (told_of log_before rest_before reads_before writes_before) (told_of log_now rest_now reads_now writes_now) turns_before turns_now (status_as end status.Done)
+unclosed once owed {log_now = log_now} end streams turns_are text_is good_is reads_before reads_now writes_before writes_now later read_fault write_fault later_writes =
+    exchanged once owed end streams turns_are (λ whole items. []) (λ whole items. text_is whole items ∙ sym (append-nil (stream.text_of owed.entry items)))
+    status.Done tt [] (λ ended items at. (refl, good_is items)) [] tt log_now (Adds-nil log_now) (status_as end status.Done) reads_before reads_now writes_before writes_now writes_now later read_fault write_fault later_writes (omega arith) (none_closed writes_now end)
+
 -- what a port did in a closing text that was put
 pub put_closed : {T E : Type 0} (end : End TraceFault) (good : Status) (text : List ℕ) (log_before log_now : Option (List Piece)) (before now : ℕ) (r : Result T E) (put : Puts log_before log_now text r)
     → IsEnded end → (answer : T) → r ≡ Ok answer → IsClosed end good text log_before log_now before now (status_as end good)

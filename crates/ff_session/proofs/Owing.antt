@@ -4,7 +4,6 @@ use Rattle.std.proofs.lemmas.Grind.{flat_map-append}
 use Rattle.std.proofs.lemmas.List.Concat.{flat_map-cons}
 use Rattle.ff_io.specs.Counts.{Rose}
 use Rattle.ff_io.specs.Pieces.{Piece}
-use Rattle.ff_io.proofs.Joins.{Adds-nil}
 use Rattle.ff_reactive.specs.Runs.{work_plain}
 use Rattle.ff_reactive.proofs.Runs.{work_plain_start, work_plain_more}
 use Rattle.ff_reactive.proofs.Sharing.{work_start, work_more}
@@ -32,9 +31,7 @@ use Rattle.ff_session.specs.Multi.{seen_by, copies_entry, copies_turns, multi_tu
 use Rattle.ff_session.specs.Works.{text_for, turns_for, entry_for, entry_turns, duty, Exchanged, status_as}
 use Rattle.ff_session.specs.declared.work.Work.{Work}
 use Rattle.ff_session.specs.declared.work.Work.TheVariants.{Multi, Plain, Format}
-use Rattle.ff_session.proofs.Closing as closing
-use Rattle.ff_session.specs.Closing.{Closes}
-use Rattle.ff_session.proofs.Closing.{told_of}
+use Rattle.ff_session.proofs.Closing.{told_of, unclosed}
 
 -- the text for inputs is that of one after another
 pub same_text : (work : Work) (p : Assignment) (is : List Input) → owed.text_of (entry_for work p) is ≡ text_for work p is
@@ -53,17 +50,8 @@ same_turns Format p is = turns_by_steps no_turns (λ js. 0) refl (λ js i. omega
 
 module _ {IsAt : List Input → Type 0} {log_before log_now : Option (List Piece)} {rest_before rest_now : Option (List ℕ)} {turns_before turns_now : ℕ} (work : Work) (p : Assignment) (end : End TraceFault)
     (streams : Streams (Gives p.order) (entry_for work p) (entry_turns work p) IsAt log_before log_now rest_before rest_now turns_before turns_now end) where
-  -- what became of a closing text that isn't there
-  none_closed : (writes : ℕ) (e : End TraceFault) → Closes e Done [] [] writes writes (status_as e Done)
-  none_closed writes ended.Done = Closes.closed tt refl
-  none_closed writes (ended.Bad line) = Closes.closed tt refl
-  none_closed writes ended.ReadFault = Closes.closed tt refl
-  none_closed writes ended.WriteFault = Closes.failed (λ is. is) refl
-  none_closed writes ended.NoMemory = Closes.failed (λ is. is) refl
-
   -- the work by its loop
   pub exchanged : (reads_before reads_now writes_before writes_now : ℕ) → turns_before ≤ turns_now → (end ≡ ended.ReadFault → Rose reads_before reads_now) → (end ≡ ended.WriteFault → Rose writes_before writes_now) → writes_before ≤ writes_now
       → Exchanged (Gives p.order) (duty work p) (told_of log_before rest_before reads_before writes_before) (told_of log_now rest_now reads_now writes_now) turns_before turns_now (status_as end Done)
   exchanged reads_before reads_now writes_before writes_now later read_fault write_fault later_writes =
-      closing.exchanged (gives_once p.order) (duty work p) end streams (same_turns work p) (λ whole is. []) (λ whole is. sym (same_text work p is) ∙ sym (append-nil (owed.text_of (entry_for work p) is)))
-      Done tt [] (λ ended is at. (refl, refl)) [] tt log_now (Adds-nil log_now) (status_as end Done) reads_before reads_now writes_before writes_now writes_now later read_fault write_fault later_writes (omega arith) (none_closed writes_now end)
+      unclosed (gives_once p.order) (duty work p) end streams (same_turns work p) (λ whole is. sym (same_text work p is)) (λ is. refl) reads_before reads_now writes_before writes_now later read_fault write_fault later_writes

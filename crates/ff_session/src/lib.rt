@@ -24,5 +24,6 @@ pub use law::{
 pub use multi::{Copies, walk_copies};
 pub use offered::{new_pool, take_offers};
 pub use plain::Plain;
+pub use printing::print_level;
 pub use splitting::{content, is_headed, split_line};
 pub use work::{Work, walk};
