@@ -10,7 +10,7 @@ use Rattle.ff_gen.specs.declared.generator.TheConstants.{MOST_LINES}
 use Rattle.ff_session.specs.declared.work.Work.TheVariants.{Multi, Plain, Format}
 use Rattle.ff_run.specs.Words.{word_of, dash, Spell, MayFollow, AreUnder, IsSlice, Asks, AreCommand, NeedsPolicy}
 use Rattle.ff_run.specs.declared.words.Command.{Command}
-use Rattle.ff_run.specs.declared.words.Command.TheVariants.{Audit, Check, Upgrade, Trace, Generate}
+use Rattle.ff_run.specs.declared.words.Command.TheVariants.{Audit, Travel, Check, Upgrade, Trace, Generate}
 
 -- ---- what stands in words
 
@@ -34,18 +34,20 @@ bare (Generate start inputs) = Generate 0 0
 bare Check = Check
 bare Upgrade = Upgrade
 bare Audit = Audit
+bare Travel = Travel
 bare (Trace work) = Trace work
 
 -- the command of a word
 abbrev command_at : List ℕ → Command
 command_at word =
     cond (bytes_eq word (codes "check")) Check (cond (bytes_eq word (codes "multi")) (Trace Multi) (cond (bytes_eq word (codes "plain")) (Trace Plain)
-    (cond (bytes_eq word (codes "upgrade")) Upgrade (cond (bytes_eq word (codes "gen")) (Generate 0 0) (cond (bytes_eq word (codes "audit")) Audit (Trace Format))))))
+    (cond (bytes_eq word (codes "upgrade")) Upgrade (cond (bytes_eq word (codes "gen")) (Generate 0 0) (cond (bytes_eq word (codes "audit")) Audit (cond (bytes_eq word (codes "travel")) Travel (Trace Format)))))))
 
 by_word : (c : Command) → command_at (word_of c) ≡ bare c
 by_word Check = refl
 by_word Upgrade = refl
 by_word Audit = refl
+by_word Travel = refl
 by_word (Trace Multi) = refl
 by_word (Trace Plain) = refl
 by_word (Trace Format) = refl
@@ -60,12 +62,14 @@ IsGenerate (Generate start inputs) = ⊤
 IsGenerate Check = ⊥
 IsGenerate Upgrade = ⊥
 IsGenerate Audit = ⊥
+IsGenerate Travel = ⊥
 IsGenerate (Trace work) = ⊥
 
 not_generate : (c : Command) (start inputs : ℕ) → bare (Generate start inputs) ≡ bare c → NeedsPolicy c → ⊥
 not_generate Check start inputs same needs = subst IsGenerate same tt
 not_generate Upgrade start inputs same needs = subst IsGenerate same tt
 not_generate Audit start inputs same needs = subst IsGenerate same tt
+not_generate Travel start inputs same needs = subst IsGenerate same tt
 not_generate (Trace work) start inputs same needs = subst IsGenerate same tt
 not_generate (Generate other more) start inputs same needs = needs
 
@@ -78,6 +82,7 @@ kinds : (c : Command) → Kinds c
 kinds Check = Kinds.under Check tt refl (λ words name spelled. spelled)
 kinds Upgrade = Kinds.under Upgrade tt refl (λ words name spelled. spelled)
 kinds Audit = Kinds.under Audit tt refl (λ words name spelled. spelled)
+kinds Travel = Kinds.under Travel tt refl (λ words name spelled. spelled)
 kinds (Trace work) = Kinds.under (Trace work) tt refl (λ words name spelled. spelled)
 kinds (Generate start inputs) = Kinds.numbers start inputs
 
@@ -110,6 +115,7 @@ asks_once words c d name other first second = spelled_once (map string_bytes wor
 pub spell_two : (word name : List ℕ) (c : Command) → word_of c ≡ word → NeedsPolicy c → (name ≡ [] → ⊥) → Spell (word ∷ name ∷ []) c name
 spell_two word name Check is needs some = record { more = []; words_are = ap (λ w. w ∷ name ∷ []) (sym is); follows = tt; named = some }
 spell_two word name Audit is needs some = record { more = []; words_are = ap (λ w. w ∷ name ∷ []) (sym is); follows = tt; named = some }
+spell_two word name Travel is needs some = record { more = []; words_are = ap (λ w. w ∷ name ∷ []) (sym is); follows = tt; named = some }
 spell_two word name Upgrade is needs some = record { more = []; words_are = ap (λ w. w ∷ name ∷ []) (sym is); follows = tt; named = some }
 spell_two word name (Trace work) is needs some = record { more = []; words_are = ap (λ w. w ∷ name ∷ []) (sym is); follows = tt; named = some }
 spell_two word name (Generate start inputs) is needs some = absurd needs
@@ -135,6 +141,7 @@ third : (c : Command) (word : List ℕ) (more : List (List ℕ)) → more ≡ wo
 third Check word more is follows needs = absurd (subst (MayFollow Check) is follows)
 third Upgrade word more is follows needs = absurd (subst (MayFollow Upgrade) is follows)
 third Audit word more is follows needs = absurd (subst (MayFollow Audit) is follows)
+third Travel word more is follows needs = absurd (subst (MayFollow Travel) is follows)
 third (Trace Multi) word more is follows needs = (refl, subst (MayFollow (Trace Multi)) is follows)
 third (Trace Plain) word more is follows needs = absurd (subst (MayFollow (Trace Plain)) is follows)
 third (Trace Format) word more is follows needs = absurd (subst (MayFollow (Trace Format)) is follows)
@@ -261,6 +268,7 @@ few_words words c name (Kinds.under b needs same unders) spelled = let u = under
     more Check (v ∷ w ∷ ws) needs' follows long = absurd follows
     more Upgrade (v ∷ w ∷ ws) needs' follows long = absurd follows
     more Audit (v ∷ w ∷ ws) needs' follows long = absurd follows
+    more Travel (v ∷ w ∷ ws) needs' follows long = absurd follows
     more (Trace Multi) (v ∷ w ∷ ws) needs' follows long = absurd follows
     more (Trace Plain) (v ∷ w ∷ ws) needs' follows long = absurd follows
     more (Trace Format) (v ∷ w ∷ ws) needs' follows long = absurd follows

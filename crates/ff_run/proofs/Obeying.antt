@@ -76,6 +76,9 @@ late before now turns_before turns_now (command.Trace work) p ShelfFault run ear
 late before now turns_before turns_now command.Audit p Usage run early = run.written
 late before now turns_before turns_now command.Audit p (Policy fault) run early = run.written
 late before now turns_before turns_now command.Audit p ShelfFault run early = run.written
+late before now turns_before turns_now command.Travel p Usage run early = run.written
+late before now turns_before turns_now command.Travel p (Policy fault) run early = run.written
+late before now turns_before turns_now command.Travel p ShelfFault run early = run.written
 
 module _ (shelf shelf_now : ShelfTold) (name : List ℕ) (found : Result Assignment Status)
     (accepts : (p : Assignment) → IsKnown shelf name → NamesPolicy shelf name p → (found ≡ Ok p) ⊎ IsOutside found)
@@ -170,6 +173,8 @@ unfailing (command.Trace work) name shelf shelf_now before now turns_before turn
 unfailing (command.Trace work) name shelf shelf_now before now turns_before turns_now WriteFault obeys fine = fine.writes (obeys.held.write_fault refl)
 unfailing command.Audit name shelf shelf_now before now turns_before turns_now ReadFault obeys fine = fine.reads (obeys.held.read_fault refl)
 unfailing command.Audit name shelf shelf_now before now turns_before turns_now WriteFault obeys fine = fine.writes (obeys.held.write_fault refl)
+unfailing command.Travel name shelf shelf_now before now turns_before turns_now ReadFault obeys fine = fine.reads (obeys.held.read_fault refl)
+unfailing command.Travel name shelf shelf_now before now turns_before turns_now WriteFault obeys fine = fine.writes (obeys.held.write_fault refl)
 
 -- a fetch of the policy's file failed where the status says so alone
 pub fetched_so : (name : List ℕ) (shelf shelf_now : ShelfTold) (found : Result Assignment Status) (status : Status) → found ≡ Err status → IsFetchedOrFails name shelf shelf_now found → FetchedOrFailed name shelf shelf_now status

@@ -13,6 +13,8 @@ use Rattle.ff_status.specs.Putting.{Reported}
 use Rattle.ff_status.specs.declared.status.Status.{Status}
 use Rattle.ff_status.specs.declared.status.Status.TheVariants.{Usage, Policy, ShelfFault, NoMemory}
 use Rattle.ff_audit.specs.Audited.{audit_duty}
+use Rattle.ff_travel.specs.Giving as commands
+use Rattle.ff_travel.specs.Owed.{travel_duty}
 use Rattle.ff_run.specs.Words.{AreCommand, dash}
 use Rattle.ff_policy.specs.declared.fault.PolicyFault.{PolicyFault}
 use Rattle.ff_run.specs.Names.{FetchFailed, FetchedOrFailed, IsKnown}
@@ -36,6 +38,7 @@ Performs (command.Generate start inputs) p before now turns_before turns_now sta
 Performs command.Upgrade p before now turns_before turns_now status = Upgrades p before now turns_before turns_now status
 Performs (command.Trace work) p before now turns_before turns_now status = Exchanged (Gives p.order) (duty work p) before now turns_before turns_now status
 Performs command.Audit p before now turns_before turns_now status = Exchanged (Gives p.order) (audit_duty p) before now turns_before turns_now status
+Performs command.Travel p before now turns_before turns_now status = Exchanged (commands.Gives p.order) (travel_duty p) before now turns_before turns_now status
 
 -- a command that runs no browser
 abbrev pub RunsNone : Command → Type 0
@@ -66,11 +69,12 @@ Obeys command name shelf shelf_now before now turns_before turns_now status = Un
 abbrev pub ClaimsUnder : ShelfTold → List ℕ → Told → Told → (Assignment → List Input → List ℕ → Type 0) → Type 0
 ClaimsUnder shelf name before now claim = Under shelf name (λ p. Claims p before now (claim p))
 
--- Of a command that goes over a trace: exactly the turns were made that the items take which the
--- bytes got give, up to the first bad line.
+-- Of a command that goes over a trace, of inputs or of the commands of a travel: exactly the turns
+-- were made that the items take which the bytes got give, up to the first bad line.
 abbrev pub Counted : Command → Assignment → Told → Told → ℕ → ℕ → Type 0
 Counted (command.Trace work) p before now turns_before turns_now = Counts (Gives p.order) (duty work p) before now turns_before turns_now
 Counted command.Audit p before now turns_before turns_now = Counts (Gives p.order) (audit_duty p) before now turns_before turns_now
+Counted command.Travel p before now turns_before turns_now = Counts (commands.Gives p.order) (travel_duty p) before now turns_before turns_now
 Counted other p before now turns_before turns_now = ⊤
 
 -- Nothing failed: no fetch of the file of this name, no read and no write.

@@ -22,6 +22,7 @@ use ff_policy::Policy;
 use ff_session::walk;
 use ff_status::Status;
 use ff_steps::Steps;
+use ff_travel::travel;
 use std::alloc::Global;
 use std::sync::ledger::Ledger;
 
@@ -34,9 +35,10 @@ use std::sync::ledger::Ledger;
 /// over the trace, and writes all its lines. `fmt POLICY` writes each input of it in its canonical
 /// form. These three write the text of the lines that were got before they read further. `audit
 /// POLICY` runs both programs over the trace, and writes once reading has ended where their lines
-/// first differ, for each level: `Leaks` where some level's lines do. `check
-/// POLICY` reads no trace, and writes for each level which levels it sees; `upgrade POLICY` reads
-/// none either, and writes the policy as version 2. `gen START N` multi-executes N inputs, at most
+/// first differ, for each level: `Leaks` where some level's lines do. `travel POLICY` carries out
+/// commands in place of inputs, and writes what each `show` asks for before it reads further.
+/// `check POLICY` reads no trace, and writes for each level which levels it sees; `upgrade POLICY`
+/// reads none either, and writes the policy as version 2. `gen START N` multi-executes N inputs, at most
 /// 100,000, that are drawn from START, below 2^64, under the built-in policy, and writes how many
 /// lines and bytes each level has. POLICY is the name of a file on the shelf, of which the first
 /// 65,537 bytes count, or `-` for the built-in policy. Numbers are in canonical decimal. Every
@@ -166,6 +168,7 @@ fn perform<P: Port, C: Ledger, L: Ledger>(
         Command::Check => check(alloc, lattice, port),
         Command::Upgrade => upgrade(alloc, policy, port),
         Command::Audit => audit(alloc, policy, port, copies, turns),
+        Command::Travel => travel(alloc, policy, port, copies, turns),
         Command::Trace(work) => walk(alloc, work, policy, slice, port, copies, turns),
         Command::Generate(start, inputs) => {
             generate(alloc, policy, slice, start, inputs, port, copies, turns)

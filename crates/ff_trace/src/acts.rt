@@ -26,8 +26,8 @@ pub(crate) fn read_act(alloc: Global, items: &[Sexp]) -> Result<Act, LineFault>
     }
 }
 
-/// The kind that an item names.
-fn kind_of(item: &Sexp) -> Option<Kind>
+/// The kind that an item names, or `None` where it is no word, or that of no kind.
+pub fn kind_of(item: &Sexp) -> Option<Kind>
     ensures { result ≡ lines.kind_of item.now }
 {
     match item {

@@ -11,11 +11,13 @@ mod pieces;
 mod printing;
 mod reading;
 
+pub use acts::kind_of;
 pub use fault::LineFault;
 pub use ff_name::NoMemory;
 pub use law::{
     a_line_is_read_in_one_way, pairs_are_put_in_order, the_first_fault_of_a_line_decides,
     what_is_spelled_is_a_part,
 };
+pub use parts::number_of;
 pub use printing::{print_input, print_out};
-pub use reading::read_input;
+pub use reading::{is_silent, read_input};

@@ -36,7 +36,8 @@ pub(crate) fn read_number(item: &Sexp) -> Result<u32, LineFault>
     }
 }
 
-fn number_of(bytes: &[u8]) -> Option<u32>
+/// The number that bytes spell in canonical decimal, at most `MOST_NUMBER`, or `None`.
+pub fn number_of(bytes: &[u8]) -> Option<u32>
     ensures value { result ≡ parts.number_of bytes.now }
     ensures within { IfSome result IsNat }
 {

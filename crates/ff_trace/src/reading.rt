@@ -49,8 +49,8 @@ fn first_read(alloc: Global, line: &[u8], lattice: &Lattice) -> Result<Option<In
     }
 }
 
-/// Whether a line gives no input: blanks alone, or blanks and then `#`.
-fn is_silent(line: &[u8]) -> bool
+/// Whether a line gives nothing: blanks alone, or blanks and then `#`.
+pub fn is_silent(line: &[u8]) -> bool
     ensures { result ≡ lines.is_silent line.now }
 {
     for b in line {

@@ -42,6 +42,7 @@ fn show_bad_lines(rt: &HostRuntime) -> io::Result<()> {
     for (line, fault) in [
         (1, TraceFault::TooLong),
         (20, TraceFault::TooMuch),
+        (3, TraceFault::Command),
         (u64::MAX, TraceFault::Line(LineFault::Level)),
         (7, TraceFault::Line(LineFault::Kind)),
         (7, TraceFault::Line(LineFault::Count)),

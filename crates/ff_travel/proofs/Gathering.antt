@@ -1,0 +1,90 @@
+-- The outputs of one level after another are taken from a pool, and go behind those beside it.
+use Rattle.std.proofs.Common.{◌≡◌, ℕ, ◌+◌, ◌<◌, Bool, true, false, cond, ◌==◌, List, [], ◌++◌, length, set, refl, sym, ap, subst, ◌∙◌, append_assoc, append-nil, arith, length-set, get_or-set_same, get_or-set_other}
+use Rattle.std.proofs.lemmas.Bool.{eqb-true, eqb-false}
+use Rattle.ff_machine.specs.Machine.{reactor}
+use Rattle.ff_pool.specs.Pooled as pooled
+use Rattle.ff_pool.specs.Pooled.{Pooled, taken, copy_of}
+use Rattle.ff_reactive.specs.Worlds.{levels, emptied}
+use Rattle.ff_reactive.proofs.Worlds.{copy-take, leaders-take}
+use Rattle.ff_stream.specs.Owed.{Begins}
+use Rattle.ff_travel.specs.Beside.{put_at, under, HasGathered}
+use Rattle.ff_travel.proofs.Beside.{behind-take}
+use Rattle.ff_value.specs.declared.output.Out.{Out}
+
+-- Where the loop over the levels stands: the outputs of those below l were taken.
+pub record IsGathering (before : Pooled) (puts_before : List (List Out)) (now : Pooled) (puts_now : List (List Out)) (l : ℕ) : Type 0 where
+  pub same : under puts_now now ≡ under puts_before before
+  pub taken : (k : ℕ) → k < l → k < pooled.size now → (copy_of now k).outputs ≡ []
+  pub fuel : now.fuel ≡ before.fuel
+  pub unspent : now.spent ≡ before.spent
+  pub levels : pooled.size now ≡ pooled.size before
+  pub count : length puts_now ≡ length puts_before
+  pub more : (k : ℕ) → k < length puts_before → Begins (put_at puts_now k) (put_at puts_before k)
+
+none_below : {X : Type 0} (k : ℕ) → k < 0 → X
+none_below k lt = absurd (none k lt)
+  where
+    none : (n : ℕ) → n < 0 → ⊥
+    none n below = omega (arith, below)
+
+pub gather_start : (pool : Pooled) (puts : List (List Out)) → IsGathering pool puts pool puts 0
+gather_start pool puts = record {
+  same = refl;
+  taken = λ k lt in_it. none_below k lt;
+  fuel = refl;
+  unspent = refl;
+  levels = refl;
+  count = refl;
+  more = λ k lt. ([], sym (append-nil (put_at puts k)));
+}
+
+module _ (before : Pooled) (puts_before : List (List Out)) (now next : Pooled) (puts_now puts_next : List (List Out)) (l : ℕ) (outs : List Out)
+    (at : IsGathering before puts_before now puts_now l) (in_it : l < pooled.size now) (counts : length puts_before ≡ pooled.size before)
+    (made : next ≡ taken now l) (took : outs ≡ (copy_of now l).outputs) (laid : puts_next ≡ set puts_now l (put_at puts_now l ++ outs)) where
+  in_puts : l < length puts_now
+  in_puts = let e = at.levels in let f = at.count in omega (arith, e, f, counts, in_it)
+
+  laid_is : puts_next ≡ set puts_now l (put_at puts_now l ++ (copy_of now l).outputs)
+  laid_is = laid ∙ ap (λ os. set puts_now l (put_at puts_now l ++ os)) took
+
+  levels_are : pooled.size next ≡ pooled.size now
+  levels_are = ap pooled.size made ∙ ap length (leaders-take (reactor now.fuel) now.world l)
+
+  empty_at : (k : ℕ) (b : Bool) → (k == l) ≡ b → k < l + 1 → k < pooled.size now → (cond b (emptied (reactor now.fuel) (copy_of now k)) (copy_of now k)).outputs ≡ []
+  empty_at k true e lt below = refl
+  empty_at k false e lt below = let other = eqb-false k l e in at.taken k (omega (arith, other, lt)) below
+
+  more_at : (k : ℕ) (b : Bool) → (k == l) ≡ b → Begins (put_at puts_now k) (put_at puts_before k) → Begins (put_at (set puts_now l (put_at puts_now l ++ outs)) k) (put_at puts_before k)
+  more_at k true e begins =
+      let same = eqb-true k l e in
+      let longer : put_at (set puts_now l (put_at puts_now l ++ outs)) k ≡ put_at puts_now k ++ outs =
+      ap (λ j. put_at (set puts_now l (put_at puts_now l ++ outs)) j) same ∙ get_or-set_same puts_now l (put_at puts_now l ++ outs) [] in_puts ∙ ap (λ j. put_at puts_now j ++ outs) (sym same) in
+      (begins.0 ++ outs, longer ∙ ap (λ os. os ++ outs) begins.1 ∙ append_assoc (put_at puts_before k) begins.0 outs)
+  more_at k false e begins = (begins.0, get_or-set_other puts_now l k (put_at puts_now l ++ outs) [] (eqb-false k l e) ∙ begins.1)
+
+  -- one level more
+  pub gather_step : IsGathering before puts_before next puts_next (l + 1)
+  gather_step = record {
+    same = ap (under puts_next) made ∙ behind-take now.fuel puts_now puts_next now.world l in_puts laid_is ∙ at.same;
+    taken = λ k lt below.
+        let in_now : k < pooled.size now = let e = levels_are in omega (arith, e, below) in
+        ap (λ q. (copy_of q k).outputs) made ∙ ap (λ c. c.outputs) (copy-take (reactor now.fuel) now.world l k in_now) ∙ empty_at k (k == l) refl lt in_now;
+    fuel = ap (λ q. q.fuel) made ∙ at.fuel;
+    unspent = ap (λ q. q.spent) made ∙ at.unspent;
+    levels = levels_are ∙ at.levels;
+    count = ap length laid ∙ length-set puts_now l (put_at puts_now l ++ outs) ∙ at.count;
+    more = λ k lt. subst (λ ps. Begins (put_at ps k) (put_at puts_before k)) (sym laid) (more_at k (k == l) refl (at.more k lt));
+  }
+
+-- all levels
+pub gathered : (before : Pooled) (puts_before : List (List Out)) (now : Pooled) (puts_now : List (List Out)) (l : ℕ) → IsGathering before puts_before now puts_now l → l ≡ pooled.size before
+    → HasGathered before puts_before now puts_now
+gathered before puts_before now puts_now l at all = record {
+  same = at.same;
+  taken = λ k lt. at.taken k (let e = at.levels in omega (arith, e, all, lt)) lt;
+  fuel = at.fuel;
+  unspent = at.unspent;
+  levels = at.levels;
+  count = at.count;
+  more = at.more;
+}

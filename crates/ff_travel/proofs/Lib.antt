@@ -1,0 +1,11 @@
+pub mod Ends
+pub mod Finding
+pub mod Giving
+pub mod Force
+pub mod Naming
+pub mod Beside
+pub mod Gathering
+pub mod Cutting
+pub mod Carrying
+pub mod Worlds
+pub mod Owing

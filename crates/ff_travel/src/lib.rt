@@ -1,0 +1,29 @@
+//! Travel: a pool of browsers under commands, which turn it step by step and take steps back.
+//!
+//! A trace of commands takes the place of one of inputs. [`read_command`] says what a line of it
+//! is, and a [`Travel`] keeps the pool as it was before each command that is in force, so that
+//! `back` is as exact as it is quick. What `show` writes is read off the definitions alone: it is
+//! what a fresh replay of the commands still in force would show.
+//!
+//! What `show` writes is for whoever may see every level: the line of a class tells a level that
+//! others were offered something else.
+#![tactic(auto)]
+
+mod command;
+mod command_reader;
+mod history;
+mod kept;
+mod law;
+mod outputs;
+mod reading;
+mod showing;
+mod steps;
+mod traveller;
+
+pub use command::{Command, CommandFault, Verb};
+pub use command_reader::CommandReader;
+pub use ff_name::NoMemory;
+pub use history::Travel;
+pub use law::{a_line_is_one_command, a_turn_without_work_changes_nothing};
+pub use reading::read_command;
+pub use traveller::{Traveller, travel};
