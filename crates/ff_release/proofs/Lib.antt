@@ -1,0 +1,4 @@
+pub mod Released
+pub mod Taking
+pub mod Texts
+pub mod Owing

@@ -1,0 +1,12 @@
+//! The released run: inputs are multi-executed, but rules let a stated number of them pass to lower
+//! levels.
+#![tactic(auto)]
+
+mod law;
+mod releasing;
+mod walk;
+
+pub use ff_rules::{Release, ReleaseFail, ReleaseFault, Rule, Rules};
+pub use law::a_released_run_tells_no_more_than_is_offered;
+pub use releasing::{Releasing, Standing};
+pub use walk::release;
