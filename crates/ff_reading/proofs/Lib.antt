@@ -16,3 +16,4 @@ pub mod Shaped
 pub mod Sorts
 pub mod Sounds
 pub mod Wells
+pub mod Seen

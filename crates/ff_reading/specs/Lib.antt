@@ -1,2 +1,3 @@
 -- What this crate specifies.
 pub mod Shapes
+pub mod Seen

@@ -1,12 +1,11 @@
 //! What stands in forms beside documents and expressions: names, addresses, texts, parameters and
 //! cookie entries.
 ghost use Rattle.std.specs.Prelude.{◌≡◌, [], map};
-ghost use Rattle.std.specs.List.{list_any};
-ghost use Rattle.std.specs.Str.{bytes_eq};
 ghost use Rattle.ff_forms.specs.Grammar.{Gives, reading, a_name, a_variable, a_string, an_address, parameters, one_parameter, cookies, a_cookie, parameters_as, parameter_as, one_parameter_as, word_as, each_as, form_as, list_as, cookie_form};
 ghost use Rattle.ff_forms.specs.Heads.{cookie_word, cookie_heads};
 ghost use Rattle.ff_forms.specs.declared.heads.CookieHead.TheVariants as cookie_head;
 
+use crate::parameters::Parameters;
 use crate::shapes::{as_list, as_word, head_of};
 use crate::words::{read_address_word, read_name_word, read_variable_word};
 use ff_forms::{CookieHead, SyntaxFault};
@@ -60,15 +59,16 @@ pub(crate) fn read_parameters(alloc: Global, item: &Sexp) -> Result<Names, Synta
 fn read_each_parameter(alloc: Global, parts: &[Sexp]) -> Result<Names, SyntaxFault>
     ensures { Gives result (parameters_as [] (map reading parts.now)) }
 {
-    let mut names = Vec::new(alloc);
+    let mut names = Parameters::new(alloc);
     for part in parts {
-        names.push(read_parameter(alloc, part, names.as_slice())?)?;
+        let name = read_parameter(alloc, part, &names)?;
+        names.push(alloc, name)?;
     }
-    Ok(SharedList::from_vec(alloc, names)?)
+    Ok(names.into_list(alloc)?)
 }
 
 /// The parameter that an item is, after some that stand before it.
-fn read_parameter(alloc: Global, part: &Sexp, before: &[Name]) -> Result<Name, SyntaxFault>
+fn read_parameter(alloc: Global, part: &Sexp, before: &Parameters) -> Result<Name, SyntaxFault>
     ensures { Gives result (parameter_as before.now (reading part.now)) }
 {
     let (at, word) = as_word(part)?;
@@ -80,22 +80,16 @@ fn read_parameter_word(
     alloc: Global,
     at: u32,
     word: &[u8],
-    before: &[Name],
+    before: &Parameters,
 ) -> Result<Name, SyntaxFault>
     ensures { Gives result (parameter_as before.now (word_as at word.now)) }
 {
     let name = read_variable_word(alloc, at, word)?;
-    if is_one_of(word, before) {
+    if before.has(&name) {
         Err(SyntaxFault::Name(at))
     } else {
         Ok(name)
     }
-}
-
-fn is_one_of(word: &[u8], names: &[Name]) -> bool
-    ensures { result ≡ list_any (bytes_eq word.now) names.now }
-{
-    names.iter().any(|name| word == name.text().as_bytes())
 }
 
 /// The parameter of a handler that an item is.

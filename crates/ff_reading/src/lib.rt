@@ -4,6 +4,7 @@
 mod calls;
 mod law;
 mod leaves;
+mod parameters;
 mod reading;
 mod shapes;
 mod words;

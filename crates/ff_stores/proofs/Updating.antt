@@ -1,6 +1,7 @@
 -- What the user sees of the open windows, put one after another.
 use Rattle.std.proofs.Common.{◌≡◌, ℕ, ◌+◌, ◌<◌, ◌≤◌, Bool, true, false, cond, Some, None, List, [], ◌∷◌, ◌++◌, length, drop, get_or, slice_get, refl, sym, ap, subst, ◌∙◌, append-nil, append_assoc, arith, add-one, drop-cons, ⊎_elim}
 use Rattle.std.specs.FinSet as finset
+use Rattle.std.specs.Ordering.{nat_cmp}
 use Rattle.std.proofs.lemmas.Bool.{cases_lt}
 use Rattle.std.proofs.lemmas.Option.{get_or_from_slice_get, slice_get-get_or, slice_get_within}
 use Rattle.std.proofs.lemmas.List.{drop_all}
@@ -80,3 +81,12 @@ module _ (s : Stores) (i : ℕ) (w : WinId) (valid : IsStores s) (is : slice_get
   few_places =
       let lt = slice_get_within s.windows.opened i w is in
       let few = valid.windows.opened.few in omega (arith, lt, few)
+
+-- where nothing was changed nothing is put
+pub none_updated : (s : Stores) → s.touched ≡ finset.empty → (at : ℕ) (ws : List WinId) → updates_from s at ws ≡ []
+none_updated s none at [] = refl
+none_updated s none at (w ∷ ws) =
+    let page = (window_at s.windows w).page in
+    let rest = updates_from s (at + 1) ws in
+    let unchanged : finset.contains s.touched page.0 ≡ false = ap (λ t. finset.contains t page.0) none ∙ finset.contains-empty nat_cmp page.0 in
+    ap (λ (b : Bool). cond b (out.Updated at (nodes.shown s.nodes (page_at s.windows page).root) ∷ rest) rest) unchanged ∙ none_updated s none (at + 1) ws

@@ -1,5 +1,5 @@
 //! The pages that were changed since the browser was last quiet.
-ghost use Rattle.std.specs.Prelude.{◌≡◌, IfOk, OnOk, OnErr};
+ghost use Rattle.std.specs.Prelude.{◌≡◌, true, IfOk, OnOk, OnErr};
 ghost use Rattle.std.specs.FinSet as finset;
 
 use ff_name::NoMemory;
@@ -35,6 +35,13 @@ impl Touched {
             alloc,
             pages: Vec::new(alloc),
         }
+    }
+
+    /// Whether there are none.
+    pub(crate) fn is_empty(&self) -> bool
+        ensures { result ≡ true → self.now ≡ finset.empty }
+    {
+        self.pages.is_empty()
     }
 
     /// Whether the page is one of them.

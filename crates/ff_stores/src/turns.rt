@@ -58,12 +58,23 @@ impl Stores {
     pub fn settle(&mut self, outs: &mut Vec<Out>) -> Result<(), NoMemory>
         ensures step { Makes self.old self.new outs.old.items outs.new.items (s.settle self.old) result }
     {
-        self.put_updates(outs)?;
+        self.put_changed(outs)?;
         self.touched = Touched::new(self.alloc);
         Ok(())
     }
 
-    // Puts what the user sees of the open windows whose pages were changed.
+    // Puts what the user sees of the open windows whose pages were changed. Where none was, no
+    // window is asked.
+    fn put_changed(&self, outs: &mut Vec<Out>) -> Result<(), NoMemory>
+        ensures { Appends result outs.old.items outs.new.items (s.updates_from self.now 0 self.now.windows.opened) }
+    {
+        if self.touched.is_empty() {
+            return Ok(());
+        }
+        self.put_updates(outs)
+    }
+
+    // Puts what the user sees of the open windows whose pages were changed, window by window.
     fn put_updates(&self, outs: &mut Vec<Out>) -> Result<(), NoMemory>
         ensures { Appends result outs.old.items outs.new.items (s.updates_from self.now 0 self.now.windows.opened) }
     {

@@ -1,3 +1,4 @@
+pub mod Counted
 pub mod Halves
 pub mod Searching
 pub mod Kept

@@ -1,7 +1,8 @@
--- Queues: the two lists of one, and how many entries all have together.
-use Rattle.std.specs.Prelude.{◌≡◌, ◌≤◌, ℕ, List, length, sum_by}
+-- Queues: the two lists of one, how many entries all have together, and how many begin with a
+-- script.
+use Rattle.std.specs.Prelude.{◌≡◌, ◌≤◌, ℕ, Bool, cond, List, length, sum_by, is_some}
 use Rattle.ff_machine.specs.declared.records.Entry.{Entry}
-use Rattle.ff_machine.specs.Windows.{Windows}
+use Rattle.ff_machine.specs.Windows.{Windows, Page, first_ready}
 
 -- the first list is read from a place on; where nothing is left of it, both are empty
 pub record AreHalves (first : ℕ) (front back : List Entry) : Type 0 where
@@ -11,3 +12,11 @@ pub record AreHalves (first : ℕ) (front back : List Entry) : Type 0 where
 -- how many entries the queues of all pages have together
 abbrev pub count_entries : Windows → ℕ
 count_entries w = sum_by (λ page. length page.queue) w.pages
+
+-- 1 for what is so, and else 0
+abbrev pub one_if : Bool → ℕ
+one_if b = cond b 1 0
+
+-- how many pages have a queue that begins with a script that may run
+abbrev pub count_ready : List Page → ℕ
+count_ready pages = sum_by (λ page. one_if (is_some (first_ready page.queue))) pages

@@ -12,6 +12,7 @@
 mod activations;
 mod changes;
 mod page;
+mod pages;
 mod queue;
 mod queues;
 mod readers;

@@ -123,6 +123,9 @@ impl Windows {
     pub fn ready(&self) -> Option<PageId>
         ensures { result ≡ w.ready self.now }
     {
+        if !self.any_ready() {
+            return None;
+        }
         let opened = self.opened();
         for n in opened {
             let page = self.window(*n).page();

@@ -1,9 +1,12 @@
 //! The store of windows, pages and activations, and how it is read and changed underneath.
-ghost use Rattle.std.specs.Prelude.{◌≡◌, ◌+◌, ◌<◌, ◌≤◌, [], ◌∷◌, ◌++◌, length, filter, not, IfOk, OnOk};
+ghost use Rattle.std.specs.Prelude.{◌≡◌, ◌+◌, ◌<◌, ◌≤◌, [], ◌∷◌, ◌++◌, length, filter, not, false, is_some, IfOk, OnOk};
 ghost use Rattle.ff_machine.specs.Alone.{AreWindows};
 ghost use Rattle.ff_machine.specs.Windows as w;
+ghost use Rattle.ff_machine.specs.Windows.{first_ready};
+ghost use Rattle.ff_value.specs.declared.ids.PageId.{PageId};
 
 use crate::page::PageCell;
+use crate::pages::Pages;
 use crate::window::WinCell;
 use ff_acts::Acts;
 use ff_cow::{CowVec, Edit};
@@ -23,7 +26,7 @@ pub struct Windows {
     pub(crate) alloc: Global,
     windows: CowVec<WinCell>,
     opened: Vec<WinId>,
-    pages: CowVec<PageCell>,
+    pages: Pages,
     pub(crate) acts: Acts,
 }
 
@@ -51,7 +54,7 @@ impl Windows {
             alloc,
             windows: CowVec::new(alloc),
             opened: Vec::new(alloc),
-            pages: CowVec::new(alloc),
+            pages: Pages::new(alloc),
             acts: Acts::new(alloc),
         }
     }
@@ -105,6 +108,13 @@ impl Windows {
         ensures { result ≡ length self.now.pages }
     {
         self.pages.len()
+    }
+
+    /// Whether the queue of a page begins with a script, of any page, that of a closed window too.
+    pub(crate) fn any_ready(&self) -> bool
+        ensures none { result ≡ false → (p : PageId) → is_some (first_ready (w.page_at self.now p).queue) ≡ false }
+    {
+        self.pages.any_ready()
     }
 
     pub(crate) fn window(&self, n: WinId) -> &WinCell

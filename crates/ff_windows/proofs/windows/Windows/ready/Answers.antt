@@ -1,4 +1,4 @@
-use Rattle.std.proofs.Common.{◌≡◌, Bool, true, Some, find, get_or, map, is_some, sym, ap, subst, ◌∙◌, arith}
+use Rattle.std.proofs.Common.{◌≡◌, Bool, true, Some, find, get_or, map, is_some, refl, sym, ap, subst, ◌∙◌, arith}
 use Rattle.ff_value.specs.declared.ids.WinId.{WinId}
 use Rattle.ff_value.specs.declared.ids.PageId.{PageId}
 use Rattle.ff_machine.specs.Windows.{Window, Page, window_at, page_at, first_ready}
@@ -22,3 +22,10 @@ returns c =
     let q : PageId → Bool = λ p. is_some (first_ready (page_at c.args.self.now p).queue) in
     let f : WinId → PageId = λ n. (window_at c.args.self.now n).page in
     sym (ap (λ ns. find q (map f ns)) (sym c.opened-opened.ensures.value) ∙ none_mapped q f c.opened-opened.result.now d (λ k lt. c.loop-n.invariant k (omega (arith, lt, c.loop-n-test.false))))
+
+pub returns-then-not-any_ready : goal.returns-then-not-any_ready
+returns-then-not-any_ready c =
+    let d : WinId = record { 0 = 0 } in
+    let q : PageId → Bool = λ p. is_some (first_ready (page_at c.args.self.now p).queue) in
+    let f : WinId → PageId = λ n. (window_at c.args.self.now n).page in
+    sym (none_mapped q f c.args.self.now.opened d (λ k lt. c.if-not-any_ready.ensures.none refl (f (get_or c.args.self.now.opened k d))))
