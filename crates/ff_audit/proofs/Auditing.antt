@@ -9,7 +9,7 @@ use Rattle.ff_reactive.specs.Copies.{multi}
 use Rattle.ff_reactive.proofs.Runs.{work_plain_start, work_plain_more}
 use Rattle.ff_reactive.proofs.Sharing.{work_start, work_more}
 use Rattle.ff_reactive.proofs.Lines.{text_start, text_more, plain_text_start, plain_text_more}
-use Rattle.ff_pool.specs.Heads.{same_input}
+use Rattle.ff_value.specs.Same.{same_input}
 use Rattle.ff_lattice.specs.Order.{Order, size}
 use Rattle.ff_value.specs.declared.input.Input.{Input}
 use Rattle.ff_policy.specs.Assignment.{Assignment}

@@ -1,5 +1,5 @@
 //! Fetching the front of a file.
-ghost use Rattle.std.specs.Prelude.{◌⊎◌, ◌≡◌, ◌-◌, ◌<◌, ◌≤◌, length, IfOk, IsErrOf, min, vec_len};
+ghost use Rattle.std.specs.Prelude.{◌⊎◌, ◌≡◌, ◌-◌, ◌<◌, ◌≤◌, ℕ, List, length, IfOk, IsErrOf, min, vec_len};
 ghost use Rattle.ff_io.specs.Counts.{Rose};
 ghost use Rattle.ff_io.specs.Fetched.{IsFetched, IsFetchedPiece};
 ghost use Rattle.ff_io.specs.declared.fetch.FetchFail.TheVariants.{Fetch, NoMemory};
@@ -58,8 +58,8 @@ pub fn fetch_front<S: Shelf>(
     ensures bytes { IfOk result (λ bytes. IsFetched (S.files shelf.old) name.now limit bytes.items) }
     ensures within { IfOk result (λ bytes. vec_len bytes ≤ limit) }
     ensures files { S.files shelf.new ≡ S.files shelf.old }
-    ensures later { S.faults shelf.old name.now ≤ S.faults shelf.new name.now }
-    ensures unfailed { IsErrOf result FetchFail.Fetch ⊎ (S.faults shelf.new name.now ≡ S.faults shelf.old name.now) }
+    ensures later { (other : List ℕ) → S.faults shelf.old other ≤ S.faults shelf.new other }
+    ensures unfailed { IsErrOf result FetchFail.Fetch ⊎ ((other : List ℕ) → S.faults shelf.new other ≡ S.faults shelf.old other) }
     ensures cause { IsErrOf result FetchFail.Fetch → Rose (S.faults shelf.old name.now) (S.faults shelf.new name.now) }
 {
     let mut chunk = buffer_of(alloc, MOST_FETCH_BYTES)?;
@@ -89,8 +89,8 @@ fn fetch_piece<S: Shelf>(
     requires { 0 < length into.old }
     ensures piece { IfOk result (IsFetchedPiece (S.files shelf.old) name.now bytes.old.items bytes.new.items (length into.old)) }
     ensures files { S.files shelf.new ≡ S.files shelf.old }
-    ensures later { S.faults shelf.old name.now ≤ S.faults shelf.new name.now }
-    ensures unfailed { IsErrOf result FetchFail.Fetch ⊎ (S.faults shelf.new name.now ≡ S.faults shelf.old name.now) }
+    ensures later { (other : List ℕ) → S.faults shelf.old other ≤ S.faults shelf.new other }
+    ensures unfailed { IsErrOf result FetchFail.Fetch ⊎ ((other : List ℕ) → S.faults shelf.new other ≡ S.faults shelf.old other) }
     ensures cause { IsErrOf result FetchFail.Fetch → Rose (S.faults shelf.old name.now) (S.faults shelf.new name.now) }
 {
     let n = shelf.fetch(name, bytes.len() as u64, into)?;

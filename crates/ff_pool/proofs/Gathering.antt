@@ -15,7 +15,8 @@ use Rattle.ff_reactive.proofs.Below.{length-each, get_or-each, each_agree}
 use Rattle.ff_reactive.proofs.Finishing.{ends_by_fuel}
 use Rattle.ff_reactive.proofs.Classes.{together_parts, new_leader_within, new_leader_together, new_leader_itself, leader-split, length-split}
 use Rattle.ff_reactive.proofs.Worlds.{new_world_ok, arrive_ok, turn_ok, take_ok}
-use Rattle.ff_pool.specs.Heads.{Head, HasArrived, same_input, new_head, head_at, outputs_at, step_of, step_head, offer_head, head_turns, head_works, given, gathered_copy, gathered_copies, gathered, IsWorldOf, IsKept}
+use Rattle.ff_value.specs.Same.{same_input}
+use Rattle.ff_pool.specs.Heads.{Head, HasArrived, new_head, head_at, outputs_at, step_of, step_head, offer_head, head_turns, head_works, given, gathered_copy, gathered_copies, gathered, IsWorldOf, IsKept}
 use Rattle.ff_pool.proofs.Parting.{same_input_decides}
 
 -- a browser ends each input in one turn more than it brings fuel

@@ -1,22 +1,17 @@
 -- How classes part, level by level.
 use Rattle.std.proofs.Common.{◌≡◌, ℕ, ◌+◌, ◌<◌, ◌≤◌, Bool, true, false, Option, List, [], ◌∷◌, ◌++◌, length, sym, ap, ◌∙◌}
-use Rattle.std.specs.Prelude.{IsTrue, ◌↔◌}
-use Rattle.ff_shared.specs.Content.{same_content-Decides, same_content-is}
+use Rattle.ff_shared.specs.Content.{same_content-Decides}
 use Rattle.ff_value.specs.declared.input.Input.{Input}
 use Rattle.ff_value.specs.contracts.input.Input as input
 use Rattle.ff_reactive.specs.Worlds.{keep_together, new_leader, split, each}
 use Rattle.ff_reactive.proofs.Below.{each_more, first_is}
 use Rattle.ff_reactive.proofs.Classes.{IsSame}
-use Rattle.ff_pool.specs.Heads.{same_input}
+use Rattle.ff_value.specs.Same.{same_input}
 
 -- the test of inputs is true exactly where they are equal
 pub same_input_decides : IsSame same_input
 unfolding same_input
 same_input_decides a b = same_content-Decides input.the_row.coded a b
-
-pub same_is : (a b : Input) (t : Bool) → IsTrue t ↔ (a ≡ b) → t ≡ same_input a b
-unfolding same_input
-same_is a b t exact = same_content-is input.the_row.coded a b t exact
 
 -- the leaders so far
 abbrev pub leaders_below : List ℕ → List (Option Input) → ℕ → List ℕ

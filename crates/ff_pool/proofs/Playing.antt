@@ -6,7 +6,7 @@ use Rattle.ff_machine.specs.Machine.{reactor}
 use Rattle.ff_reactive.specs.Worlds.{EventOk, IsPlayed}
 use Rattle.ff_reactive.proofs.Worlds.{levels-new}
 use Rattle.ff_reactive.proofs.Schedules.{every_schedule}
-use Rattle.ff_pool.specs.Heads.{same_input}
+use Rattle.ff_value.specs.Same.{same_input}
 use Rattle.ff_pool.specs.Pooled.{Pooled, size, played, new_pool}
 use Rattle.ff_pool.specs.Events.{event_of, events_of, IsEvent}
 use Rattle.ff_pool.specs.declared.event.Event.{Event}

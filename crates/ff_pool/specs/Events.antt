@@ -7,7 +7,7 @@ use Rattle.ff_reactive.specs.Worlds.{EventOk}
 use Rattle.ff_reactive.specs.Worlds.Event.{arrive, turn}
 use Rattle.ff_machine.specs.Machine.{reactor}
 use Rattle.ff_reactive.specs.Worlds.{play_event}
-use Rattle.ff_pool.specs.Heads.{same_input}
+use Rattle.ff_value.specs.Same.{same_input}
 use Rattle.ff_pool.specs.Pooled.{Pooled, step_turns}
 use Rattle.ff_pool.specs.declared.event.Event.{Event}
 use Rattle.ff_pool.specs.declared.event.Event.TheVariants.{Arrive, Turn}

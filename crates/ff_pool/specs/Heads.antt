@@ -4,7 +4,7 @@ use Rattle.std.specs.Prelude.{◌≡◌, ◌<◌, ◌≤◌, ℕ, Option, List, 
 use Rattle.std.specs.List.{cons_option}
 use Rattle.std.specs.Prelude.{◌++◌, ◌+◌, ◌==◌, ◌&&◌, nat_lt, Bool, cond}
 use Rattle.std.specs.Coded.{Coded, code_by, coded×, coded_list}
-use Rattle.ff_shared.specs.Content.{same_content}
+use Rattle.ff_value.specs.Same.{same_input}
 use Rattle.ff_lattice.specs.LevelSet.{levels_where}
 use Rattle.ff_lattice.specs.declared.names.TheConstants.{MOST_LEVELS}
 use Rattle.ff_value.specs.Spelled.{IsWellSpelledInput}
@@ -25,10 +25,6 @@ pub record Head : Type 0 where
 abbrev pub coded_head : Coded Head
 coded_head =
     code_by (State × List Input) (coded× browser.the_row.coded (coded_list input.the_row.coded)) (λ h. (h.state, h.inbox)) (λ p. record { state = p.0; inbox = p.1 }) (λ _. refl)
-
--- whether two inputs are equal, their tags too
-unfoldable pub same_input : Input → Input → Bool
-same_input = same_content input.the_row.coded
 
 -- a browser to which nothing was offered
 abbrev pub new_head : ℕ → Head

@@ -11,7 +11,8 @@ use Rattle.ff_machine.specs.Machine.{reactor}
 use Rattle.ff_core.specs.contracts.browser.Browser as browser
 use Rattle.ff_reactive.specs.Worlds as worlds
 use Rattle.ff_reactive.specs.Worlds.{Copy, World, Event, new_world, world_arrive, world_turn, world_take, world_drain, world_left, play_events, AreOffers}
-use Rattle.ff_pool.specs.Heads.{Head, same_input, gathered, IsWorldOf}
+use Rattle.ff_value.specs.Same.{same_input}
+use Rattle.ff_pool.specs.Heads.{Head, gathered, IsWorldOf}
 
 -- a pool: the fuel that each input brings, whether a call found no memory, and the copies of all
 -- levels

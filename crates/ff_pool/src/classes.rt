@@ -1,14 +1,14 @@
 //! How classes part: which level leads which class after an arrival.
 ghost use Rattle.std.specs.Prelude.{◌≡◌, ◌<◌, ◌≤◌, length, IfOk};
-ghost use Rattle.std.specs.Option.{option_eq};
 ghost use Rattle.ff_lattice.specs.declared.names.TheConstants.{MOST_LEVELS};
 ghost use Rattle.ff_reactive.specs.Worlds.{keep_together, new_leader, split};
-ghost use Rattle.ff_pool.specs.Heads.{same_input, class_of};
+ghost use Rattle.ff_value.specs.Same.{same_input};
+ghost use Rattle.ff_pool.specs.Heads.{class_of};
 
 use ff_core::NoMemory;
 use ff_lattice::LevelSet;
 use ff_name::Level;
-use ff_value::Input;
+use ff_value::{Input, same_offer};
 use std::alloc::Global;
 
 /// The leaders where levels with different offers part. Its one refusal is want of memory.
@@ -50,26 +50,6 @@ fn keep_together(leaders: &[usize], offers: &[Option<Input>], k: usize, l: usize
     ensures { result ≡ keep_together same_input leaders.now offers.now k l }
 {
     leaders[k] == leaders[l] && same_offer(&offers[k], &offers[l])
-}
-
-/// Whether two offers are equal, with the tags of their inputs.
-pub fn same_offer(a: &Option<Input>, b: &Option<Input>) -> bool
-    ensures { result ≡ option_eq same_input a.now b.now }
-{
-    match a {
-        None => b.is_none(),
-        Some(x) => match b {
-            None => false,
-            Some(y) => same(x, y),
-        },
-    }
-}
-
-/// Whether two inputs are equal, their tags too.
-fn same(x: &Input, y: &Input) -> bool
-    ensures { result ≡ same_input x.now y.now }
-{
-    *x == *y
 }
 
 /// The levels of a level's class.

@@ -24,7 +24,6 @@ mod play;
 mod pool;
 mod steps;
 
-pub use classes::same_offer;
 pub use event::Event;
 pub use ff_core::NoMemory;
 pub use pool::Pool;

@@ -3,7 +3,8 @@ ghost use Rattle.std.specs.Prelude.{◌≡◌, ◌+◌, ◌<◌, ◌≤◌, ℕ,
 ghost use Rattle.ff_value.specs.Spelled.{IsWellSpelledInput};
 ghost use Rattle.ff_core.specs.Copies.{turning};
 ghost use Rattle.ff_reactive.specs.Worlds.{leader, offer, split, AreLeaders};
-ghost use Rattle.ff_pool.specs.Heads.{Head, HasArrived, same_input, step_of, step_head, offer_head, head_works, head_turns, given};
+ghost use Rattle.ff_value.specs.Same.{same_input};
+ghost use Rattle.ff_pool.specs.Heads.{Head, HasArrived, step_of, step_head, offer_head, head_works, head_turns, given};
 
 use crate::classes::split;
 use crate::group::Group;

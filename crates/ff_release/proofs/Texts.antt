@@ -4,7 +4,7 @@ use Rattle.ff_reactive.specs.Text.{text_out}
 use Rattle.ff_reactive.proofs.Text.{text_out_none, text_out_push}
 use Rattle.ff_reactive.specs.Standings.{fresh, run, puts_all}
 use Rattle.ff_reactive.proofs.Standings.{run_start, run_more, work_of_start, work_of_more}
-use Rattle.ff_pool.specs.Heads.{same_input}
+use Rattle.ff_value.specs.Same.{same_input}
 use Rattle.ff_value.specs.declared.input.Input.{Input}
 use Rattle.ff_policy.specs.Assignment.{Assignment}
 use Rattle.ff_session.specs.Levels.{levels, machine}

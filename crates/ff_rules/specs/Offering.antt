@@ -7,7 +7,7 @@ use Rattle.ff_lattice.specs.Order.{size, leq}
 use Rattle.ff_value.specs.declared.input.Input.{Input}
 use Rattle.ff_value.specs.Kinds.{word_of, kind_of}
 use Rattle.ff_policy.specs.Assignment.{Assignment}
-use Rattle.ff_pool.specs.Heads.{same_input}
+use Rattle.ff_value.specs.Same.{same_input}
 use Rattle.ff_route.specs.Route.{mask, sees, offers}
 use Rattle.ff_rules.specs.declared.rule.Rule.{Rule}
 

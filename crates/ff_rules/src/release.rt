@@ -11,9 +11,8 @@ ghost use Rattle.ff_rules.specs.declared.rule.Rule.{Rule};
 use crate::NoMemory;
 use crate::rule::{Rule, Rules};
 use ff_policy::Policy;
-use ff_pool::same_offer;
 use ff_route::{mask, offers, sees};
-use ff_value::{Input, Kind, Level, Offers, Worded};
+use ff_value::{Input, Kind, Level, Offers, Worded, same_offer};
 use std::alloc::Global;
 use std::marker::Model;
 

@@ -8,9 +8,9 @@ use Rattle.std.specs.String.{string_bytes}
 use Rattle.ff_number.specs.Decimal.{nat_text}
 use Rattle.ff_gen.specs.declared.generator.TheConstants.{MOST_LINES}
 use Rattle.ff_session.specs.declared.work.Work.TheVariants.{Multi, Plain, Format}
-use Rattle.ff_run.specs.Words.{word_of, dash, Spell, MayFollow, AreUnder, IsSlice, Asks, AreCommand, NeedsPolicy}
+use Rattle.ff_run.specs.Words.{word_of, dash, Spell, MayFollow, AreUnder, AreNames, IsSlice, AsksBy, AreCommand, NeedsPolicy}
 use Rattle.ff_run.specs.declared.words.Command.{Command}
-use Rattle.ff_run.specs.declared.words.Command.TheVariants.{Audit, Travel, Check, Upgrade, Trace, Generate}
+use Rattle.ff_run.specs.declared.words.Command.TheVariants.{Audit, Travel, Check, Upgrade, Trace, Generate, Release}
 
 -- ---- what stands in words
 
@@ -26,6 +26,12 @@ abbrev first_of : List (List ℕ) → List ℕ
 first_of [] = []
 first_of (w ∷ ws) = w
 
+abbrev second_of : List (List ℕ) → List ℕ
+second_of ws = first_of (rest_of ws)
+
+abbrev third_of : List (List ℕ) → List ℕ
+third_of ws = first_of (rest_of (rest_of ws))
+
 -- ---- no two commands have one word
 
 -- a command without its numbers
@@ -36,18 +42,21 @@ bare Upgrade = Upgrade
 bare Audit = Audit
 bare Travel = Travel
 bare (Trace work) = Trace work
+bare Release = Release
 
 -- the command of a word
 abbrev command_at : List ℕ → Command
 command_at word =
     cond (bytes_eq word (codes "check")) Check (cond (bytes_eq word (codes "multi")) (Trace Multi) (cond (bytes_eq word (codes "plain")) (Trace Plain)
-    (cond (bytes_eq word (codes "upgrade")) Upgrade (cond (bytes_eq word (codes "gen")) (Generate 0 0) (cond (bytes_eq word (codes "audit")) Audit (cond (bytes_eq word (codes "travel")) Travel (Trace Format)))))))
+    (cond (bytes_eq word (codes "upgrade")) Upgrade (cond (bytes_eq word (codes "gen")) (Generate 0 0) (cond (bytes_eq word (codes "audit")) Audit (cond (bytes_eq word (codes "travel")) Travel
+    (cond (bytes_eq word (codes "release")) Release (Trace Format))))))))
 
 by_word : (c : Command) → command_at (word_of c) ≡ bare c
 by_word Check = refl
 by_word Upgrade = refl
 by_word Audit = refl
 by_word Travel = refl
+by_word Release = refl
 by_word (Trace Multi) = refl
 by_word (Trace Plain) = refl
 by_word (Trace Format) = refl
@@ -56,87 +65,126 @@ by_word (Generate start inputs) = refl
 bare_once : (c d : Command) → word_of c ≡ word_of d → bare c ≡ bare d
 bare_once c d same = sym (by_word c) ∙ ap command_at same ∙ by_word d
 
--- whether the command has numbers
-abbrev IsGenerate : Command → Type 0
-IsGenerate (Generate start inputs) = ⊤
-IsGenerate Check = ⊥
-IsGenerate Upgrade = ⊥
-IsGenerate Audit = ⊥
-IsGenerate Travel = ⊥
-IsGenerate (Trace work) = ⊥
-
-not_generate : (c : Command) (start inputs : ℕ) → bare (Generate start inputs) ≡ bare c → NeedsPolicy c → ⊥
-not_generate Check start inputs same needs = subst IsGenerate same tt
-not_generate Upgrade start inputs same needs = subst IsGenerate same tt
-not_generate Audit start inputs same needs = subst IsGenerate same tt
-not_generate Travel start inputs same needs = subst IsGenerate same tt
-not_generate (Trace work) start inputs same needs = subst IsGenerate same tt
-not_generate (Generate other more) start inputs same needs = needs
-
--- a command under a policy, or one with numbers
+-- a command under a policy alone, one with numbers, or a released run
 data Kinds : Command → Type 0 where
-  under : (c : Command) → NeedsPolicy c → bare c ≡ c → ((words : List (List ℕ)) (name : List ℕ) → Spell words c name → AreUnder words c name) → Kinds c
+  under : (c : Command) → NeedsPolicy c → bare c ≡ c → ((words : List (List ℕ)) (name file : List ℕ) → Spell words c name file → AreUnder words c name × (file ≡ dash)) → Kinds c
   numbers : (start inputs : ℕ) → Kinds (Generate start inputs)
+  released : Kinds Release
 
 kinds : (c : Command) → Kinds c
-kinds Check = Kinds.under Check tt refl (λ words name spelled. spelled)
-kinds Upgrade = Kinds.under Upgrade tt refl (λ words name spelled. spelled)
-kinds Audit = Kinds.under Audit tt refl (λ words name spelled. spelled)
-kinds Travel = Kinds.under Travel tt refl (λ words name spelled. spelled)
-kinds (Trace work) = Kinds.under (Trace work) tt refl (λ words name spelled. spelled)
+kinds Check = Kinds.under Check tt refl (λ words name file spelled. spelled)
+kinds Upgrade = Kinds.under Upgrade tt refl (λ words name file spelled. spelled)
+kinds Audit = Kinds.under Audit tt refl (λ words name file spelled. spelled)
+kinds Travel = Kinds.under Travel tt refl (λ words name file spelled. spelled)
+kinds (Trace work) = Kinds.under (Trace work) tt refl (λ words name file spelled. spelled)
 kinds (Generate start inputs) = Kinds.numbers start inputs
+kinds Release = Kinds.released
 
-spelled_once : (words : List (List ℕ)) (c d : Command) (name other : List ℕ) → Kinds c → Kinds d → Spell words c name → Spell words d other → (c ≡ d) × (name ≡ other)
-spelled_once words c d name other (Kinds.under b needs same unders) (Kinds.under b' needs' same' unders') first second =
-    let f = unders words name first in
-    let s = unders' words other second in
-    let both : word_of c ∷ name ∷ f.more ≡ word_of d ∷ other ∷ s.more = sym f.words_are ∙ s.words_are in
-    (sym same ∙ bare_once c d (ap first_of both) ∙ same', ap (λ ws. first_of (rest_of ws)) both)
-spelled_once words c d name other (Kinds.under b needs same unders) (Kinds.numbers start inputs) first second =
-    let f = unders words name first in
-    absurd (not_generate c start inputs (sym (bare_once c (Generate start inputs) (ap first_of (sym f.words_are ∙ second.0.words_are)))) needs)
-spelled_once words c d name other (Kinds.numbers start inputs) (Kinds.under b needs same unders) first second =
-    let s = unders words other second in
-    absurd (not_generate d start inputs (bare_once (Generate start inputs) d (ap first_of (sym first.0.words_are ∙ s.words_are))) needs)
-spelled_once words c d name other (Kinds.numbers start inputs) (Kinds.numbers start' inputs') first second =
+-- the word of what is spelled comes first
+first_is : (words : List (List ℕ)) (c : Command) (name file : List ℕ) → Kinds c → Spell words c name file → first_of words ≡ word_of c
+first_is words c name file (Kinds.under b needs same unders) spelled = ap first_of (unders words name file spelled).0.words_are
+first_is words c name file (Kinds.numbers start inputs) spelled = ap first_of spelled.0.words_are
+first_is words c name file Kinds.released spelled = ap first_of spelled.words_are
+
+-- words that begin so are those of no command of another word
+other_word : (words : List (List ℕ)) (c d : Command) (name file other more : List ℕ) → Kinds c → Kinds d → (bare c ≡ bare d → ⊥) → Spell words c name file → Spell words d other more → ⊥
+other_word words c d name file other more k l apart first second = apart (bare_once c d (sym (first_is words c name file k first) ∙ first_is words d other more l second))
+
+-- whether the command has numbers, and whether it has a second name
+abbrev IsGenerate : Command → Type 0
+IsGenerate (Generate start inputs) = ⊤
+IsGenerate other = ⊥
+
+abbrev IsRelease : Command → Type 0
+IsRelease Release = ⊤
+IsRelease other = ⊥
+
+not_generate : (c : Command) (start inputs : ℕ) → NeedsPolicy c → bare (Generate start inputs) ≡ bare c → ⊥
+not_generate c start inputs needs same = from c (subst IsGenerate same tt) needs
+  where
+    from : (d : Command) → IsGenerate (bare d) → NeedsPolicy d → ⊥
+    from Check is needs' = is
+    from Upgrade is needs' = is
+    from Audit is needs' = is
+    from Travel is needs' = is
+    from (Trace work) is needs' = is
+    from (Generate s n) is needs' = needs'
+    from Release is needs' = needs'
+
+not_release : (c : Command) → NeedsPolicy c → bare Release ≡ bare c → ⊥
+not_release c needs same = from c (subst IsRelease same tt) needs
+  where
+    from : (d : Command) → IsRelease (bare d) → NeedsPolicy d → ⊥
+    from Check is needs' = is
+    from Upgrade is needs' = is
+    from Audit is needs' = is
+    from Travel is needs' = is
+    from (Trace work) is needs' = is
+    from (Generate s n) is needs' = needs'
+    from Release is needs' = needs'
+
+apart : (start inputs : ℕ) → bare Release ≡ bare (Generate start inputs) → ⊥
+apart start inputs same = subst IsRelease same tt
+
+spelled_once : (words : List (List ℕ)) (c d : Command) (name file other more : List ℕ) → Kinds c → Kinds d → Spell words c name file → Spell words d other more → (c ≡ d) × (name ≡ other) × (file ≡ more)
+spelled_once words c d name file other more (Kinds.under b needs same unders) (Kinds.under b' needs' same' unders') first second =
+    let f = unders words name file first in
+    let s = unders' words other more second in
+    let both : word_of c ∷ name ∷ f.0.more ≡ word_of d ∷ other ∷ s.0.more = sym f.0.words_are ∙ s.0.words_are in
+    (sym same ∙ bare_once c d (ap first_of both) ∙ same', ap second_of both, f.1 ∙ sym s.1)
+spelled_once words c d name file other more (Kinds.under b needs same unders) (Kinds.numbers start inputs) first second =
+    absurd (other_word words (Generate start inputs) c other more name file (Kinds.numbers start inputs) (Kinds.under c needs same unders) (not_generate c start inputs needs) second first)
+spelled_once words c d name file other more (Kinds.under b needs same unders) Kinds.released first second =
+    absurd (other_word words Release c other more name file Kinds.released (Kinds.under c needs same unders) (not_release c needs) second first)
+spelled_once words c d name file other more (Kinds.numbers start inputs) (Kinds.under b needs same unders) first second =
+    absurd (other_word words (Generate start inputs) d name file other more (Kinds.numbers start inputs) (Kinds.under d needs same unders) (not_generate d start inputs needs) first second)
+spelled_once words c d name file other more (Kinds.numbers start inputs) (Kinds.numbers start' inputs') first second =
     let both : codes "gen" ∷ nat_text start ∷ nat_text inputs ∷ [] ≡ codes "gen" ∷ nat_text start' ∷ nat_text inputs' ∷ [] = sym first.0.words_are ∙ second.0.words_are in
     let few = first.0.few in
     let few' = second.0.few in
-    let starts = decimal_injective start start' first.0.start_fits second.0.start_fits (ap (λ ws. first_of (rest_of ws)) both) in
-    let counts = decimal_injective inputs inputs' (omega arith) (omega arith) (ap (λ ws. first_of (rest_of (rest_of ws))) both) in
-    (ap (λ n. Generate n inputs) starts ∙ ap (λ n. Generate start' n) counts, first.1 ∙ sym second.1)
+    let starts = decimal_injective start start' first.0.start_fits second.0.start_fits (ap second_of both) in
+    let counts = decimal_injective inputs inputs' (omega arith) (omega arith) (ap third_of both) in
+    (ap (λ n. Generate n inputs) starts ∙ ap (λ n. Generate start' n) counts, first.1 ∙ sym second.1, first.2 ∙ sym second.2)
+spelled_once words c d name file other more (Kinds.numbers start inputs) Kinds.released first second =
+    absurd (other_word words Release (Generate start inputs) other more name file Kinds.released (Kinds.numbers start inputs) (apart start inputs) second first)
+spelled_once words c d name file other more Kinds.released (Kinds.under b needs same unders) first second =
+    absurd (other_word words Release d name file other more Kinds.released (Kinds.under d needs same unders) (not_release d needs) first second)
+spelled_once words c d name file other more Kinds.released (Kinds.numbers start inputs) first second =
+    absurd (other_word words Release (Generate start inputs) name file other more Kinds.released (Kinds.numbers start inputs) (apart start inputs) first second)
+spelled_once words c d name file other more Kinds.released Kinds.released first second =
+    let both : codes "release" ∷ name ∷ file ∷ [] ≡ codes "release" ∷ other ∷ more ∷ [] = sym first.words_are ∙ second.words_are in
+    (refl, ap second_of both, ap third_of both)
 
--- so words ask for one command under one policy
-pub asks_once : (words : List (String Global)) (c d : Command) (name other : List ℕ) → Asks words c name → Asks words d other → (c ≡ d) × (name ≡ other)
-asks_once words c d name other first second = spelled_once (map string_bytes words) c d name other (kinds c) (kinds d) first.spelled second.spelled
+-- so words ask for one command under one policy, by one file
+pub asks_once : (words : List (String Global)) (c d : Command) (name file other more : List ℕ) → AsksBy words c name file → AsksBy words d other more → (c ≡ d) × (name ≡ other) × (file ≡ more)
+asks_once words c d name file other more first second = spelled_once (map string_bytes words) c d name file other more (kinds c) (kinds d) first.spelled second.spelled
 
 -- ---- two words
 
-pub spell_two : (word name : List ℕ) (c : Command) → word_of c ≡ word → NeedsPolicy c → (name ≡ [] → ⊥) → Spell (word ∷ name ∷ []) c name
-spell_two word name Check is needs some = record { more = []; words_are = ap (λ w. w ∷ name ∷ []) (sym is); follows = tt; named = some }
-spell_two word name Audit is needs some = record { more = []; words_are = ap (λ w. w ∷ name ∷ []) (sym is); follows = tt; named = some }
-spell_two word name Travel is needs some = record { more = []; words_are = ap (λ w. w ∷ name ∷ []) (sym is); follows = tt; named = some }
-spell_two word name Upgrade is needs some = record { more = []; words_are = ap (λ w. w ∷ name ∷ []) (sym is); follows = tt; named = some }
-spell_two word name (Trace work) is needs some = record { more = []; words_are = ap (λ w. w ∷ name ∷ []) (sym is); follows = tt; named = some }
+pub spell_two : (word name : List ℕ) (c : Command) → word_of c ≡ word → NeedsPolicy c → (name ≡ [] → ⊥) → Spell (word ∷ name ∷ []) c name dash
+spell_two word name Check is needs some = (record { more = []; words_are = ap (λ w. w ∷ name ∷ []) (sym is); follows = tt; named = some }, refl)
+spell_two word name Audit is needs some = (record { more = []; words_are = ap (λ w. w ∷ name ∷ []) (sym is); follows = tt; named = some }, refl)
+spell_two word name Travel is needs some = (record { more = []; words_are = ap (λ w. w ∷ name ∷ []) (sym is); follows = tt; named = some }, refl)
+spell_two word name Upgrade is needs some = (record { more = []; words_are = ap (λ w. w ∷ name ∷ []) (sym is); follows = tt; named = some }, refl)
+spell_two word name (Trace work) is needs some = (record { more = []; words_are = ap (λ w. w ∷ name ∷ []) (sym is); follows = tt; named = some }, refl)
 spell_two word name (Generate start inputs) is needs some = absurd needs
+spell_two word name Release is needs some = absurd needs
 
-pub spell_no_two : (word name : List ℕ) → ((command : Command) → NeedsPolicy command → word_of command ≡ word → ⊥) → (c : Command) (other : List ℕ) → ¬ Spell (word ∷ name ∷ []) c other
-spell_no_two word name none c other spelled = from c (kinds c) spelled
-  where
-    from : (d : Command) → Kinds d → Spell (word ∷ name ∷ []) d other → ⊥
-    from d (Kinds.under b needs same unders) spelled' = none d needs (sym (ap first_of (unders (word ∷ name ∷ []) other spelled').words_are))
-    from d (Kinds.numbers start inputs) spelled' = omega (arith, ap length spelled'.0.words_are)
+-- two words are those of a command under a policy alone
+two_under : (word name : List ℕ) (c : Command) (other more : List ℕ) → Kinds c → Spell (word ∷ name ∷ []) c other more → NeedsPolicy c × AreUnder (word ∷ name ∷ []) c other
+two_under word name c other more (Kinds.under b needs same unders) spelled = (needs, (unders (word ∷ name ∷ []) other more spelled).0)
+two_under word name c other more (Kinds.numbers start inputs) spelled = absurd (omega (arith, ap length spelled.0.words_are))
+two_under word name c other more Kinds.released spelled = absurd (omega (arith, ap length spelled.words_are))
 
-pub spell_no_name : (word name : List ℕ) → name ≡ [] → (c : Command) (other : List ℕ) → ¬ Spell (word ∷ name ∷ []) c other
-spell_no_name word name none c other spelled = from c (kinds c) spelled
-  where
-    from : (d : Command) → Kinds d → Spell (word ∷ name ∷ []) d other → ⊥
-    from d (Kinds.under b needs same unders) spelled' = let u = unders (word ∷ name ∷ []) other spelled' in u.named (sym (ap (λ ws. first_of (rest_of ws)) u.words_are) ∙ none)
-    from d (Kinds.numbers start inputs) spelled' = omega (arith, ap length spelled'.0.words_are)
+pub spell_no_two : (word name : List ℕ) → ((command : Command) → NeedsPolicy command → word_of command ≡ word → ⊥) → (c : Command) (other more : List ℕ) → ¬ Spell (word ∷ name ∷ []) c other more
+spell_no_two word name none c other more spelled = let u = two_under word name c other more (kinds c) spelled in none c u.0 (sym (ap first_of u.1.words_are))
+
+pub spell_no_name : (word name : List ℕ) → name ≡ [] → (c : Command) (other more : List ℕ) → ¬ Spell (word ∷ name ∷ []) c other more
+spell_no_name word name none c other more spelled = let u = (two_under word name c other more (kinds c) spelled).1 in u.named (sym (ap second_of u.words_are) ∙ none)
 
 -- ---- three words
 
--- of the commands under a policy, a multi-executed run alone may have a third word
+-- of the commands under a policy alone, a multi-executed run alone may have a third word
 third : (c : Command) (word : List ℕ) (more : List (List ℕ)) → more ≡ word ∷ [] → MayFollow c more → NeedsPolicy c → (word_of c ≡ codes "multi") × IsSlice word
 third Check word more is follows needs = absurd (subst (MayFollow Check) is follows)
 third Upgrade word more is follows needs = absurd (subst (MayFollow Upgrade) is follows)
@@ -146,44 +194,52 @@ third (Trace Multi) word more is follows needs = (refl, subst (MayFollow (Trace 
 third (Trace Plain) word more is follows needs = absurd (subst (MayFollow (Trace Plain)) is follows)
 third (Trace Format) word more is follows needs = absurd (subst (MayFollow (Trace Format)) is follows)
 third (Generate start inputs) word more is follows needs = absurd needs
+third Release word more is follows needs = absurd needs
 
-pub spell_no_three : (word first second : List ℕ) → (word ≡ codes "multi" → ⊥) → (word ≡ codes "gen" → ⊥) → (c : Command) (other : List ℕ) → ¬ Spell (word ∷ first ∷ second ∷ []) c other
-spell_no_three word first second no_multi no_gen c other spelled = from c (kinds c) spelled
+third_under : (word first second : List ℕ) (c : Command) (other : List ℕ) → NeedsPolicy c → AreUnder (word ∷ first ∷ second ∷ []) c other → (word ≡ codes "multi") × IsSlice second
+third_under word first second c other needs u =
+    let is = third c second u.more (sym (ap (λ ws. rest_of (rest_of ws)) u.words_are)) u.follows needs in
+    (ap first_of u.words_are ∙ is.0, is.1)
+
+pub spell_no_three : (word first second : List ℕ) → (word ≡ codes "multi" → ⊥) → (word ≡ codes "gen" → ⊥) → (word ≡ codes "release" → ⊥) → (c : Command) (other more : List ℕ) → ¬ Spell (word ∷ first ∷ second ∷ []) c other more
+spell_no_three word first second no_multi no_gen no_release c other more spelled = from c (kinds c) spelled
   where
-    from : (d : Command) → Kinds d → Spell (word ∷ first ∷ second ∷ []) d other → ⊥
-    from d (Kinds.under b needs same unders) spelled' =
-        let u = unders (word ∷ first ∷ second ∷ []) other spelled' in
-        let is = third d second u.more (sym (ap (λ ws. rest_of (rest_of ws)) u.words_are)) u.follows needs in
-        no_multi (ap first_of u.words_are ∙ is.0)
+    from : (d : Command) → Kinds d → Spell (word ∷ first ∷ second ∷ []) d other more → ⊥
+    from d (Kinds.under b needs same unders) spelled' = no_multi (third_under word first second d other needs (unders (word ∷ first ∷ second ∷ []) other more spelled').0).0
     from d (Kinds.numbers start inputs) spelled' = no_gen (ap first_of spelled'.0.words_are)
+    from d Kinds.released spelled' = no_release (ap first_of spelled'.words_are)
 
-pub spell_slice : (name word : List ℕ) (slice : ℕ) → (name ≡ [] → ⊥) → 1 ≤ slice → slice < 2 ^ 32 → word ≡ nat_text slice → Spell (codes "multi" ∷ name ∷ word ∷ []) (Trace Multi) name
-spell_slice name word slice some least most is = record {
-  more = word ∷ [];
-  words_are = refl;
-  follows = record { slice = slice; some = least; most = most; word_is = is };
-  named = some;
-}
+pub spell_slice : (name word : List ℕ) (slice : ℕ) → (name ≡ [] → ⊥) → 1 ≤ slice → slice < 2 ^ 32 → word ≡ nat_text slice → Spell (codes "multi" ∷ name ∷ word ∷ []) (Trace Multi) name dash
+spell_slice name word slice some least most is = (
+  record {
+    more = word ∷ [];
+    words_are = refl;
+    follows = record { slice = slice; some = least; most = most; word_is = is };
+    named = some;
+  },
+  refl,
+)
 
 -- the words that begin with `multi`
-multi_words : (name word : List ℕ) (c : Command) (other : List ℕ) → Spell (codes "multi" ∷ name ∷ word ∷ []) c other → IsSlice word × (name ≡ [] → ⊥)
-multi_words name word c other spelled = from c (kinds c) spelled
+multi_words : (name word : List ℕ) (c : Command) (other more : List ℕ) → Spell (codes "multi" ∷ name ∷ word ∷ []) c other more → IsSlice word × (name ≡ [] → ⊥)
+multi_words name word c other more spelled = from c (kinds c) spelled
   where
-    from : (d : Command) → Kinds d → Spell (codes "multi" ∷ name ∷ word ∷ []) d other → IsSlice word × (name ≡ [] → ⊥)
+    from : (d : Command) → Kinds d → Spell (codes "multi" ∷ name ∷ word ∷ []) d other more → IsSlice word × (name ≡ [] → ⊥)
     from d (Kinds.under b needs same unders) spelled' =
-        let u = unders (codes "multi" ∷ name ∷ word ∷ []) other spelled' in
-        ((third d word u.more (sym (ap (λ ws. rest_of (rest_of ws)) u.words_are)) u.follows needs).1, λ none. u.named (sym (ap (λ ws. first_of (rest_of ws)) u.words_are) ∙ none))
+        let u = (unders (codes "multi" ∷ name ∷ word ∷ []) other more spelled').0 in
+        ((third_under (codes "multi") name word d other needs u).1, λ none. u.named (sym (ap second_of u.words_are) ∙ none))
     from d (Kinds.numbers start inputs) spelled' = let same : ◌≡◌ {A = ℕ} 109 103 = ap (λ ws. first_or_zero (first_of ws)) spelled'.0.words_are in absurd (omega arith)
+    from d Kinds.released spelled' = let same : ◌≡◌ {A = ℕ} 109 114 = ap (λ ws. first_or_zero (first_of ws)) spelled'.words_are in absurd (omega arith)
 
-pub spell_no_slice : (name word : List ℕ) → ¬ IsSlice word → (c : Command) (other : List ℕ) → ¬ Spell (codes "multi" ∷ name ∷ word ∷ []) c other
-spell_no_slice name word none c other spelled = none (multi_words name word c other spelled).0
+pub spell_no_slice : (name word : List ℕ) → ¬ IsSlice word → (c : Command) (other more : List ℕ) → ¬ Spell (codes "multi" ∷ name ∷ word ∷ []) c other more
+spell_no_slice name word none c other more spelled = none (multi_words name word c other more spelled).0
 
-pub spell_no_policy : (name word : List ℕ) → name ≡ [] → (c : Command) (other : List ℕ) → ¬ Spell (codes "multi" ∷ name ∷ word ∷ []) c other
-spell_no_policy name word none c other spelled = (multi_words name word c other spelled).1 none
+pub spell_no_policy : (name word : List ℕ) → name ≡ [] → (c : Command) (other more : List ℕ) → ¬ Spell (codes "multi" ∷ name ∷ word ∷ []) c other more
+spell_no_policy name word none c other more spelled = (multi_words name word c other more spelled).1 none
 
-pub spell_numbers : (first second : List ℕ) (start inputs : ℕ) → start < 2 ^ 64 → inputs ≤ MOST_LINES → first ≡ nat_text start → second ≡ nat_text inputs → Spell (codes "gen" ∷ first ∷ second ∷ []) (Generate start inputs) dash
+pub spell_numbers : (first second : List ℕ) (start inputs : ℕ) → start < 2 ^ 64 → inputs ≤ MOST_LINES → first ≡ nat_text start → second ≡ nat_text inputs → Spell (codes "gen" ∷ first ∷ second ∷ []) (Generate start inputs) dash dash
 spell_numbers first second start inputs fits few first_is second_is =
-    (record { words_are = ap (λ w. codes "gen" ∷ w ∷ second ∷ []) first_is ∙ ap (λ w. codes "gen" ∷ nat_text start ∷ w ∷ []) second_is; start_fits = fits; few = few }, refl)
+    (record { words_are = ap (λ w. codes "gen" ∷ w ∷ second ∷ []) first_is ∙ ap (λ w. codes "gen" ∷ nat_text start ∷ w ∷ []) second_is; start_fits = fits; few = few }, refl, refl)
 
 -- the words that begin with `gen`
 record AreGenerated (first second : List ℕ) : Type 0 where
@@ -194,73 +250,54 @@ record AreGenerated (first second : List ℕ) : Type 0 where
   first_is : first ≡ nat_text start
   second_is : second ≡ nat_text inputs
 
-generated_words : (first second : List ℕ) (c : Command) (other : List ℕ) → Spell (codes "gen" ∷ first ∷ second ∷ []) c other → AreGenerated first second
-generated_words first second c other spelled = from c (kinds c) spelled
+generated_words : (first second : List ℕ) (c : Command) (other more : List ℕ) → Spell (codes "gen" ∷ first ∷ second ∷ []) c other more → AreGenerated first second
+generated_words first second c other more spelled = from c (kinds c) spelled
   where
-    from : (d : Command) → Kinds d → Spell (codes "gen" ∷ first ∷ second ∷ []) d other → AreGenerated first second
+    from : (d : Command) → Kinds d → Spell (codes "gen" ∷ first ∷ second ∷ []) d other more → AreGenerated first second
     from d (Kinds.under b needs same unders) spelled' =
-        let u = unders (codes "gen" ∷ first ∷ second ∷ []) other spelled' in
-        absurd (not_generate d 0 0 (bare_once (Generate 0 0) d (ap first_of u.words_are)) needs)
+        let u = (unders (codes "gen" ∷ first ∷ second ∷ []) other more spelled').0 in
+        absurd (not_generate d 0 0 needs (bare_once (Generate 0 0) d (ap first_of u.words_are)))
+    from d Kinds.released spelled' = absurd (apart 0 0 (bare_once Release (Generate 0 0) (sym (ap first_of spelled'.words_are))))
     from d (Kinds.numbers start inputs) spelled' = record {
       start = start;
       inputs = inputs;
       fits = spelled'.0.start_fits;
       few = spelled'.0.few;
-      first_is = ap (λ ws. first_of (rest_of ws)) spelled'.0.words_are;
-      second_is = ap (λ ws. first_of (rest_of (rest_of ws))) spelled'.0.words_are;
+      first_is = ap second_of spelled'.0.words_are;
+      second_is = ap third_of spelled'.0.words_are;
     }
 
-pub spell_no_start : (first second : List ℕ) → ((n : ℕ) → n < 2 ^ 64 → first ≡ nat_text n → ⊥) → (c : Command) (other : List ℕ) → ¬ Spell (codes "gen" ∷ first ∷ second ∷ []) c other
-spell_no_start first second none c other spelled = let g = generated_words first second c other spelled in none g.start g.fits g.first_is
+pub spell_no_start : (first second : List ℕ) → ((n : ℕ) → n < 2 ^ 64 → first ≡ nat_text n → ⊥) → (c : Command) (other more : List ℕ) → ¬ Spell (codes "gen" ∷ first ∷ second ∷ []) c other more
+spell_no_start first second none c other more spelled = let g = generated_words first second c other more spelled in none g.start g.fits g.first_is
 
-pub spell_no_inputs : (first second : List ℕ) → ((n : ℕ) → n ≤ MOST_LINES → second ≡ nat_text n → ⊥) → (c : Command) (other : List ℕ) → ¬ Spell (codes "gen" ∷ first ∷ second ∷ []) c other
-spell_no_inputs first second none c other spelled = let g = generated_words first second c other spelled in none g.inputs g.few g.second_is
+pub spell_no_inputs : (first second : List ℕ) → ((n : ℕ) → n ≤ MOST_LINES → second ≡ nat_text n → ⊥) → (c : Command) (other more : List ℕ) → ¬ Spell (codes "gen" ∷ first ∷ second ∷ []) c other more
+spell_no_inputs first second none c other more spelled = let g = generated_words first second c other more spelled in none g.inputs g.few g.second_is
 
--- ---- from the bytes of the words to the words
+pub spell_names : (name file : List ℕ) → (name ≡ [] → ⊥) → (file ≡ [] → ⊥) → Spell (codes "release" ∷ name ∷ file ∷ []) Release name file
+spell_names name file some_name some_file = record { words_are = refl; named = some_name; filed = some_file }
 
-two_words : (ws : List (String Global)) (a b : String Global) → 2 ≤ length ws → length ws < 3 → a ≡ get_or ws 0 a → b ≡ get_or ws 1 b
-    → map string_bytes ws ≡ string_bytes a ∷ string_bytes b ∷ []
-two_words [] a b least most first second = absurd (omega arith)
-two_words (w ∷ []) a b least most first second = absurd (omega arith)
-two_words (v ∷ w ∷ []) a b least most first second = ap (λ x. string_bytes x ∷ string_bytes w ∷ []) (sym first) ∙ ap (λ x. string_bytes a ∷ string_bytes x ∷ []) (sym second)
-two_words (v ∷ w ∷ x ∷ xs) a b least most first second = absurd (omega arith)
+-- the words that begin with `release`
+released_words : (name file : List ℕ) (c : Command) (other more : List ℕ) → Spell (codes "release" ∷ name ∷ file ∷ []) c other more → AreNames (codes "release" ∷ name ∷ file ∷ []) other more
+released_words name file c other more spelled = from c (kinds c) spelled
+  where
+    from : (d : Command) → Kinds d → Spell (codes "release" ∷ name ∷ file ∷ []) d other more → AreNames (codes "release" ∷ name ∷ file ∷ []) other more
+    from d (Kinds.under b needs same unders) spelled' =
+        let u = (unders (codes "release" ∷ name ∷ file ∷ []) other more spelled').0 in
+        absurd (not_release d needs (bare_once Release d (ap first_of u.words_are)))
+    from d (Kinds.numbers start inputs) spelled' = absurd (apart 0 0 (bare_once Release (Generate 0 0) (ap first_of spelled'.0.words_are)))
+    from d Kinds.released spelled' = spelled'
 
-three_words : (ws : List (String Global)) (a b c : String Global) → 3 ≤ length ws → length ws < 4 → a ≡ get_or ws 0 a → b ≡ get_or ws 1 b → c ≡ get_or ws 2 c
-    → map string_bytes ws ≡ string_bytes a ∷ string_bytes b ∷ string_bytes c ∷ []
-three_words [] a b c least most first second third_is = absurd (omega arith)
-three_words (v ∷ []) a b c least most first second third_is = absurd (omega arith)
-three_words (v ∷ w ∷ []) a b c least most first second third_is = absurd (omega arith)
-three_words (v ∷ w ∷ x ∷ []) a b c least most first second third_is =
-    ap (λ s. string_bytes s ∷ string_bytes w ∷ string_bytes x ∷ []) (sym first)
-    ∙ ap (λ s. string_bytes a ∷ string_bytes s ∷ string_bytes x ∷ []) (sym second)
-    ∙ ap (λ s. string_bytes a ∷ string_bytes b ∷ string_bytes s ∷ []) (sym third_is)
-three_words (v ∷ w ∷ x ∷ y ∷ ys) a b c least most first second third_is = absurd (omega arith)
+pub spell_no_first : (name file : List ℕ) → name ≡ [] → (c : Command) (other more : List ℕ) → ¬ Spell (codes "release" ∷ name ∷ file ∷ []) c other more
+spell_no_first name file none c other more spelled = let n = released_words name file c other more spelled in n.named (sym (ap second_of n.words_are) ∙ none)
 
--- what is asked by the bytes is asked by the words
-module _ {A : Type 0} (command : A → Command) (name : A → List ℕ) (slice : A → ℕ) where
-  by_texts : (ws : List (String Global)) (texts : List (List ℕ)) (r : Option A) → map string_bytes ws ≡ texts
-      → MatchOption r ((c : Command) (other : List ℕ) → ¬ Spell texts c other) (λ a. Spell texts (command a) (name a) × (0 < slice a))
-      → MatchOption r (¬ AreCommand ws) (λ a. Asks ws (command a) (name a) × (0 < slice a))
-  by_texts ws texts None same none = λ asked. none asked.command asked.name (subst (λ ts. Spell ts asked.command asked.name) same asked.asks.spelled)
-  by_texts ws texts (Some a) same some = (record { spelled = subst (λ ts. Spell ts (command a) (name a)) (sym same) some.0 }, some.1)
+pub spell_no_second : (name file : List ℕ) → file ≡ [] → (c : Command) (other more : List ℕ) → ¬ Spell (codes "release" ∷ name ∷ file ∷ []) c other more
+spell_no_second name file none c other more spelled = let n = released_words name file c other more spelled in n.filed (sym (ap third_of n.words_are) ∙ none)
 
-  pub asked_two : (ws : List (String Global)) (a b : String Global) (x y : List ℕ) (r : Option A) → 2 ≤ length ws → length ws < 3 → a ≡ get_or ws 0 a → b ≡ get_or ws 1 b → x ≡ string_bytes a → y ≡ string_bytes b
-      → MatchOption r ((c : Command) (other : List ℕ) → ¬ Spell (x ∷ y ∷ []) c other) (λ q. Spell (x ∷ y ∷ []) (command q) (name q) × (0 < slice q))
-      → MatchOption r (¬ AreCommand ws) (λ q. Asks ws (command q) (name q) × (0 < slice q))
-  asked_two ws a b x y r least most first second x_is y_is found =
-      by_texts ws (x ∷ y ∷ []) r (two_words ws a b least most first second ∙ ap (λ w. w ∷ string_bytes b ∷ []) (sym x_is) ∙ ap (λ w. x ∷ w ∷ []) (sym y_is)) found
-
-  pub asked_three : (ws : List (String Global)) (a b c : String Global) (x y z : List ℕ) (r : Option A) → 3 ≤ length ws → length ws < 4 → a ≡ get_or ws 0 a → b ≡ get_or ws 1 b → c ≡ get_or ws 2 c
-      → x ≡ string_bytes a → y ≡ string_bytes b → z ≡ string_bytes c
-      → MatchOption r ((d : Command) (other : List ℕ) → ¬ Spell (x ∷ y ∷ z ∷ []) d other) (λ q. Spell (x ∷ y ∷ z ∷ []) (command q) (name q) × (0 < slice q))
-      → MatchOption r (¬ AreCommand ws) (λ q. Asks ws (command q) (name q) × (0 < slice q))
-  asked_three ws a b c x y z r least most first second third_is x_is y_is z_is found =
-      by_texts ws (x ∷ y ∷ z ∷ []) r
-      (three_words ws a b c least most first second third_is ∙ ap (λ w. w ∷ string_bytes b ∷ string_bytes c ∷ []) (sym x_is) ∙ ap (λ w. x ∷ w ∷ string_bytes c ∷ []) (sym y_is) ∙ ap (λ w. x ∷ y ∷ w ∷ []) (sym z_is)) found
+-- ---- other words
 
 -- another number of words is no command
-few_words : (words : List (List ℕ)) (c : Command) (name : List ℕ) → Kinds c → Spell words c name → (length words ≡ 2) ⊎ (length words ≡ 3)
-few_words words c name (Kinds.under b needs same unders) spelled = let u = unders words name spelled in more c u.more needs u.follows (ap length u.words_are)
+few_words : (words : List (List ℕ)) (c : Command) (name file : List ℕ) → Kinds c → Spell words c name file → (length words ≡ 2) ⊎ (length words ≡ 3)
+few_words words c name file (Kinds.under b needs same unders) spelled = let u = (unders words name file spelled).0 in more c u.more needs u.follows (ap length u.words_are)
   where
     more : (d : Command) (rest : List (List ℕ)) → NeedsPolicy d → MayFollow d rest → length words ≡ length (word_of d ∷ name ∷ rest) → (length words ≡ 2) ⊎ (length words ≡ 3)
     more d [] needs' follows long = inl long
@@ -273,12 +310,14 @@ few_words words c name (Kinds.under b needs same unders) spelled = let u = under
     more (Trace Plain) (v ∷ w ∷ ws) needs' follows long = absurd follows
     more (Trace Format) (v ∷ w ∷ ws) needs' follows long = absurd follows
     more (Generate start inputs) (v ∷ w ∷ ws) needs' follows long = absurd needs'
-few_words words c name (Kinds.numbers start inputs) spelled = inr (ap length spelled.0.words_are)
+    more Release (v ∷ w ∷ ws) needs' follows long = absurd needs'
+few_words words c name file (Kinds.numbers start inputs) spelled = inr (ap length spelled.0.words_are)
+few_words words c name file Kinds.released spelled = inr (ap length spelled.words_are)
 
 pub asks_other : (ws : List (String Global)) → (length ws ≡ 2 → ⊥) → (length ws ≡ 3 → ⊥) → ¬ AreCommand ws
 asks_other ws no_two no_three asked =
     let long = length-map ws string_bytes in
-    elim (few_words (map string_bytes ws) asked.command asked.name (kinds asked.command) asked.asks.spelled) [
+    elim (few_words (map string_bytes ws) asked.command asked.name asked.file (kinds asked.command) asked.asks.spelled) [
       | inl two ↦ no_two (sym long ∙ two)
       | inr three ↦ no_three (sym long ∙ three)
     ]

@@ -1,12 +1,12 @@
 -- Something is found by its name, or nothing is.
-use Rattle.std.proofs.Common.{◌≡◌, ◌≢◌, ℕ, ◌⊎◌, inl, inr, Option, Some, None, Result, Ok, Err, List, sym, subst, ◌∙◌}
-use Rattle.std.specs.Result.{IfOk, IfErr}
+use Rattle.std.proofs.Common.{◌≡◌, ◌≢◌, ℕ, ◌⊎◌, inl, inr, Option, Some, None, Result, Ok, Err, List, sym, subst, ◌∙◌, ◌≤◌, arith}
+use Rattle.std.specs.Result.{IfOk, IfErr, IsErrOf}
 use Rattle.ff_io.specs.Shelf.{ShelfTold}
 use Rattle.ff_io.specs.Fetched.{IsFrontOf, IsFetched}
 use Rattle.ff_status.specs.declared.status.Status.{Status}
 use Rattle.ff_status.specs.declared.status.Status.TheVariants.{ShelfFault, NoMemory}
 use Rattle.ff_run.specs.Words.{dash}
-use Rattle.ff_run.specs.Names.{FetchFailed, IsKnown, Names, NamesBad, Refuses, IsOutside}
+use Rattle.ff_run.specs.Names.{FetchFailed, IsUnfetched, IsKnown, IsLater, Names, NamesBad, Refuses, StandsFor, IsOutside}
 
 -- where the files are told, one front of a file is fetched
 front_once : (file : Option (List ℕ)) (limit : ℕ) (a b : List ℕ) → IsFrontOf file limit a → IsFrontOf file limit b → a ≡ b
@@ -17,6 +17,11 @@ fetched_once : (shelf : ShelfTold) (name : List ℕ) (limit : ℕ) (a b : List �
 fetched_once shelf name limit a b no_dash (inl is_dash) first second = absurd (no_dash is_dash)
 fetched_once shelf name limit a b no_dash (inr told) first second =
     front_once (told.0 name) limit a b (subst (λ f. IsFetched f name limit a) told.1 first) (subst (λ f. IsFetched f name limit b) told.1 second)
+
+-- what is known by a shelf is known by another that tells the same files
+pub known_from : (a b : ShelfTold) → a.files ≡ b.files → (name : List ℕ) → IsKnown a name → IsKnown b name
+known_from a b same name (inl is_dash) = inl is_dash
+known_from a b same name (inr told) = inr (told.0, sym same ∙ told.1)
 
 module _ {X : Type 0} (built_in : X) (most : ℕ) (Gives : List ℕ → X → Type 0) (IsBad : List ℕ → Status → Type 0) where
   pub no_memory : (before now : ShelfTold) (name : List ℕ) → Refuses built_in most Gives IsBad before now name NoMemory
@@ -71,3 +76,78 @@ module _ {X : Type 0} (built_in : X) (most : ℕ) (Gives : List ℕ → X → Ty
           | inl e ↦ inl e
           | inr e ↦ inr (inr e)
         ]
+
+  -- What comes of an answer of a search for this name, which finds what the name stands for.
+  module _ (shelf : ShelfTold) (name : List ℕ) (result : Result X Status) (only : (x : X) → IsKnown shelf name → Names built_in most Gives IsBad shelf name x → (result ≡ Ok x) ⊎ IsOutside result) where
+    -- something was found
+    module _ (x : X) (is : result ≡ Ok x) where
+      pub not_outside : IsOutside result → ⊥
+      not_outside (inl e) = cc
+      not_outside (inr e) = cc
+
+      pub stands : Names built_in most Gives IsBad shelf name x → (holds : X → Type 0) → holds x → StandsFor built_in most Gives IsBad shelf name holds
+      stands named holds held = record { found = x; named = named; only = λ y known names. from y (only y known names); held = held }
+        where
+          from : (y : X) → (result ≡ Ok y) ⊎ IsOutside result → y ≡ x
+          from y (inl e) = cc
+          from y (inr out) = absurd (not_outside out)
+
+      -- so what its file gives isn't bad
+      pub not_bad : ((status : Status) → IsKnown shelf name → NamesBad built_in most Gives IsBad shelf name status → (result ≡ Err status) ⊎ IsOutside result) → (status : Status) → IsKnown shelf name → NamesBad built_in most Gives IsBad shelf name status → ⊥
+      not_bad exact status known names = elim (exact status known names) [
+        | inl e ↦ cc
+        | inr out ↦ not_outside out
+      ]
+
+    -- nothing was found
+    module _ (now : ShelfTold) (status : Status) (is : result ≡ Err status) (refuses : Refuses built_in most Gives IsBad shelf now name status) (no_shelf : (bytes : List ℕ) → IsBad bytes ShelfFault → ⊥) where
+      failed_shelf : (s : Status) → Refuses built_in most Gives IsBad shelf now name s → s ≡ ShelfFault → FetchFailed name shelf now
+      failed_shelf s (Refuses.no_file no_dash failed) same = failed
+      failed_shelf s (Refuses.bad_file t names) same = absurd (no_shelf names.bytes (subst (IsBad names.bytes) same names.bad))
+      failed_shelf s Refuses.no_memory same = absurd (cc)
+
+      for_memory : ¬ FetchFailed name shelf now → IsOutside result → status ≡ NoMemory
+      for_memory fetched (inl e) = absurd (fetched (failed_shelf status refuses (cc)))
+      for_memory fetched (inr e) = cc
+
+      -- it was bad, or there was no memory
+      pub bad_refused : ((s : Status) → IsKnown shelf name → NamesBad built_in most Gives IsBad shelf name s → (result ≡ Err s) ⊎ IsOutside result) → (s : Status) → IsKnown shelf name → NamesBad built_in most Gives IsBad shelf name s → ¬ FetchFailed name shelf now
+          → (status ≡ s) ⊎ (status ≡ NoMemory)
+      bad_refused exact s known names fetched = elim (exact s known names) [
+        | inl e ↦ inl (cc)
+        | inr out ↦ inr (for_memory fetched out)
+      ]
+
+      -- where something is there, there was no memory
+      pub good_refused : (x : X) → IsKnown shelf name → Names built_in most Gives IsBad shelf name x → ¬ FetchFailed name shelf now → status ≡ NoMemory
+      good_refused x known names fetched = elim (only x known names) [
+        | inl e ↦ absurd (cc)
+        | inr out ↦ for_memory fetched out
+      ]
+
+  -- the same by another shelf that tells the same files
+  pub names_from : (a b : ShelfTold) → a.files ≡ b.files → (name : List ℕ) (x : X) → Names built_in most Gives IsBad a name x → Names built_in most Gives IsBad b name x
+  names_from a b same name _ (Names.at_dash other is_dash) = Names.at_dash name is_dash
+  names_from a b same name x (Names.in_file other bytes y no_dash fetched is) = Names.in_file name bytes x no_dash (subst (λ files. IsFetched files name most bytes) same fetched) is
+
+  pub bad_from : (a b : ShelfTold) → a.files ≡ b.files → (name : List ℕ) (status : Status) → NamesBad built_in most Gives IsBad a name status → NamesBad built_in most Gives IsBad b name status
+  bad_from a b same name status names = record { bytes = names.bytes; no_dash = names.no_dash; fetched = subst (λ files. IsFetched files name most names.bytes) same names.fetched; bad = names.bad }
+
+  pub stands_from : (a b : ShelfTold) → a.files ≡ b.files → (name : List ℕ) (holds : X → Type 0) → StandsFor built_in most Gives IsBad a name holds → StandsFor built_in most Gives IsBad b name holds
+  stands_from a b same name holds stand = record {
+    found = stand.found;
+    named = names_from a b same name stand.found stand.named;
+    only = λ other known names. stand.only other (known_from b a (sym same) name known) (names_from b a (sym same) name other names);
+    held = stand.held;
+  }
+
+-- a fetch that failed since then failed since before
+pub failed_from : (before mid now : ShelfTold) → IsLater before mid → (name : List ℕ) → FetchFailed name mid now → FetchFailed name before now
+failed_from before mid now later name rose = let less = later.faults name in omega (arith, less, rose)
+
+pub later_from : (before mid now : ShelfTold) → IsLater before mid → IsLater mid now → IsLater before now
+later_from before mid now first second = record { files = second.files ∙ first.files; faults = λ name. let a = first.faults name in let b = second.faults name in omega (arith, a, b) }
+
+-- an answer that is found is no refusal
+pub found_so : {T E : Type 0} (x : T) (e : E) → IsErrOf {T = T} (Ok x) e → ⊥
+found_so x e is = let same = is in cc

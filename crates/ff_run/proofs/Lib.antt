@@ -7,6 +7,8 @@ pub mod Drawing
 pub mod Commands
 pub mod Finding
 pub mod PolicyFaults
+pub mod RulesFaults
 pub mod Obeying
 pub mod Headline
 pub mod Counting
+pub mod Coming

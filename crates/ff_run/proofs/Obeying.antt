@@ -1,33 +1,36 @@
--- A command is obeyed under the policy that was found, or there is none.
-use Rattle.std.proofs.Common.{◌≡◌, ◌≢◌, ℕ, ◌⊎◌, inl, inr, Result, Ok, Err, List, [], refl, subst, String, Global}
+-- A command is obeyed under the policy that was found, by the rules that were found, or there is
+-- none.
+use Rattle.std.proofs.Common.{◌≡◌, ◌≢◌, ℕ, ◌⊎◌, inl, inr, Option, Result, Ok, Err, List, [], refl, sym, subst, ◌∙◌, String, Global}
+use Rattle.ff_io.specs.Counts.{Rose}
+use Rattle.ff_io.specs.Pieces.{Piece}
 use Rattle.ff_io.specs.Port.{Told}
 use Rattle.ff_io.specs.Shelf.{ShelfTold}
-use Rattle.ff_policy.specs.Assignment.{Assignment, IsAssignment}
-use Rattle.ff_policy.specs.declared.fault.PolicyFault.{PolicyFault}
-use Rattle.ff_run.specs.Words.{AreCommand}
-use Rattle.ff_policy.specs.Assignment.{builtin}
+use Rattle.ff_lattice.specs.Order.{Order}
+use Rattle.ff_policy.specs.Assignment.{Assignment, builtin}
 use Rattle.ff_policy.specs.Reading.{IsPolicyOf}
-use Rattle.ff_run.specs.declared.policies.TheConstants.{MOST_FETCHED}
-use Rattle.ff_run.specs.Names.{NamesBad, Refuses, IsKnown, FetchFailed, FetchedOrFailed, IsFetchedOrFails, IsOutside}
-use Rattle.ff_run.specs.Policies.{NamesPolicy, NamesFault, IsBadPolicy, RefusesPolicy, Under}
+use Rattle.ff_policy.specs.declared.fault.PolicyFault.{PolicyFault}
+use Rattle.ff_rules.specs.declared.rule.Rule.{Rule}
+use Rattle.ff_rules.specs.declared.fault.ReleaseFault.{ReleaseFault}
+use Rattle.ff_session.specs.Giving.{Gives}
+use Rattle.ff_session.specs.Works.{Duty, Exchanged, IsWritten}
+use Rattle.ff_release.specs.Releasing.{release_duty}
+use Rattle.ff_run.specs.Words.{AreCommand, dash}
+use Rattle.ff_run.specs.Names.{NamesBad, Refuses, StandsFor, IsKnown, IsLater, IsUnfetched, FetchFailed, FetchedOrFailed, IsFetchedOrFails}
+use Rattle.ff_run.specs.Policies.{NamesFault, IsBadPolicy, RefusesPolicy, Under}
+use Rattle.ff_run.specs.Rules.{AreBadRules, AreRulesOf, ByRules, NamesRulesFault, RefusesRules}
+use Rattle.ff_run.specs.Checked.{IsPut, check_text}
+use Rattle.ff_run.specs.Upgraded.{upgrade_text}
+use Rattle.ff_run.specs.declared.policies.TheConstants as policies
+use Rattle.ff_run.specs.declared.rules.TheConstants as rules_file
 use Rattle.ff_run.specs.Status.{IsEarly, IsUnfailing}
 use Rattle.ff_status.specs.Words.{IsGood, error_line}
-use Rattle.ff_run.specs.Run.{Suits, Performs, Obeys, NothingFailed}
+use Rattle.ff_status.specs.declared.status.TraceFault.{TraceFault}
+use Rattle.ff_run.specs.Run.{Suits, Performs, Obeys, Releases, Accepts, NothingFailed, IsUntouched}
 use Rattle.ff_run.specs.declared.words.Command.{Command}
 use Rattle.ff_run.specs.declared.words.Command.TheVariants as command
 use Rattle.ff_status.specs.declared.status.Status.{Status}
-use Rattle.ff_status.specs.declared.status.Status.TheVariants.{Done, Leaks, Usage, Policy, Trace, ReadFault, WriteFault, ShelfFault, NoMemory}
-
--- ---- answers apart
-
-ok_err : (p : Assignment) (status : Status) (found : Result Assignment Status) → found ≡ Ok p → found ≡ Err status → ⊥
-ok_err p status found first second = cc
-
-same_ok : (p q : Assignment) (found : Result Assignment Status) → found ≡ Ok p → found ≡ Ok q → q ≡ p
-same_ok p q found first second = cc
-
-same_err : (s t : Status) (found : Result Assignment Status) → found ≡ Err s → found ≡ Err t → s ≡ t
-same_err s t found first second = cc
+use Rattle.ff_status.specs.declared.status.Status.TheVariants.{Done, Leaks, Usage, Policy, Trace, ReadFault, WriteFault, ShelfFault, NoMemory, Release}
+use Rattle.ff_run.proofs.Finding.{bad_from, failed_from, known_from, names_from, stands_from}
 
 -- ---- the words
 
@@ -41,149 +44,212 @@ suits_command words ReadFault other are = are
 suits_command words WriteFault other are = are
 suits_command words ShelfFault other are = are
 suits_command words NoMemory other are = are
+suits_command words (Release fault) other are = are
 
--- ---- under a policy
-
--- where there is no policy, the words are a command all the same
-pub refused_otherwise : (shelf shelf_now : ShelfTold) (name : List ℕ) (status : Status) → RefusesPolicy shelf shelf_now name status → status ≢ Usage
-refused_otherwise shelf shelf_now name _ (Refuses.no_file no_dash failed) = λ e. cc
-refused_otherwise shelf shelf_now name _ (Refuses.bad_file status names) = from status names.bad
+-- no bytes fail to be fetched
+pub no_shelf_policy : (bytes : List ℕ) → IsBadPolicy bytes ShelfFault → ⊥
+no_shelf_policy bytes bad = from ShelfFault bad refl
   where
-    from : (s : Status) → IsBadPolicy names.bytes s → s ≢ Usage
-    from _ (IsBadPolicy.faulty fault bad) = λ e. cc
-refused_otherwise shelf shelf_now name _ Refuses.no_memory = λ e. cc
+    from : (s : Status) → IsBadPolicy bytes s → s ≡ ShelfFault → ⊥
+    from _ (IsBadPolicy.faulty fault is) e = cc
 
--- a command that is carried out under a policy doesn't end early
-pub late : (before now : Told) (turns_before turns_now : ℕ) (c : Command) (p : Assignment) (status : Status) → Performs c p before now turns_before turns_now status → ¬ IsEarly status
-late before now turns_before turns_now c p Done run early = early
-late before now turns_before turns_now c p Leaks run early = early
-late before now turns_before turns_now c p (Trace number fault) run early = early
-late before now turns_before turns_now c p ReadFault run early = early
-late before now turns_before turns_now c p WriteFault run early = early
-late before now turns_before turns_now c p NoMemory run early = early
-late before now turns_before turns_now command.Check p Usage run early = run.listed
-late before now turns_before turns_now command.Check p (Policy fault) run early = run.listed
-late before now turns_before turns_now command.Check p ShelfFault run early = run.listed
-late before now turns_before turns_now command.Upgrade p Usage run early = run.written
-late before now turns_before turns_now command.Upgrade p (Policy fault) run early = run.written
-late before now turns_before turns_now command.Upgrade p ShelfFault run early = run.written
-late before now turns_before turns_now (command.Generate start inputs) p Usage run early = run
-late before now turns_before turns_now (command.Generate start inputs) p (Policy fault) run early = run
-late before now turns_before turns_now (command.Generate start inputs) p ShelfFault run early = run
-late before now turns_before turns_now (command.Trace work) p Usage run early = run.written
-late before now turns_before turns_now (command.Trace work) p (Policy fault) run early = run.written
-late before now turns_before turns_now (command.Trace work) p ShelfFault run early = run.written
-late before now turns_before turns_now command.Audit p Usage run early = run.written
-late before now turns_before turns_now command.Audit p (Policy fault) run early = run.written
-late before now turns_before turns_now command.Audit p ShelfFault run early = run.written
-late before now turns_before turns_now command.Travel p Usage run early = run.written
-late before now turns_before turns_now command.Travel p (Policy fault) run early = run.written
-late before now turns_before turns_now command.Travel p ShelfFault run early = run.written
+pub no_shelf_rules : (order : Order) (bytes : List ℕ) → AreBadRules order bytes ShelfFault → ⊥
+no_shelf_rules order bytes bad = from ShelfFault bad refl
+  where
+    from : (s : Status) → AreBadRules order bytes s → s ≡ ShelfFault → ⊥
+    from _ (AreBadRules.faulty fault is) e = cc
 
-module _ (shelf shelf_now : ShelfTold) (name : List ℕ) (found : Result Assignment Status)
-    (accepts : (p : Assignment) → IsKnown shelf name → NamesPolicy shelf name p → (found ≡ Ok p) ⊎ IsOutside found)
-    (only : (fault : PolicyFault) → IsKnown shelf name → NamesFault shelf name fault → (found ≡ Err (Policy fault)) ⊎ IsOutside found) where
-  module _ (p : Assignment) (is : found ≡ Ok p) where
-    inside : IsOutside found → ⊥
-    inside (inl e) = ok_err p ShelfFault found is e
-    inside (inr e) = ok_err p NoMemory found is e
+-- ---- what is carried out
 
-    -- so it was found
-    under : NamesPolicy shelf name p → IsAssignment p → (holds : Assignment → Type 0) → holds p → Under shelf name holds
-    under named valid holds held = record { policy = p; named = named; only = λ q known names. from q (accepts q known names); valid = valid; held = held }
-      where
-        from : (q : Assignment) → (found ≡ Ok q) ⊎ IsOutside found → q ≡ p
-        from q (inl e) = same_ok p q found is e
-        from q (inr out) = absurd (inside out)
+-- how it ends where something goes over a trace, or puts a text alone
+record IsLate (before now : Told) (status : Status) : Type 0 where
+  pub late : ¬ IsEarly status
+  pub well : ¬ Rose before.read_faults now.read_faults → ¬ Rose before.write_faults now.write_faults → IsUnfailing status
 
-    -- and the command was carried out under it
-    pub obeys_under : (before now : Told) (turns_before turns_now : ℕ) (c : Command) → NamesPolicy shelf name p → IsAssignment p → (status : Status) → Performs c p before now turns_before turns_now status
-        → Obeys c name shelf shelf_now before now turns_before turns_now status
-    obeys_under before now turns_before turns_now c named valid Done run = under named valid (λ q. Performs c q before now turns_before turns_now Done) run
-    obeys_under before now turns_before turns_now c named valid Leaks run = under named valid (λ q. Performs c q before now turns_before turns_now Leaks) run
-    obeys_under before now turns_before turns_now c named valid (Trace number fault) run = under named valid (λ q. Performs c q before now turns_before turns_now (Trace number fault)) run
-    obeys_under before now turns_before turns_now c named valid ReadFault run = under named valid (λ q. Performs c q before now turns_before turns_now ReadFault) run
-    obeys_under before now turns_before turns_now c named valid WriteFault run = under named valid (λ q. Performs c q before now turns_before turns_now WriteFault) run
-    obeys_under before now turns_before turns_now c named valid NoMemory run = inr (under named valid (λ q. Performs c q before now turns_before turns_now NoMemory) run)
-    obeys_under before now turns_before turns_now c named valid Usage run = late before now turns_before turns_now c p Usage run tt
-    obeys_under before now turns_before turns_now c named valid (Policy fault) run = absurd (late before now turns_before turns_now c p (Policy fault) run tt)
-    obeys_under before now turns_before turns_now c named valid ShelfFault run = absurd (late before now turns_before turns_now c p ShelfFault run tt)
+module _ {X : Type 0} {Given : List ℕ → Result (Option X) TraceFault → Type 0} {owed : Duty X} {before now : Told} {turns_before turns_now : ℕ} (s : Status) (run : Exchanged Given owed before now turns_before turns_now s) where
+  early : (t : Status) → IsWritten Given owed t run.pieces turns_before turns_now → ¬ IsEarly t
+  early Done written is = is
+  early Leaks written is = is
+  early (Trace number fault) written is = is
+  early ReadFault written is = is
+  early WriteFault written is = is
+  early NoMemory written is = is
+  early Usage written is = written
+  early (Policy fault) written is = written
+  early ShelfFault written is = written
+  early (Release fault) written is = written
 
-    -- and the file of this name has no fault
-    pub no_fault_under : (fault : PolicyFault) → IsKnown shelf name → NamesFault shelf name fault → ⊥
-    no_fault_under fault known names = elim (only fault known names) [
-      | inl e ↦ ok_err p (Policy fault) found is e
-      | inr out ↦ inside out
-    ]
+  well_ended : {r w : Type 0} (t : Status) → IsWritten Given owed t run.pieces turns_before turns_now → (t ≡ ReadFault → r) → (t ≡ WriteFault → w) → ¬ r → ¬ w → IsUnfailing t
+  well_ended Done written reads writes no_read no_write = tt
+  well_ended Leaks written reads writes no_read no_write = tt
+  well_ended (Trace number fault) written reads writes no_read no_write = tt
+  well_ended ReadFault written reads writes no_read no_write = no_read (reads refl)
+  well_ended WriteFault written reads writes no_read no_write = no_write (writes refl)
+  well_ended NoMemory written reads writes no_read no_write = tt
+  well_ended Usage written reads writes no_read no_write = tt
+  well_ended (Policy fault) written reads writes no_read no_write = tt
+  well_ended ShelfFault written reads writes no_read no_write = written
+  well_ended (Release fault) written reads writes no_read no_write = tt
+
+  exchanged_late : IsLate before now s
+  exchanged_late = record { late = early s run.written; well = λ no_read no_write. well_ended s run.written run.read_fault run.write_fault no_read no_write }
+
+put_late : (text : List ℕ) (before now : Told) (s : Status) → IsPut text before now s → IsLate before now s
+put_late text before now Done put = record { late = λ is. is; well = λ no_read no_write. tt }
+put_late text before now WriteFault put = record { late = λ is. is; well = λ no_read no_write. no_write put.1 }
+put_late text before now NoMemory put = record { late = λ is. is; well = λ no_read no_write. tt }
+put_late text before now Leaks put = absurd put
+put_late text before now (Trace number fault) put = absurd put
+put_late text before now ReadFault put = absurd put
+put_late text before now Usage put = absurd put
+put_late text before now (Policy fault) put = absurd put
+put_late text before now ShelfFault put = absurd put
+put_late text before now (Release fault) put = absurd put
+
+-- a command that is carried out under a policy doesn't end early, and well where nothing failed
+performed : (c : Command) (p : Assignment) (shelf : ShelfTold) (file : List ℕ) (before now : Told) (turns_before turns_now : ℕ) (s : Status) → Performs c p shelf file before now turns_before turns_now s → IsLate before now s
+performed command.Check p shelf file before now turns_before turns_now s run = put_late (check_text p.order) before now s run.listed
+performed command.Upgrade p shelf file before now turns_before turns_now s run = put_late (upgrade_text p) before now s run.written
+performed (command.Trace work) p shelf file before now turns_before turns_now s run = exchanged_late s run
+performed command.Audit p shelf file before now turns_before turns_now s run = exchanged_late s run
+performed command.Travel p shelf file before now turns_before turns_now s run = exchanged_late s run
+performed command.Release p shelf file before now turns_before turns_now s by = exchanged_late s by.held
+performed (command.Generate start inputs) p shelf file before now turns_before turns_now Done run = record { late = λ is. is; well = λ no_read no_write. tt }
+performed (command.Generate start inputs) p shelf file before now turns_before turns_now WriteFault run = record { late = λ is. is; well = λ no_read no_write. no_write run.held.1 }
+performed (command.Generate start inputs) p shelf file before now turns_before turns_now NoMemory run = record { late = λ is. is; well = λ no_read no_write. tt }
+performed (command.Generate start inputs) p shelf file before now turns_before turns_now Leaks run = absurd run
+performed (command.Generate start inputs) p shelf file before now turns_before turns_now (Trace number fault) run = absurd run
+performed (command.Generate start inputs) p shelf file before now turns_before turns_now ReadFault run = absurd run
+performed (command.Generate start inputs) p shelf file before now turns_before turns_now Usage run = absurd run
+performed (command.Generate start inputs) p shelf file before now turns_before turns_now (Policy fault) run = absurd run
+performed (command.Generate start inputs) p shelf file before now turns_before turns_now ShelfFault run = absurd run
+performed (command.Generate start inputs) p shelf file before now turns_before turns_now (Release fault) run = absurd run
+
+pub late : (c : Command) (p : Assignment) (shelf : ShelfTold) (file : List ℕ) (before now : Told) (turns_before turns_now : ℕ) (s : Status) → Performs c p shelf file before now turns_before turns_now s → ¬ IsEarly s
+late c p shelf file before now turns_before turns_now s run = (performed c p shelf file before now turns_before turns_now s run).late
+
+module _ (name file : List ℕ) (shelf shelf_now : ShelfTold) (before now : Told) (turns_before turns_now : ℕ) where
+  -- a command that was carried out under a policy
+  pub obeys_under : (c : Command) (s : Status) → Under shelf name (λ p. Performs c p shelf file before now turns_before turns_now s) → Obeys c name file shelf shelf_now before now turns_before turns_now s
+  obeys_under c Done under = under
+  obeys_under c Leaks under = under
+  obeys_under c (Trace number fault) under = under
+  obeys_under c ReadFault under = under
+  obeys_under c WriteFault under = under
+  obeys_under c NoMemory under = inr under
+  obeys_under c Usage under = late c under.found shelf file before now turns_before turns_now Usage under.held.1 tt
+  obeys_under c (Policy fault) under = absurd (late c under.found shelf file before now turns_before turns_now (Policy fault) under.held.1 tt)
+  obeys_under c ShelfFault under = absurd (late c under.found shelf file before now turns_before turns_now ShelfFault under.held.1 tt)
+  obeys_under c (Release fault) under = absurd (late c under.found shelf file before now turns_before turns_now (Release fault) under.held.1 tt)
 
   -- there is no policy of this name
-  module _ (status : Status) (is : found ≡ Err status) (refuses : RefusesPolicy shelf shelf_now name status) where
-    pub obeys_refused : (before now : Told) (turns_before turns_now : ℕ) (c : Command) → now ≡ before → turns_now ≡ turns_before → Obeys c name shelf shelf_now before now turns_before turns_now status
-    obeys_refused before now turns_before turns_now c same unturned = from status refuses
-      where
-        by_bytes : (bytes : List ℕ) (s : Status) → IsBadPolicy bytes s → NamesBad builtin MOST_FETCHED IsPolicyOf IsBadPolicy shelf name s → Obeys c name shelf shelf_now before now turns_before turns_now s
-        by_bytes bytes s (IsBadPolicy.faulty fault is) names = (names, record { port = same; turns = unturned })
+  pub obeys_refused : (c : Command) (s : Status) → RefusesPolicy shelf shelf_now name s → now ≡ before → turns_now ≡ turns_before → Obeys c name file shelf shelf_now before now turns_before turns_now s
+  obeys_refused c s refuses same unturned = from s refuses
+    where
+      untouched : IsUntouched before now turns_before turns_now
+      untouched = record { port = same; turns = unturned }
 
-        from : (s : Status) → RefusesPolicy shelf shelf_now name s → Obeys c name shelf shelf_now before now turns_before turns_now s
-        from s (Refuses.no_file no_dash failed) = (no_dash, failed, record { port = same; turns = unturned })
-        from s (Refuses.bad_file t names) = by_bytes names.bytes t names.bad names
-        from s Refuses.no_memory = inl (record { port = same; turns = unturned })
+      by_bytes : (bytes : List ℕ) (t : Status) → IsBadPolicy bytes t → NamesBad builtin policies.MOST_FETCHED IsPolicyOf IsBadPolicy shelf name t → Obeys c name file shelf shelf_now before now turns_before turns_now t
+      by_bytes bytes _ (IsBadPolicy.faulty fault is) names = (names, untouched)
 
-    failed_shelf : (s : Status) → RefusesPolicy shelf shelf_now name s → s ≡ ShelfFault → FetchFailed name shelf shelf_now
-    failed_shelf s (Refuses.no_file no_dash failed) same = failed
-    failed_shelf s (Refuses.bad_file t names) same = absurd (no_bad names.bytes t names.bad same)
-      where
-        no_bad : (bytes : List ℕ) (t : Status) → IsBadPolicy bytes t → t ≡ ShelfFault → ⊥
-        no_bad bytes t (IsBadPolicy.faulty fault is) e = cc
-    failed_shelf s Refuses.no_memory same = absurd (cc)
+      from : (t : Status) → RefusesPolicy shelf shelf_now name t → Obeys c name file shelf shelf_now before now turns_before turns_now t
+      from _ (Refuses.no_file no_dash failed) = (inl (no_dash, failed), untouched)
+      from _ (Refuses.bad_file t names) = by_bytes names.bytes t names.bad names
+      from _ Refuses.no_memory = inl untouched
 
-    for_memory : ¬ FetchFailed name shelf shelf_now → IsOutside found → status ≡ NoMemory
-    for_memory fetched (inl e) = absurd (fetched (failed_shelf status refuses (same_err status ShelfFault found is e)))
-    for_memory fetched (inr e) = same_err status NoMemory found is e
+  -- so the words are a command
+  pub no_usage : (c : Command) (s : Status) → Obeys c name file shelf shelf_now before now turns_before turns_now s → s ≢ Usage
+  no_usage c s obeys same = subst (Obeys c name file shelf shelf_now before now turns_before turns_now) same obeys
 
-    pub bad_policy_refused : (fault : PolicyFault) → IsKnown shelf name → NamesFault shelf name fault → ¬ FetchFailed name shelf shelf_now → (status ≡ Policy fault) ⊎ (status ≡ NoMemory)
-    bad_policy_refused fault known names fetched = elim (only fault known names) [
-      | inl e ↦ inl (same_err status (Policy fault) found is e)
-      | inr out ↦ inr (for_memory fetched out)
-    ]
+  -- where nothing failed, no fault is what it ended with
+  pub unfailing : (c : Command) (s : Status) → Obeys c name file shelf shelf_now before now turns_before turns_now s → NothingFailed name file shelf shelf_now before now → IsUnfailing s
+  unfailing c Done obeys fine = tt
+  unfailing c Leaks obeys fine = tt
+  unfailing c Usage obeys fine = tt
+  unfailing c (Policy fault) obeys fine = tt
+  unfailing c (Trace number fault) obeys fine = tt
+  unfailing c NoMemory obeys fine = tt
+  unfailing c (Release fault) obeys fine = tt
+  unfailing c ShelfFault obeys fine = elim obeys.0 [
+    | inl first ↦ fine.fetches first
+    | inr second ↦ fine.more_fetches second
+  ]
+  unfailing c ReadFault obeys fine = (performed c obeys.found shelf file before now turns_before turns_now ReadFault obeys.held.1).well fine.reads fine.writes
+  unfailing c WriteFault obeys fine = (performed c obeys.found shelf file before now turns_before turns_now WriteFault obeys.held.1).well fine.reads fine.writes
 
-    pub good_policy_refused : (p : Assignment) → IsKnown shelf name → NamesPolicy shelf name p → ¬ FetchFailed name shelf shelf_now → ¬ IsEarly status
-    good_policy_refused p known names fetched early = elim (accepts p known names) [
-      | inl e ↦ ok_err p status found e is
-      | inr out ↦ subst IsEarly (for_memory fetched out) early
-    ]
+-- ---- a released run
 
--- where nothing failed, no fault is what it ended with
-pub unfailing : (c : Command) (name : List ℕ) (shelf shelf_now : ShelfTold) (before now : Told) (turns_before turns_now : ℕ) (status : Status)
-    → Obeys c name shelf shelf_now before now turns_before turns_now status → NothingFailed name shelf shelf_now before now → IsUnfailing status
-unfailing c name shelf shelf_now before now turns_before turns_now Done obeys fine = tt
-unfailing c name shelf shelf_now before now turns_before turns_now Leaks obeys fine = tt
-unfailing c name shelf shelf_now before now turns_before turns_now Usage obeys fine = tt
-unfailing c name shelf shelf_now before now turns_before turns_now (Policy fault) obeys fine = tt
-unfailing c name shelf shelf_now before now turns_before turns_now (Trace number fault) obeys fine = tt
-unfailing c name shelf shelf_now before now turns_before turns_now NoMemory obeys fine = tt
-unfailing c name shelf shelf_now before now turns_before turns_now ShelfFault obeys fine = fine.fetches obeys.1
-unfailing command.Check name shelf shelf_now before now turns_before turns_now ReadFault obeys fine = obeys.held.listed
-unfailing command.Check name shelf shelf_now before now turns_before turns_now WriteFault obeys fine = fine.writes obeys.held.listed.1
-unfailing command.Upgrade name shelf shelf_now before now turns_before turns_now ReadFault obeys fine = obeys.held.written
-unfailing command.Upgrade name shelf shelf_now before now turns_before turns_now WriteFault obeys fine = fine.writes obeys.held.written.1
-unfailing (command.Generate start inputs) name shelf shelf_now before now turns_before turns_now ReadFault obeys fine = obeys.held
-unfailing (command.Generate start inputs) name shelf shelf_now before now turns_before turns_now WriteFault obeys fine = fine.writes obeys.held.held.1
-unfailing (command.Trace work) name shelf shelf_now before now turns_before turns_now ReadFault obeys fine = fine.reads (obeys.held.read_fault refl)
-unfailing (command.Trace work) name shelf shelf_now before now turns_before turns_now WriteFault obeys fine = fine.writes (obeys.held.write_fault refl)
-unfailing command.Audit name shelf shelf_now before now turns_before turns_now ReadFault obeys fine = fine.reads (obeys.held.read_fault refl)
-unfailing command.Audit name shelf shelf_now before now turns_before turns_now WriteFault obeys fine = fine.writes (obeys.held.write_fault refl)
-unfailing command.Travel name shelf shelf_now before now turns_before turns_now ReadFault obeys fine = fine.reads (obeys.held.read_fault refl)
-unfailing command.Travel name shelf shelf_now before now turns_before turns_now WriteFault obeys fine = fine.writes (obeys.held.write_fault refl)
+module _ (p : Assignment) (file : List ℕ) (before now : Told) (turns_before turns_now : ℕ) where
+  -- it was carried out by the rules of this name
+  pub releases_by : (shelf shelf_now : ShelfTold) (s : Status) → Performs command.Release p shelf file before now turns_before turns_now s → Releases p file shelf shelf_now before now turns_before turns_now s
+  releases_by shelf shelf_now Done by = by
+  releases_by shelf shelf_now Leaks by = by
+  releases_by shelf shelf_now (Trace number fault) by = by
+  releases_by shelf shelf_now ReadFault by = by
+  releases_by shelf shelf_now WriteFault by = by
+  releases_by shelf shelf_now NoMemory by = inr by
+  releases_by shelf shelf_now Usage by = late command.Release p shelf file before now turns_before turns_now Usage by tt
+  releases_by shelf shelf_now (Policy fault) by = late command.Release p shelf file before now turns_before turns_now (Policy fault) by tt
+  releases_by shelf shelf_now ShelfFault by = absurd (late command.Release p shelf file before now turns_before turns_now ShelfFault by tt)
+  releases_by shelf shelf_now (Release fault) by = absurd (late command.Release p shelf file before now turns_before turns_now (Release fault) by tt)
 
--- a fetch of the policy's file failed where the status says so alone
-pub fetched_so : (name : List ℕ) (shelf shelf_now : ShelfTold) (found : Result Assignment Status) (status : Status) → found ≡ Err status → IsFetchedOrFails name shelf shelf_now found → FetchedOrFailed name shelf shelf_now status
-fetched_so name shelf shelf_now found status is (inl e) = inl (same_err status ShelfFault found is e)
-fetched_so name shelf shelf_now found status is (inr e) = inr e
+  -- there are no rules of this name
+  pub releases_refused : (shelf shelf_now : ShelfTold) (s : Status) → RefusesRules p.order shelf shelf_now file s → now ≡ before → turns_now ≡ turns_before → Releases p file shelf shelf_now before now turns_before turns_now s
+  releases_refused shelf shelf_now s refuses same unturned = from s refuses
+    where
+      untouched : IsUntouched before now turns_before turns_now
+      untouched = record { port = same; turns = unturned }
 
-pub fetched_well : (name : List ℕ) (shelf shelf_now : ShelfTold) (found : Result Assignment Status) (p : Assignment) (status : Status) → found ≡ Ok p → IsFetchedOrFails name shelf shelf_now found → FetchedOrFailed name shelf shelf_now status
-fetched_well name shelf shelf_now found p status is (inl e) = absurd (ok_err p ShelfFault found is e)
-fetched_well name shelf shelf_now found p status is (inr e) = inr e
+      by_bytes : (bytes : List ℕ) (t : Status) → AreBadRules p.order bytes t → NamesBad [] rules_file.MOST_FETCHED (AreRulesOf p.order) (AreBadRules p.order) shelf file t → Releases p file shelf shelf_now before now turns_before turns_now t
+      by_bytes bytes _ (AreBadRules.faulty fault is) names = (names, untouched)
+
+      from : (t : Status) → RefusesRules p.order shelf shelf_now file t → Releases p file shelf shelf_now before now turns_before turns_now t
+      from _ (Refuses.no_file no_dash failed) = ((no_dash, failed), untouched)
+      from _ (Refuses.bad_file t names) = by_bytes names.bytes t names.bad names
+      from _ Refuses.no_memory = inl untouched
+
+  -- the same by a shelf before a fetch that went well, under the policy that was found
+  module _ (name : List ℕ) (shelf mid shelf_now : ShelfTold) (later : IsLater shelf mid) (under : (holds : Assignment → Type 0) → holds p → Under shelf name holds) where
+    by_rules : (s : Status) → Performs command.Release p mid file before now turns_before turns_now s → Under shelf name (λ q. Performs command.Release q shelf file before now turns_before turns_now s)
+    by_rules s by = under (λ q. Performs command.Release q shelf file before now turns_before turns_now s)
+        (stands_from [] rules_file.MOST_FETCHED (AreRulesOf p.order) (AreBadRules p.order) mid shelf later.files file (λ rules. Exchanged (Gives p.order) (release_duty p rules) before now turns_before turns_now s) by)
+
+    pub obeys_released : (s : Status) → Releases p file mid shelf_now before now turns_before turns_now s → Obeys command.Release name file shelf shelf_now before now turns_before turns_now s
+    obeys_released Done by = by_rules Done by
+    obeys_released Leaks by = by_rules Leaks by
+    obeys_released (Trace number fault) by = by_rules (Trace number fault) by
+    obeys_released ReadFault by = by_rules ReadFault by
+    obeys_released WriteFault by = by_rules WriteFault by
+    obeys_released NoMemory (inl untouched) = inl untouched
+    obeys_released NoMemory (inr by) = inr (by_rules NoMemory by)
+    obeys_released Usage none = none
+    obeys_released (Policy fault) none = absurd none
+    obeys_released ShelfFault released = (inr (released.0.0, failed_from shelf mid shelf_now later file released.0.1), released.1)
+    obeys_released (Release fault) released =
+        (refl, under (λ q. NamesRulesFault q.order shelf file fault) (bad_from [] rules_file.MOST_FETCHED (AreRulesOf p.order) (AreBadRules p.order) mid shelf later.files file (Release fault) released.0), released.1)
+
+-- a shelf before a fetch that went well
+pub accepts_from : (order : Order) (file : List ℕ) (shelf mid shelf_now : ShelfTold) (s : Status) → IsLater shelf mid → Accepts order file mid shelf_now s → Accepts order file shelf shelf_now s
+accepts_from order file shelf mid shelf_now s later accepts = record {
+  bad = λ fault known names fetched. accepts.bad fault (known_from shelf mid (sym later.files) file known)
+      (bad_from [] rules_file.MOST_FETCHED (AreRulesOf order) (AreBadRules order) shelf mid (sym later.files) file (Release fault) names) (λ failed. fetched (failed_from shelf mid shelf_now later file failed));
+  good = λ rules known names fetched. accepts.good rules (known_from shelf mid (sym later.files) file known)
+      (names_from [] rules_file.MOST_FETCHED (AreRulesOf order) (AreBadRules order) shelf mid (sym later.files) file rules names) (λ failed. fetched (failed_from shelf mid shelf_now later file failed));
+}
+
+-- ---- fetches that failed
+
+pub fetched_so : {X : Type 0} (shelf shelf_now : ShelfTold) (found : Result X Status) (s : Status) → found ≡ Err s → IsFetchedOrFails shelf shelf_now found → FetchedOrFailed shelf shelf_now s
+fetched_so shelf shelf_now found s is (inl e) = inl (cc)
+fetched_so shelf shelf_now found s is (inr same) = inr same
+
+pub fetched_well : {X : Type 0} (shelf mid shelf_now : ShelfTold) (found : Result X Status) (x : X) (s : Status) → found ≡ Ok x → IsFetchedOrFails shelf mid found → FetchedOrFailed mid shelf_now s → FetchedOrFailed shelf shelf_now s
+fetched_well shelf mid shelf_now found x s is (inl e) then = absurd (cc)
+fetched_well shelf mid shelf_now found x s is (inr same) (inl e) = inl e
+fetched_well shelf mid shelf_now found x s is (inr same) (inr more) = inr (λ name. more name ∙ same name)
+
+pub fetched_none : {X : Type 0} (shelf mid : ShelfTold) (found : Result X Status) (x : X) (s : Status) → found ≡ Ok x → IsFetchedOrFails shelf mid found → FetchedOrFailed shelf mid s
+fetched_none shelf mid found x s is fetched = fetched_well shelf mid mid found x s is fetched (inr (λ name. refl))
 
 -- a status without a line is that of work that was done to its end
 pub said_none : (s : Status) → error_line s ≡ [] → IsGood s
@@ -196,3 +262,4 @@ said_none ReadFault none = cc
 said_none WriteFault none = cc
 said_none ShelfFault none = cc
 said_none NoMemory none = cc
+said_none (Release fault) none = cc

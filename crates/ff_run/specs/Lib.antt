@@ -1,6 +1,7 @@
 pub mod Words
 pub mod Names
 pub mod Policies
+pub mod Rules
 pub mod Status
 pub mod Checked
 pub mod Upgraded

@@ -1,6 +1,6 @@
 -- What a name stands for: something built in at `-`, and else what the bytes of the file of this
 -- name give.
-use Rattle.std.specs.Prelude.{◌≡◌, ◌≢◌, ◌⊎◌, ℕ, Some, Result, Err, List}
+use Rattle.std.specs.Prelude.{◌≡◌, ◌≢◌, ◌⊎◌, ◌≤◌, ℕ, Some, Result, Err, List}
 use Rattle.ff_io.specs.Counts.{Rose}
 use Rattle.ff_io.specs.Shelf.{Files, ShelfTold}
 use Rattle.ff_io.specs.Fetched.{IsFetched}
@@ -12,9 +12,13 @@ use Rattle.ff_run.specs.Words.{dash}
 abbrev pub FetchFailed : List ℕ → ShelfTold → ShelfTold → Type 0
 FetchFailed name before now = Rose (before.faults name) (now.faults name)
 
--- no fetch of it failed, or the run ends with that it did
-abbrev pub FetchedOrFailed : List ℕ → ShelfTold → ShelfTold → Status → Type 0
-FetchedOrFailed name before now status = (status ≡ ShelfFault) ⊎ (now.faults name ≡ before.faults name)
+-- the name is that of a file, and a fetch of it failed
+abbrev pub IsUnfetched : List ℕ → ShelfTold → ShelfTold → Type 0
+IsUnfetched name before now = (name ≢ dash) × FetchFailed name before now
+
+-- no fetch of any file failed, or the run ends with that one did
+abbrev pub FetchedOrFailed : ShelfTold → ShelfTold → Status → Type 0
+FetchedOrFailed before now status = (status ≡ ShelfFault) ⊎ ((name : List ℕ) → now.faults name ≡ before.faults name)
 
 -- what the name stands for is known: what is built in, or the files are told
 abbrev pub IsKnown : ShelfTold → List ℕ → Type 0
@@ -42,9 +46,22 @@ module _ {X : Type 0} (built_in : X) (most : ℕ) (Gives : List ℕ → X → Ty
     bad_file : (status : Status) → NamesBad before name status → Refuses before now name status
     no_memory : Refuses before now name NoMemory
 
--- no fetch of the file failed, or that one did is the answer
-abbrev pub IsFetchedOrFails : {X : Type 0} → List ℕ → ShelfTold → ShelfTold → Result X Status → Type 0
-IsFetchedOrFails name before now found = (found ≡ Err ShelfFault) ⊎ (now.faults name ≡ before.faults name)
+  -- The name stands for something of which this holds; where it is known what the name stands for,
+  -- for nothing else.
+  pub record StandsFor (shelf : ShelfTold) (name : List ℕ) (holds : X → Type 0) : Type 0 where
+    pub found : X
+    pub named : Names shelf name found
+    pub only : (other : X) → IsKnown shelf name → Names shelf name other → other ≡ found
+    pub held : holds found
+
+-- no fetch of any file failed, or that one did is the answer
+abbrev pub IsFetchedOrFails : {X : Type 0} → ShelfTold → ShelfTold → Result X Status → Type 0
+IsFetchedOrFails before now found = (found ≡ Err ShelfFault) ⊎ ((name : List ℕ) → now.faults name ≡ before.faults name)
+
+-- The files are the same, and of no name was a failure taken back.
+pub record IsLater (before now : ShelfTold) : Type 0 where
+  pub files : now.files ≡ before.files
+  pub faults : (name : List ℕ) → before.faults name ≤ now.faults name
 
 -- a refusal that the file's bytes have no part in
 abbrev pub IsOutside : {X : Type 0} → Result X Status → Type 0

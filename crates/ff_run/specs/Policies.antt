@@ -1,12 +1,12 @@
 -- Which policy a name stands for, and what is wrong with it.
-use Rattle.std.specs.Prelude.{◌≡◌, ℕ, List}
+use Rattle.std.specs.Prelude.{ℕ, List}
 use Rattle.ff_io.specs.Shelf.{ShelfTold}
 use Rattle.ff_policy.specs.Assignment.{Assignment, IsAssignment, builtin}
 use Rattle.ff_policy.specs.Reading.{IsPolicyOf, IsFault}
 use Rattle.ff_policy.specs.declared.fault.PolicyFault.{PolicyFault}
 use Rattle.ff_status.specs.declared.status.Status.{Status}
 use Rattle.ff_status.specs.declared.status.Status.TheVariants.{Policy}
-use Rattle.ff_run.specs.Names.{Names, NamesBad, Refuses, IsKnown}
+use Rattle.ff_run.specs.Names.{Names, NamesBad, Refuses, StandsFor}
 use Rattle.ff_run.specs.declared.policies.TheConstants.{MOST_FETCHED}
 
 -- bytes are no policy, and a run ends so
@@ -25,11 +25,7 @@ NamesFault shelf name fault = NamesBad builtin MOST_FETCHED IsPolicyOf IsBadPoli
 abbrev pub RefusesPolicy : ShelfTold → ShelfTold → List ℕ → Status → Type 0
 RefusesPolicy = Refuses builtin MOST_FETCHED IsPolicyOf IsBadPolicy
 
--- This holds under the policy of this name; where it is known what the name stands for, no other
--- has it.
-pub record Under (shelf : ShelfTold) (name : List ℕ) (holds : Assignment → Type 0) : Type 0 where
-  pub policy : Assignment
-  pub named : NamesPolicy shelf name policy
-  pub only : (other : Assignment) → IsKnown shelf name → NamesPolicy shelf name other → other ≡ policy
-  pub valid : IsAssignment policy
-  pub held : holds policy
+-- under the policy of this name, which is valid, this holds; where it is known what the name stands
+-- for, no other policy has it
+abbrev pub Under : ShelfTold → List ℕ → (Assignment → Type 0) → Type 0
+Under shelf name holds = StandsFor builtin MOST_FETCHED IsPolicyOf IsBadPolicy shelf name (λ p. IsAssignment p × holds p)

@@ -10,6 +10,8 @@ mod generate;
 mod law;
 mod named;
 mod policies;
+mod released;
+mod rules;
 mod tally;
 mod top;
 mod upgrade;

@@ -1,6 +1,6 @@
 //! A name, and what it stands for.
 ghost use Rattle.std.specs.Prelude.{◌≡◌, ◌≢◌, ◌<◌, ◌⊎◌, ℕ, List, IfOk, IfErr, Ok, Err};
-ghost use Rattle.ff_run.specs.Names.{Names, NamesBad, Refuses, IsFetchedOrFails, IsKnown, IsOutside};
+ghost use Rattle.ff_run.specs.Names.{Names, NamesBad, Refuses, IsFetchedOrFails, IsKnown, IsLater, IsOutside};
 ghost use Rattle.ff_run.specs.Words.{dash};
 ghost use Rattle.ff_status.specs.declared.status.Status.{Status};
 
@@ -58,7 +58,8 @@ pub(crate) fn find<N: Named, S: Shelf>(
     ensures refused { IfErr result (Refuses (N.at_dash what.now) (N.most what.now) (N.gives what.now) (N.is_bad what.now) (S.told shelf.old) (S.told shelf.new) name.now) }
     ensures only { (found : N.Found) → IsKnown (S.told shelf.old) name.now → Names (N.at_dash what.now) (N.most what.now) (N.gives what.now) (N.is_bad what.now) (S.told shelf.old) name.now found → (result ≡ Ok found) ⊎ IsOutside result }
     ensures exact { (status : Status) → IsKnown (S.told shelf.old) name.now → NamesBad (N.at_dash what.now) (N.most what.now) (N.gives what.now) (N.is_bad what.now) (S.told shelf.old) name.now status → (result ≡ Err status) ⊎ IsOutside result }
-    ensures fetched { IsFetchedOrFails name.now (S.told shelf.old) (S.told shelf.new) result }
+    ensures fetched { IsFetchedOrFails (S.told shelf.old) (S.told shelf.new) result }
+    ensures later { IsLater (S.told shelf.old) (S.told shelf.new) }
     ensures untouched { name.now ≡ dash → shelf.new ≡ shelf.old }
 {
     if name == "-" {
@@ -84,7 +85,8 @@ fn fetch<N: Named, S: Shelf>(
     ensures refused { IfErr result (Refuses (N.at_dash what.now) (N.most what.now) (N.gives what.now) (N.is_bad what.now) (S.told shelf.old) (S.told shelf.new) name.now) }
     ensures only { (found : N.Found) → IsKnown (S.told shelf.old) name.now → Names (N.at_dash what.now) (N.most what.now) (N.gives what.now) (N.is_bad what.now) (S.told shelf.old) name.now found → (result ≡ Ok found) ⊎ IsOutside result }
     ensures exact { (status : Status) → IsKnown (S.told shelf.old) name.now → NamesBad (N.at_dash what.now) (N.most what.now) (N.gives what.now) (N.is_bad what.now) (S.told shelf.old) name.now status → (result ≡ Err status) ⊎ IsOutside result }
-    ensures fetched { IsFetchedOrFails name.now (S.told shelf.old) (S.told shelf.new) result }
+    ensures fetched { IsFetchedOrFails (S.told shelf.old) (S.told shelf.new) result }
+    ensures later { IsLater (S.told shelf.old) (S.told shelf.new) }
 {
     match fetch_front(alloc, shelf, name, what.most()) {
         Ok(bytes) => what.read(alloc, bytes.as_slice()),

@@ -1,19 +1,22 @@
 ghost use Rattle.std.specs.Prelude.{◌≡◌, ◌≢◌, ◌≤◌, ◌<◌, [], ℕ, List};
 ghost use Rattle.ff_reactive.specs.Laws.{IsProjection, IsSecure, IsPrecise};
+ghost use Rattle.ff_io.specs.Shelf.{ShelfTold};
 ghost use Rattle.ff_policy.specs.Assignment.{IsAssignment};
 ghost use Rattle.ff_session.specs.Levels.{levels, machine};
 ghost use Rattle.ff_trace.specs.Lines.{IsInputOf};
 ghost use Rattle.ff_session.specs.Works.{IsAnswered};
 ghost use Rattle.ff_status.specs.Words.{error_line};
-ghost use Rattle.ff_run.specs.Words.{Asks, dash, multi};
+ghost use Rattle.ff_run.specs.Words.{Asks, AsksBy, dash, multi};
+ghost use Rattle.ff_run.specs.Names.{FetchedOrFailed};
 ghost use Rattle.ff_run.specs.Status.{IsEarly};
-ghost use Rattle.ff_run.specs.Run.{Suits, Performs, ComesTo, ClaimsUnder, Reports, RunsNone};
+ghost use Rattle.ff_run.specs.Run.{Suits, Performs, ComesTo, Does, ClaimsUnder, ReleasedUnder, Reports, RunsNone};
 ghost use Rattle.ff_run.specs.declared.words.Command.{Command};
 
 use crate::check::check;
 use crate::generate::generate;
 use crate::named::find;
 use crate::policies::PolicyFile;
+use crate::released::release_by;
 use crate::upgrade::upgrade;
 use crate::words::{Command, asked_by};
 use ff_audit::audit;
@@ -40,9 +43,10 @@ use std::sync::ledger::Ledger;
 /// `check POLICY` reads no trace, and writes for each level which levels it sees; `upgrade POLICY`
 /// reads none either, and writes the policy as version 2. `gen START N` multi-executes N inputs, at most
 /// 100,000, that are drawn from START, below 2^64, under the built-in policy, and writes how many
-/// lines and bytes each level has. POLICY is the name of a file on the shelf, of which the first
-/// 65,537 bytes count, or `-` for the built-in policy. Numbers are in canonical decimal. Every
-/// other list of words is `Usage`.
+/// lines and bytes each level has. `release POLICY RULES` does as `multi` does, but lets a stated
+/// number of inputs pass to lower levels. POLICY is the name of a file on the shelf, of which the
+/// first 65,537 bytes count, or `-` for the built-in policy; RULES likewise, and `-` stands for none.
+/// Numbers are in canonical decimal. Every other list of words is `Usage`.
 ///
 /// `words` doesn't hold the program's name. Each status but `Done` and `Leaks` puts its one line on the error
 /// sink; a fault of that sink changes no status. `turns` counts the turns of all browsers, those of
@@ -57,8 +61,8 @@ pub fn run<S: Shelf, P: Port, E: Sink, C: Ledger, L: Ledger>(
     turns: &mut Steps<L>,
 ) -> Status
     // What the command of the words comes to, by the outside before and after it, and the status.
-    ensures comes { (command : Command) (name : List ℕ) → Asks words.now command name
-        → ComesTo command name (S.told shelf.old) (S.told shelf.new) (P.told port.old) (P.told port.new) turns.old turns.new result }
+    ensures comes { (command : Command) (name file : List ℕ) → AsksBy words.now command name file
+        → ComesTo command name file (S.told shelf.old) (S.told shelf.new) (P.told port.old) (P.told port.new) turns.old turns.new result }
     ensures usage { Suits result words.now }
 
     // The headline of `multi`: each level's lines, the view of each level, and where precision
@@ -69,6 +73,11 @@ pub fn run<S: Shelf, P: Port, E: Sink, C: Ledger, L: Ledger>(
         → ClaimsUnder (S.told shelf.old) name (P.told port.old) (P.told port.new) (λ p is put. IsSecure (machine p) (levels p) (IsInputOf p.order) is put) }
     ensures precise { (name : List ℕ) → Asks words.now multi name → IsAnswered result
         → ClaimsUnder (S.told shelf.old) name (P.told port.old) (P.told port.new) (λ p is put. IsPrecise (machine p) (levels p) is put) }
+
+    // The claim of `release`: each level is told no more than is offered at or below it, no rule makes
+    // more offers than its quota, and where none makes any, the text is that of `multi`.
+    ensures released { (name file : List ℕ) → AsksBy words.now Command.Release name file → IsAnswered result
+        → ReleasedUnder (S.told shelf.old) name file (P.told port.old) (P.told port.new) }
 
     // What isn't touched. Where no browser runs, no cell is copied.
     ensures untouched { IsEarly result → (port.new ≡ port.old) × (turns.new ≡ turns.old) }
@@ -96,8 +105,8 @@ fn answer<S: Shelf, P: Port, C: Ledger, L: Ledger>(
     copies: &mut Steps<C>,
     turns: &mut Steps<L>,
 ) -> Status
-    ensures comes { (command : Command) (name : List ℕ) → Asks words.now command name
-        → ComesTo command name (S.told shelf.old) (S.told shelf.new) (P.told port.old) (P.told port.new) turns.old turns.new result }
+    ensures comes { (command : Command) (name file : List ℕ) → AsksBy words.now command name file
+        → ComesTo command name file (S.told shelf.old) (S.told shelf.new) (P.told port.old) (P.told port.new) turns.old turns.new result }
     ensures usage { Suits result words.now }
     ensures untouched { IsEarly result → (port.new ≡ port.old) × (turns.new ≡ turns.old) }
     ensures no_shelf { result ≡ Status.Usage → shelf.new ≡ shelf.old }
@@ -111,6 +120,7 @@ fn answer<S: Shelf, P: Port, C: Ledger, L: Ledger>(
             alloc,
             asked.command,
             asked.name,
+            asked.file,
             asked.slice,
             shelf,
             port,
@@ -121,11 +131,12 @@ fn answer<S: Shelf, P: Port, C: Ledger, L: Ledger>(
     }
 }
 
-/// Obeys a command under the policy of this name.
+/// Obeys a command under the policy of this name, by the file of that name.
 fn obey<S: Shelf, P: Port, C: Ledger, L: Ledger>(
     alloc: Global,
     command: Command,
     name: &str,
+    file: &str,
     slice: u32,
     shelf: &mut S,
     port: &mut P,
@@ -133,21 +144,51 @@ fn obey<S: Shelf, P: Port, C: Ledger, L: Ledger>(
     turns: &mut Steps<L>,
 ) -> Status
     requires { 0 < slice }
-    ensures comes { ComesTo command name.now (S.told shelf.old) (S.told shelf.new) (P.told port.old) (P.told port.new) turns.old turns.new result }
+    ensures comes { ComesTo command name.now file.now (S.told shelf.old) (S.told shelf.new) (P.told port.old) (P.told port.new) turns.old turns.new result }
     ensures command { result ≢ Status.Usage }
     ensures untouched { IsEarly result → (port.new ≡ port.old) × (turns.new ≡ turns.old) }
-    ensures no_fetch { name.now ≡ dash → shelf.new ≡ shelf.old }
+    ensures no_fetch { name.now ≡ dash → file.now ≡ dash → shelf.new ≡ shelf.old }
     ensures no_copies { IsEarly result → copies.new ≡ copies.old }
     ensures uncopied { RunsNone command → copies.new ≡ copies.old }
     ensures copies { copies.old ≤ copies.new }
 {
     match find(alloc, &PolicyFile, shelf, name) {
-        Ok(policy) => perform(alloc, command, &policy, slice, port, copies, turns),
+        Ok(policy) => obey_under(
+            alloc, command, &policy, file, slice, shelf, port, copies, turns,
+        ),
         Err(status) => status,
     }
 }
 
-/// Carries out a command under a policy.
+/// Obeys a command under a policy, by the file of this name.
+fn obey_under<S: Shelf, P: Port, C: Ledger, L: Ledger>(
+    alloc: Global,
+    command: Command,
+    policy: &Policy,
+    file: &str,
+    slice: u32,
+    shelf: &mut S,
+    port: &mut P,
+    copies: &mut Steps<C>,
+    turns: &mut Steps<L>,
+) -> Status
+    requires { 0 < slice }
+    ensures does { Does command policy.now file.now (S.told shelf.old) (S.told shelf.new) (P.told port.old) (P.told port.new) turns.old turns.new result }
+    ensures fetched { FetchedOrFailed (S.told shelf.old) (S.told shelf.new) result }
+    ensures valid { IsAssignment policy.now }
+    ensures untouched { IsEarly result → (port.new ≡ port.old) × (turns.new ≡ turns.old) }
+    ensures no_fetch { file.now ≡ dash → shelf.new ≡ shelf.old }
+    ensures no_copies { IsEarly result → copies.new ≡ copies.old }
+    ensures uncopied { RunsNone command → copies.new ≡ copies.old }
+    ensures copies { copies.old ≤ copies.new }
+{
+    match command {
+        Command::Release => release_by(alloc, policy, file, slice, shelf, port, copies, turns),
+        _ => perform(alloc, command, policy, slice, port, copies, turns),
+    }
+}
+
+/// Carries out a command that needs no other file under a policy.
 fn perform<P: Port, C: Ledger, L: Ledger>(
     alloc: Global,
     command: Command,
@@ -157,8 +198,9 @@ fn perform<P: Port, C: Ledger, L: Ledger>(
     copies: &mut Steps<C>,
     turns: &mut Steps<L>,
 ) -> Status
-    requires { 0 < slice }
-    ensures performs { Performs command policy.now (P.told port.old) (P.told port.new) turns.old turns.new result }
+    requires slice { 0 < slice }
+    requires command { command ≢ Command.Release }
+    ensures performs { (shelf : ShelfTold) (file : List ℕ) → Performs command policy.now shelf file (P.told port.old) (P.told port.new) turns.old turns.new result }
     ensures valid { IsAssignment policy.now }
     ensures uncopied { RunsNone command → copies.new ≡ copies.old }
     ensures copies { copies.old ≤ copies.new }
@@ -173,5 +215,6 @@ fn perform<P: Port, C: Ledger, L: Ledger>(
         Command::Generate(start, inputs) => {
             generate(alloc, policy, slice, start, inputs, port, copies, turns)
         }
+        Command::Release => unreachable!(),
     }
 }

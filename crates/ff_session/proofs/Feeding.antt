@@ -15,7 +15,8 @@ use Rattle.ff_value.specs.declared.input.Input.{Input}
 use Rattle.ff_value.specs.declared.output.Out.{Out}
 use Rattle.ff_machine.specs.State.{State}
 use Rattle.ff_machine.specs.Machine.{reactor}
-use Rattle.ff_pool.specs.Heads.{same_input, IsWorldOf}
+use Rattle.ff_value.specs.Same.{same_input}
+use Rattle.ff_pool.specs.Heads.{IsWorldOf}
 use Rattle.ff_pool.specs.Pooled as pooled
 use Rattle.ff_pool.specs.Pooled.{Pooled, arrived, drained, taken, left, copy_of, new_pool, AreOffersTo}
 use Rattle.ff_pool.proofs.Parting.{same_input_decides}

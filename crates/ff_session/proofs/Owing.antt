@@ -7,7 +7,7 @@ use Rattle.ff_io.specs.Pieces.{Piece}
 use Rattle.ff_reactive.specs.Runs.{work_plain}
 use Rattle.ff_reactive.proofs.Runs.{work_plain_start, work_plain_more}
 use Rattle.ff_reactive.proofs.Sharing.{work_start, work_more}
-use Rattle.ff_pool.specs.Heads.{same_input}
+use Rattle.ff_value.specs.Same.{same_input}
 use Rattle.ff_reactive.proofs.Lines.{text_start, text_more, plain_text_start, plain_text_more}
 use Rattle.ff_value.specs.declared.input.Input.{Input}
 use Rattle.ff_policy.specs.Assignment.{Assignment}

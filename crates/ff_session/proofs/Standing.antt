@@ -14,7 +14,7 @@ use Rattle.ff_machine.specs.State.{State}
 use Rattle.ff_machine.specs.Valid.{IsState}
 use Rattle.ff_machine.specs.Machine.{browser}
 use Rattle.ff_laws.proofs.States.{handled_state}
-use Rattle.ff_pool.specs.Heads.{same_input}
+use Rattle.ff_value.specs.Same.{same_input}
 use Rattle.ff_pool.proofs.Gathering.{ends}
 use Rattle.ff_policy.specs.Assignment.{Assignment, IsAssignment}
 use Rattle.ff_session.specs.Levels.{levels, machine}

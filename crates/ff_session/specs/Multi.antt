@@ -10,7 +10,8 @@ use Rattle.ff_lattice.specs.Order.{size}
 use Rattle.ff_value.specs.declared.input.Input.{Input}
 use Rattle.ff_machine.specs.State.{State}
 use Rattle.ff_machine.specs.Machine.{reactor}
-use Rattle.ff_pool.specs.Heads.{same_input, IsWorldOf}
+use Rattle.ff_value.specs.Same.{same_input}
+use Rattle.ff_pool.specs.Heads.{IsWorldOf}
 use Rattle.ff_pool.specs.Pooled.{Pooled}
 use Rattle.ff_policy.specs.Assignment.{Assignment}
 use Rattle.ff_session.specs.Levels.{levels, machine}

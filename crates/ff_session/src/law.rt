@@ -6,7 +6,7 @@ ghost use Rattle.ff_reactive.specs.Laws.{IsNoninterfering};
 ghost use Rattle.ff_reactive.specs.Standings.{Standing, Offering, fresh, run, work_of};
 ghost use Rattle.ff_machine.specs.State.{State};
 ghost use Rattle.ff_machine.specs.Valid.{IsState};
-ghost use Rattle.ff_pool.specs.Heads.{same_input};
+ghost use Rattle.ff_value.specs.Same.{same_input};
 ghost use Rattle.ff_session.specs.Levels.{levels, machine};
 ghost use Rattle.ff_session.specs.Multi.{run_text, seen_by, stands_after};
 ghost use Rattle.ff_trace.specs.Lines.{IsInputOf};

@@ -4,7 +4,7 @@ ghost use Rattle.std.specs.Str.{IsUtf8};
 ghost use Rattle.ff_number.specs.Decimal.{nat_text};
 ghost use Rattle.ff_text.specs.Printed.{quoted, spelled_byte};
 ghost use Rattle.ff_status.specs.Putting.{Puts, Stops};
-ghost use Rattle.ff_status.specs.Words.{paired};
+ghost use Rattle.ff_status.specs.Words.{at_line, paired};
 
 use ff_io::{Failed, Sink};
 use ff_number::Digits;
@@ -49,6 +49,17 @@ pub(crate) fn put_number<E: Sink>(words: &[u8], n: u64, err: &mut E) -> Result<(
 {
     let digits = Digits::of(n);
     put_both(words, digits.as_slice(), err)
+}
+
+/// Puts the number of a line, and then words.
+#[tactic(auto, using(crate::proofs::Sending::puts_both, crate::proofs::Sending::stops_first, crate::proofs::Sending::stops_second, crate::proofs::Whole::ascii))]
+pub(crate) fn put_at_line<E: Sink>(line: u32, words: &[u8], err: &mut E) -> Result<(), Failed>
+    requires { IsUtf8 words.now }
+    ensures done { OnOk result (Puts (E.put err.old) (E.put err.new) (E.faults err.old) (E.faults err.new) (at_line line words.now)) }
+    ensures stopped { OnErr result (Stops (E.put err.old) (E.put err.new) (E.faults err.old) (E.faults err.new) (at_line line words.now)) }
+{
+    put_number(b"line ", line as u64, err)?;
+    put_both(b": ", words, err)
 }
 
 /// Puts words, and then two texts as they are, with a blank between them.

@@ -12,7 +12,7 @@ use Rattle.ff_value.specs.Spelled.{IsWellSpelledInput}
 use Rattle.ff_value.specs.declared.input.Input.{Input}
 use Rattle.ff_value.specs.declared.output.Out.{Out}
 use Rattle.ff_machine.specs.Machine.{reactor}
-use Rattle.ff_pool.specs.Heads.{same_input}
+use Rattle.ff_value.specs.Same.{same_input}
 use Rattle.ff_pool.specs.Pooled as pooled
 use Rattle.ff_pool.specs.Pooled.{Pooled, turned, drained, arrived, new_pool}
 use Rattle.ff_policy.specs.Assignment.{Assignment}

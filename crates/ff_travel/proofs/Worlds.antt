@@ -10,7 +10,8 @@ use Rattle.ff_reactive.proofs.Worlds.{new_world_ok, arrive_ok, turn_ok, drain_ok
 use Rattle.ff_lattice.specs.Order.{size}
 use Rattle.ff_name.specs.declared.levels.Level.{Level}
 use Rattle.ff_machine.specs.Machine.{reactor}
-use Rattle.ff_pool.specs.Heads.{same_input, IsWorldOf}
+use Rattle.ff_value.specs.Same.{same_input}
+use Rattle.ff_pool.specs.Heads.{IsWorldOf}
 use Rattle.ff_pool.proofs.Parting.{same_input_decides}
 use Rattle.ff_pool.proofs.Gathering.{ends}
 use Rattle.ff_policy.specs.Assignment.{Assignment}

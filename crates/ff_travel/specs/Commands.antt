@@ -20,6 +20,12 @@ use Rattle.ff_travel.specs.declared.command.Command.TheVariants.{Arrive, Turn, D
 use Rattle.ff_travel.specs.declared.command.CommandFault.{CommandFault}
 use Rattle.ff_travel.specs.declared.command.CommandFault.TheVariants as fault
 
+-- a command that makes no turn, and so copies no cell
+abbrev pub MakesNoTurn : Command → Type 0
+MakesNoTurn (Turn level) = ⊥
+MakesNoTurn Drain = ⊥
+MakesNoTurn other = ⊤
+
 -- the verb that an item is
 abbrev pub verb_word : Sexp-F Sexp → Option Verb
 verb_word (Sexp-F.Word at text) = verb_named text

@@ -1,7 +1,7 @@
 //! A pool of browsers under commands.
 ghost use Rattle.std.specs.Prelude.{◌≡◌, ◌≤◌, ◌+◌, ◌++◌, false, true, length, IfOk, OnOk, OnErr};
 ghost use Rattle.ff_travel.specs.Beside.{ArePartsFor, history_of, under};
-ghost use Rattle.ff_travel.specs.Commands.{IsCommandOf};
+ghost use Rattle.ff_travel.specs.Commands.{IsCommandOf, MakesNoTurn};
 ghost use Rattle.ff_travel.specs.Force.{step_turns};
 ghost use Rattle.ff_travel.specs.Shown.{text_at};
 ghost use Rattle.ff_travel.specs.Travelled.{applied, happened, new_travel};
@@ -111,6 +111,7 @@ impl<'a> Travel<'a> {
         ensures most { turns.new ≤ turns.old + step_turns self.old.policy self.old.history.world command.now }
         ensures turns_later { turns.old ≤ turns.new }
         ensures later { copies.old ≤ copies.new }
+        ensures uncopied { MakesNoTurn command.now → copies.new ≡ copies.old }
     {
         if self.spent {
             return Err(AllocError);
@@ -154,6 +155,7 @@ fn carry_out<C: Ledger, L: Ledger>(
     ensures most { turns.new ≤ turns.old + step_turns policy.now (under puts.old.items pool.old) command.now }
     ensures turns_later { turns.old ≤ turns.new }
     ensures later { copies.old ≤ copies.new }
+    ensures uncopied { MakesNoTurn command.now → copies.new ≡ copies.old }
 {
     match command {
         Command::Arrive(input) => {

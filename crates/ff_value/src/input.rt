@@ -1,3 +1,5 @@
+ghost use Rattle.std.specs.Option.{option_eq};
+ghost use Rattle.ff_value.specs.Same.{same_input};
 ghost use Rattle.std.specs.Prelude.{◌≡◌, ◌↔◌, ◌∷◌, ◌++◌, [], IfOk, IsTrue, OnOk, OnErr};
 
 use crate::kind::Kind;
@@ -141,6 +143,26 @@ impl Offers {
     {
         self.offers.as_slice()
     }
+}
+
+/// Whether two offers are equal, with the tags of their inputs.
+pub fn same_offer(a: &Option<Input>, b: &Option<Input>) -> bool
+    ensures { result ≡ option_eq same_input a.now b.now }
+{
+    match a {
+        None => b.is_none(),
+        Some(x) => match b {
+            None => false,
+            Some(y) => same_input(x, y),
+        },
+    }
+}
+
+/// Whether two inputs are equal, their tags too.
+fn same_input(x: &Input, y: &Input) -> bool
+    ensures { result ≡ same_input x.now y.now }
+{
+    *x == *y
 }
 
 impl PartialEq for Act {

@@ -20,7 +20,7 @@ pub use ff_tree::{
     Body, Doc, Docs, Expr, Exprs, Handler, Handlers, Lit, MOST_HANDLERS, Names, Op, weight_doc,
 };
 pub use ids::{ActId, Ids, NodeId, PageId, WinId};
-pub use input::{Act, Input, Offers};
+pub use input::{Act, Input, Offers, same_offer};
 pub use kind::Kind;
 pub use output::{Out, Pair, Pairs, Shown, ShownPart};
 pub use reply::{CookieOp, Cookies, Resp};

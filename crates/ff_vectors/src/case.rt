@@ -14,11 +14,12 @@ pub enum Part {
     Report,
 }
 
-/// The words, the file, the trace with its attack and without it, and how the outside behaves.
+/// The words, the files, the trace with its attack and without it, and how the outside behaves.
 #[derive(Drop)]
 pub struct Case {
     pub words: Vec<String>,
     file: Vec<u8>,
+    rules: Vec<u8>,
     pub trace: Vec<u8>,
     pub calm: Vec<u8>,
     grain: usize,
@@ -32,11 +33,12 @@ pub struct Case {
 const GRAIN: usize = 65_536;
 
 impl Case {
-    /// A case without words, file and trace, in which nothing fails.
+    /// A case without words, files and trace, in which nothing fails.
     pub fn new(alloc: Global) -> Case {
         Case {
             words: Vec::new(alloc),
             file: Vec::new(alloc),
+            rules: Vec::new(alloc),
             trace: Vec::new(alloc),
             calm: Vec::new(alloc),
             grain: GRAIN,
@@ -53,21 +55,16 @@ impl Case {
             "#" => *self = Case::new(alloc),
             "words" => self.words = words_of(alloc, text)?,
             "file" => self.file = Vec::from_slice(alloc, text.as_bytes())?,
-            "fill" => self.fill(text.parse::<u32>()? as usize)?,
+            "fill" => fill(&mut self.file, text.parse::<u32>()? as usize)?,
+            "rule" => add_line(&mut self.rules, text)?,
+            "rules" => self.add_rules(text)?,
+            "fill-rules" => fill(&mut self.rules, text.parse::<u32>()? as usize)?,
             "in" => self.add_line(text)?,
             "only" => add_line(&mut self.trace, text)?,
             "times" => self.add_lines(text)?,
             "end" => self.trace.extend_from_slice(text.as_bytes())?,
             "grain" => self.grain = usize::from(text.parse::<u16>()?),
             _ => self.fail(part_of(sort)?, text.parse::<u64>()?)?,
-        }
-        Ok(())
-    }
-
-    /// Adds blanks to the file until it has so many bytes.
-    fn fill(&mut self, length: usize) -> Result<(), AllocError> {
-        for _ in self.file.len()..length {
-            self.file.push(b' ')?;
         }
         Ok(())
     }
@@ -82,6 +79,15 @@ impl Case {
         let (times, line) = text.split_once(' ').context("a number and a line")?;
         for _ in 0..times.parse::<u32>()? {
             self.add_line(line)?;
+        }
+        Ok(())
+    }
+
+    /// Adds a line to the rules as many times as the number before it says.
+    fn add_rules(&mut self, text: &str) -> Result<()> {
+        let (times, line) = text.split_once(' ').context("a number and a line")?;
+        for _ in 0..times.parse::<u32>()? {
+            add_line(&mut self.rules, line)?;
         }
         Ok(())
     }
@@ -107,12 +113,16 @@ impl Case {
         };
     }
 
-    /// The shelf, with the one file `p.json`.
+    /// The shelf, with the files `p.json` and `r.rules`.
     pub fn shelf(&self, alloc: Global) -> Result<MemShelf, AllocError> {
         let mut files = BTreeMap::new(alloc);
         files.insert(
             String::from_str(alloc, "p.json")?,
             Vec::from_slice(alloc, self.file.as_slice())?,
+        )?;
+        files.insert(
+            String::from_str(alloc, "r.rules")?,
+            Vec::from_slice(alloc, self.rules.as_slice())?,
         )?;
         let bad_fetches = Vec::from_slice(alloc, self.bad_fetches.as_slice())?;
         Ok(MemShelf::new(files, bad_fetches))
@@ -146,6 +156,14 @@ fn part_of(word: &str) -> Result<Part> {
         "report" => Part::Report,
         _ => bail!("no sort: {word}"),
     })
+}
+
+/// Adds blanks to a file until it has so many bytes.
+fn fill(file: &mut Vec<u8>, length: usize) -> Result<(), AllocError> {
+    for _ in file.len()..length {
+        file.push(b' ')?;
+    }
+    Ok(())
 }
 
 fn add_line(trace: &mut Vec<u8>, line: &str) -> Result<(), AllocError> {

@@ -6,22 +6,25 @@
 //! |---|---|
 //! | `# TEXT` | a heading, which begins a new case |
 //! | `words W W ..` | the words, with one blank between two; `EMPTY` is the empty word |
-//! | `file BYTES` | what the file `p.json` holds; there is no other |
+//! | `file BYTES` | what the file `p.json` holds |
 //! | `fill N` | that file is filled with blanks at its end up to N bytes |
+//! | `rule LINE` | the next line of the file `r.rules`; there is no further file |
+//! | `rules N LINE` | that line of it, N times |
+//! | `fill-rules N` | that file is filled with blanks at its end up to N bytes |
 //! | `in LINE` | the next line of the trace |
 //! | `only LINE` | the same, but of the attack: the trace without the attack lacks it |
 //! | `times N LINE` | that line of the trace, N times |
 //! | `end LINE` | the last line of the trace, without a newline |
 //! | `grain N` | the trace comes in pieces of N bytes, a write takes at most N; else 65,536 |
 //! | `read N`, `write N` | the N-th read, or write, from 1, fails |
-//! | `fetch N` | the N-th fetch of the file fails |
+//! | `fetch N` | the N-th fetch of a file fails |
 //! | `report N` | the N-th write of the error sink fails |
 //! | `run` | how the case ends |
 //! | `last N` | the same, with the number of lines put and the last N of them |
 //! | `beside L N` | as by `last N`, and whether level L has the same lines without the attack |
 //! | `twice` | as by `run`, and whether it ends so once more |
 //! | `each read`, `each write` | how it ends where each of its reads, or writes, fails in turn |
-//! | `each fetch` | the same for its fetches of the file |
+//! | `each fetch` | the same for its fetches of files |
 //! | `each report` | whether all else stays where each write of its report fails in turn |
 //! | `each cut` | how it ends where the trace is cut after each of its bytes |
 //!

@@ -1,4 +1,4 @@
-use Rattle.std.proofs.Common.{◌≡◌, ◌+◌, ◌-◌, ◌≤◌, cond, vec_len}
+use Rattle.std.proofs.Common.{◌≡◌, ℕ, List, ◌+◌, ◌-◌, ◌≤◌, cond, vec_len}
 use Rattle.ff_io.proofs.Fetching.{IsFetching}
 use Rattle.ff_io.specs.declared.fetch.TheConstants.{MOST_FETCH_BYTES}
 use Rattle.ff_io.proofs.fetch.fetch_front.Given as goal
@@ -8,8 +8,8 @@ invariant-loop-ended g l = record {
   fetching : IsFetching (g.S.Shelf.files l.fn.shelf) l.name l.limit l.bytes.items l.ended;
   chunk : vec_len l.chunk ≡ MOST_FETCH_BYTES;
   files : g.S.Shelf.files l.shelf ≡ g.S.Shelf.files l.fn.shelf;
-  unfailed : g.S.Shelf.faults l.shelf l.name ≡ g.S.Shelf.faults l.fn.shelf l.name;
-  later : g.S.Shelf.faults l.fn.shelf l.name ≤ g.S.Shelf.faults l.shelf l.name;
+  unfailed : (other : List ℕ) → g.S.Shelf.faults l.shelf other ≡ g.S.Shelf.faults l.fn.shelf other;
+  later : (other : List ℕ) → g.S.Shelf.faults l.fn.shelf other ≤ g.S.Shelf.faults l.shelf other;
 }
 
 abbrev pub decreases-loop-ended : goal.decreases-loop-ended

@@ -1,6 +1,6 @@
 use Rattle.std.proofs.Common.{◌≡◌, true, sym, ◌∙◌, arith}
 use Rattle.ff_reactive.specs.Worlds.{keep_together}
-use Rattle.ff_pool.specs.Heads.{same_input}
+use Rattle.ff_value.specs.Same.{same_input}
 use Rattle.ff_pool.proofs.Parting.{leader_found}
 use Rattle.ff_pool.proofs.classes.new_leader.Goals as goal
 

@@ -1,7 +1,8 @@
 use Rattle.std.proofs.Common.{◌∙◌, ap, sym, length, arith}
 use Rattle.ff_reactive.specs.Worlds.{leader, offer, split}
 use Rattle.ff_reactive.proofs.Classes.{length-split}
-use Rattle.ff_pool.specs.Heads.{same_input, offer_head}
+use Rattle.ff_value.specs.Same.{same_input}
+use Rattle.ff_pool.specs.Heads.{offer_head}
 use Rattle.ff_pool.proofs.Parting.{same_input_decides}
 use Rattle.ff_pool.proofs.steps.arrive_heads.Goals as goal
 

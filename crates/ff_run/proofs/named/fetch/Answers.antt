@@ -1,8 +1,9 @@
-use Rattle.std.proofs.Common.{◌≡◌, ◌⊎◌, ap, sym, subst}
+use Rattle.std.proofs.Common.{◌≡◌, ◌⊎◌, inl, inr, ap, sym, subst}
 use Rattle.std.specs.Result.{IfOk, IfErr}
 use Rattle.ff_io.specs.Fetched.{IsFetched}
 use Rattle.ff_status.specs.declared.status.Status.TheVariants.{NoMemory}
-use Rattle.ff_run.proofs.Finding.{named_in_file, refused_in_file, only_in_file, exact_in_file, no_file}
+use Rattle.ff_io.specs.declared.fetch.FetchFail.{FetchFail}
+use Rattle.ff_run.proofs.Finding.{found_so, named_in_file, refused_in_file, only_in_file, exact_in_file, no_file}
 use Rattle.ff_run.proofs.named.fetch.Goals as goal
 
 pub returns-in-Ok-clause-named : goal.returns-in-Ok-clause-named
@@ -37,3 +38,32 @@ pub returns-in-Err-Fetch-clause-refused : goal.returns-in-Err-Fetch-clause-refus
 returns-in-Err-Fetch-clause-refused g c =
     no_file (g.N.Named.at_dash c.args.what.now) (g.N.Named.most c.args.what.now) (g.N.Named.gives c.args.what.now) (g.N.Named.is_bad c.args.what.now) _ _ c.args.name.now c.requires
     (rw (g.met.S.Shelf.tells c.args.shelf.now, g.met.S.Shelf.tells c.fetch_front.new.shelf) (c.fetch_front.ensures.cause (rw c.in-Err-Fetch.field-0-is at c.in-Err-Fetch.is)))
+
+pub returns-in-Ok-clause-fetched : goal.returns-in-Ok-clause-fetched
+returns-in-Ok-clause-fetched g c =
+    rw (g.met.S.Shelf.tells c.args.shelf.now, g.met.S.Shelf.tells c.fetch_front.new.shelf)
+    (elim c.in-Ok.ensures.unfailed [
+      | inl none ↦ absurd (found_so c.in-Ok.bytes FetchFail.Fetch none)
+      | inr same ↦ inr same
+    ])
+
+pub returns-in-Ok-clause-later : goal.returns-in-Ok-clause-later
+returns-in-Ok-clause-later g c =
+    rw (g.met.S.Shelf.tells c.args.shelf.now, g.met.S.Shelf.tells c.fetch_front.new.shelf) (record { files = c.fetch_front.ensures.files; faults = c.fetch_front.ensures.later })
+
+pub returns-in-Err-Fetch-clause-later : goal.returns-in-Err-Fetch-clause-later
+returns-in-Err-Fetch-clause-later g c =
+    rw (g.met.S.Shelf.tells c.args.shelf.now, g.met.S.Shelf.tells c.fetch_front.new.shelf) (record { files = c.fetch_front.ensures.files; faults = c.fetch_front.ensures.later })
+
+pub returns-in-Err-NoMemory-clause-fetched : goal.returns-in-Err-NoMemory-clause-fetched
+returns-in-Err-NoMemory-clause-fetched g c =
+    let other = c.in-Err-NoMemory.field-0-is in
+    rw (g.met.S.Shelf.tells c.args.shelf.now, g.met.S.Shelf.tells c.fetch_front.new.shelf)
+    (elim c.in-Err-NoMemory.ensures.unfailed [
+      | inl fetch ↦ absurd (let same = fetch in cc)
+      | inr same ↦ inr same
+    ])
+
+pub returns-in-Err-NoMemory-clause-later : goal.returns-in-Err-NoMemory-clause-later
+returns-in-Err-NoMemory-clause-later g c =
+    rw (g.met.S.Shelf.tells c.args.shelf.now, g.met.S.Shelf.tells c.fetch_front.new.shelf) (record { files = c.fetch_front.ensures.files; faults = c.fetch_front.ensures.later })

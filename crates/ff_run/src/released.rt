@@ -1,0 +1,47 @@
+//! The released run, by the name of its rules.
+ghost use Rattle.std.specs.Prelude.{◌≡◌, ◌<◌, ◌≤◌};
+ghost use Rattle.ff_policy.specs.Assignment.{IsAssignment};
+ghost use Rattle.ff_run.specs.Names.{FetchedOrFailed, IsLater};
+ghost use Rattle.ff_run.specs.Run.{Accepts, Releases};
+ghost use Rattle.ff_run.specs.Status.{IsEarly};
+ghost use Rattle.ff_run.specs.Words.{dash};
+
+use crate::named::find;
+use crate::rules::RulesFile;
+use ff_io::{Port, Shelf};
+use ff_policy::Policy;
+use ff_release::release;
+use ff_status::Status;
+use ff_steps::Steps;
+use std::alloc::Global;
+use std::sync::ledger::Ledger;
+
+/// Multi-executes the trace under a policy, where the rules of this name let inputs pass.
+#[tactic(auto, using(crate::proofs::RulesFaults::named_fit))]
+pub(crate) fn release_by<S: Shelf, P: Port, C: Ledger, L: Ledger>(
+    alloc: Global,
+    policy: &Policy,
+    file: &str,
+    slice: u32,
+    shelf: &mut S,
+    port: &mut P,
+    copies: &mut Steps<C>,
+    turns: &mut Steps<L>,
+) -> Status
+    requires { 0 < slice }
+    ensures releases { Releases policy.now file.now (S.told shelf.old) (S.told shelf.new) (P.told port.old) (P.told port.new) turns.old turns.new result }
+    ensures accepts { Accepts policy.now.order file.now (S.told shelf.old) (S.told shelf.new) result }
+    ensures fetched { FetchedOrFailed (S.told shelf.old) (S.told shelf.new) result }
+    ensures later { IsLater (S.told shelf.old) (S.told shelf.new) }
+    ensures valid { IsAssignment policy.now }
+    ensures untouched { IsEarly result → (port.new ≡ port.old) × (turns.new ≡ turns.old) }
+    ensures no_fetch { file.now ≡ dash → shelf.new ≡ shelf.old }
+    ensures no_copies { IsEarly result → copies.new ≡ copies.old }
+    ensures copies { copies.old ≤ copies.new }
+{
+    let _known = policy.lattice();
+    match find(alloc, &RulesFile { policy }, shelf, file) {
+        Ok(rules) => release(alloc, policy, rules, slice, port, copies, turns),
+        Err(status) => status,
+    }
+}
