@@ -6,5 +6,7 @@ pub mod Paths
 pub mod Places
 pub mod Pushed
 pub mod Rewritten
+pub mod Recorded
+pub mod Restored
 pub mod Rows
 pub mod Seen

@@ -1,4 +1,5 @@
 pub mod Codes
 pub mod Digits
 pub mod Held
+pub mod Recorded
 pub mod Stops

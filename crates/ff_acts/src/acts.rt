@@ -25,9 +25,9 @@ use std::sync::ledger::Ledger;
 /// at most `MOST_VARS` variables in all of them together.
 #[derive(Drop)]
 pub struct Acts {
-    alloc: Global,
-    acts: CowVec<ActCell>,
-    vars: CowVec<VarCell>,
+    pub(crate) alloc: Global,
+    pub(crate) acts: CowVec<ActCell>,
+    pub(crate) vars: CowVec<VarCell>,
 }
 
 impl Model for Acts {
@@ -78,7 +78,7 @@ impl Acts {
     }
 
     // Puts an activation without variables at the end.
-    fn push_act<C: Ledger>(
+    pub(crate) fn push_act<C: Ledger>(
         &mut self,
         parent: Option<ActId>,
         copies: &mut Steps<C>,

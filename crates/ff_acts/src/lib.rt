@@ -16,6 +16,9 @@ mod acts;
 mod cells;
 mod edits;
 mod growing;
+mod recording;
+mod referring;
+mod restoring;
 mod searching;
 
 pub use acts::Acts;

@@ -4,3 +4,7 @@ pub mod Domains
 pub mod Gathered
 pub mod Keyed
 pub mod Taken
+pub mod Recorded
+pub mod Climbing
+pub mod AskRows
+pub mod RowsOf

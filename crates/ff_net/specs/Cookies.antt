@@ -6,6 +6,7 @@ use Rattle.std.specs.FinMap as finmap
 use Rattle.ff_value.specs.declared.output.Pair.{Pair}
 use Rattle.ff_machine.specs.Alone.{IsJar}
 use Rattle.ff_machine.specs.Net.{cookie_cmp}
+use Rattle.ff_records.specs.declared.records.CookieRec.{CookieRec}
 use Rattle.ff_net.specs.Entries.{AreApart}
 
 -- the cookie is the domain's
@@ -24,3 +25,7 @@ is_above key pair = is_lt (slice_cmp nat_cmp key pair.key)
 pub record AreCookies (rows : List ((List ℕ × List ℕ) × List ℕ)) : Type 0 where
   pub apart : AreApart cookie_cmp rows
   pub valid : IsJar (finmap.from_entries rows)
+
+-- the entry of a record
+abbrev pub entry_of : CookieRec → (List ℕ × List ℕ) × List ℕ
+entry_of rec = ((rec.domain, rec.key), rec.value)

@@ -81,6 +81,12 @@ impl Asked {
         })
     }
 
+    pub(crate) fn domain(&self) -> &Domain
+        ensures { result.now ≡ self.now.0 }
+    {
+        &self.domain
+    }
+
     pub(crate) fn asks(&self) -> &Rows<Ask>
         ensures { result.now ≡ self.now.1 }
     {

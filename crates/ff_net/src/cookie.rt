@@ -62,6 +62,13 @@ impl Cookie {
         })
     }
 
+    /// The domain, the key and the value, which share their bytes with the cookie.
+    pub(crate) fn parts(&self) -> Result<(Domain, Text, Text), NoMemory>
+        ensures { IfOk result (λ parts. ((parts.0, parts.1), parts.2) ≡ self.now) }
+    {
+        Ok((self.domain.copy()?, self.key.copy()?, self.value.copy()?))
+    }
+
     /// Whether the cookie is the domain's.
     pub(crate) fn is_of(&self, domain: &Domain) -> bool
         ensures { result ≡ is_of domain.now self.now }

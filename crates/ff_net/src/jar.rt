@@ -20,8 +20,8 @@ use std::sync::ledger::Ledger;
 /// spelled, and within their sizes and numbers.
 #[derive(Drop)]
 pub struct Jar {
-    alloc: Global,
-    cookies: Rows<Cookie>,
+    pub(crate) alloc: Global,
+    pub(crate) cookies: Rows<Cookie>,
 }
 
 impl Model for Jar {

@@ -7,10 +7,13 @@
 #![tactic(auto)]
 
 mod ask;
+mod ask_records;
 mod asked;
 mod cookie;
+mod cookie_records;
 mod jar;
 mod pairs;
+mod referring;
 mod requests;
 mod rows;
 

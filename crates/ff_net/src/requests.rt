@@ -19,8 +19,8 @@ use std::sync::ledger::Ledger;
 /// requests, the oldest first. They are valid at every return: spelled, and within their numbers.
 #[derive(Drop)]
 pub struct Requests {
-    alloc: Global,
-    rows: Rows<Asked>,
+    pub(crate) alloc: Global,
+    pub(crate) rows: Rows<Asked>,
     total: u32,
 }
 

@@ -11,11 +11,15 @@
 
 mod activations;
 mod changes;
+mod checking;
 mod page;
 mod pages;
 mod queue;
 mod queues;
 mod readers;
+mod recording;
+mod referring;
+mod restoring;
 mod window;
 mod windows;
 

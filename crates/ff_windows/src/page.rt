@@ -5,11 +5,14 @@ ghost use Rattle.std.specs.Option.{option_copied};
 ghost use Rattle.ff_machine.specs.Alone.{waiting};
 ghost use Rattle.ff_machine.specs.Windows.{new_page, fill_entry, is_slot, first_ready};
 ghost use Rattle.ff_machine.specs.declared.records.Entry.TheVariants.{Ready, Wait};
+ghost use Rattle.ff_records.specs.Records.{page_rec};
+ghost use Rattle.ff_windows.specs.Recorded.{page_of};
 
 use crate::queue::Queue;
 use ff_cow::{Cell, Edit};
 use ff_machine::{Entry, MOST_SLOTS};
 use ff_name::{NoMemory, Url};
+use ff_records::PageRec;
 use ff_steps::Steps;
 use ff_value::{ActId, Body, NodeId, WinId};
 use std::alloc::Global;
@@ -60,6 +63,39 @@ impl PageCell {
         })
     }
 
+    /// The page of a record, whose address and scripts it shares.
+    pub(crate) fn restored<C: Ledger>(
+        alloc: Global,
+        rec: &PageRec,
+        copies: &mut Steps<C>,
+    ) -> Result<PageCell, NoMemory>
+        ensures value { IfOk result (λ page. page ≡ page_of rec.now) }
+        ensures later { copies.old ≤ copies.new }
+    {
+        Ok(PageCell {
+            url: rec.url.copy()?,
+            win: rec.win,
+            root: rec.root,
+            act: rec.act,
+            next: rec.next,
+            queue: Queue::restored(alloc, rec.queue.as_slice(), copies)?,
+        })
+    }
+
+    /// The page as a record, which shares its address and its scripts.
+    pub(crate) fn record(&self, alloc: Global) -> Result<PageRec, NoMemory>
+        ensures { IfOk result (λ rec. rec ≡ page_rec self.now) }
+    {
+        Ok(PageRec {
+            url: self.url.copy()?,
+            win: self.win,
+            root: self.root,
+            act: self.act,
+            next: self.next,
+            queue: self.queue.record(alloc)?,
+        })
+    }
+
     pub(crate) fn url(&self) -> &Url
         ensures { result.now ≡ self.now.url }
     {
@@ -88,6 +124,13 @@ impl PageCell {
         ensures { result ≡ self.now.next }
     {
         self.next
+    }
+
+    /// How many entries the queue has.
+    pub(crate) fn queue_len(&self) -> u32
+        ensures { result ≡ length self.now.queue }
+    {
+        self.queue.len()
     }
 
     /// The script that the queue begins with, if it does.

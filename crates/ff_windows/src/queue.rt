@@ -9,6 +9,7 @@ ghost use Rattle.ff_machine.specs.declared.records.Entry.TheVariants.{Ready};
 use ff_cow::{Cell, CowVec, MOST_CELLS};
 use ff_machine::Entry;
 use ff_name::NoMemory;
+use ff_records::Entries;
 use ff_steps::Steps;
 use ff_value::Body;
 use std::alloc::{AllocError, Global};
@@ -96,8 +97,35 @@ impl Queue {
         }
     }
 
+    /// The queue of these entries, whose scripts it shares.
+    pub(crate) fn restored<C: Ledger>(
+        alloc: Global,
+        entries: &[Entry],
+        copies: &mut Steps<C>,
+    ) -> Result<Queue, NoMemory>
+        ensures value { IfOk result (λ queue. queue ≡ entries.now) }
+        ensures later { copies.old ≤ copies.new }
+    {
+        let mut queue = Queue::new(alloc);
+        for entry in entries {
+            queue.push(entry.copy()?, copies)?;
+        }
+        Ok(queue)
+    }
+
+    /// Its entries, which share their scripts with it.
+    pub(crate) fn record(&self, alloc: Global) -> Result<Entries, NoMemory>
+        ensures { IfOk result (λ entries. entries ≡ self.now) }
+    {
+        let mut entries = Vec::new(alloc);
+        for i in 0..self.len() {
+            entries.push(self.at(i).copy()?)?;
+        }
+        Ok(Entries::from_vec(entries))
+    }
+
     /// How many entries there are.
-    fn len(&self) -> u32
+    pub(crate) fn len(&self) -> u32
         ensures { result ≡ length self.now }
     {
         self.front.len() - self.first + self.back.len()

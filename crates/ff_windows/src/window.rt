@@ -3,9 +3,11 @@ ghost use Rattle.std.specs.Prelude.{◌≡◌, IfOk};
 ghost use Rattle.std.specs.Option.{option_copied, ForSome};
 ghost use Rattle.std.specs.Str.{IsUtf8};
 ghost use Rattle.ff_machine.specs.Nodes.{is_name};
+ghost use Rattle.ff_records.specs.Records.{win_rec};
 
 use ff_cow::Cell;
 use ff_name::{NoMemory, Text};
+use ff_records::WinRec;
 use ff_steps::Steps;
 use ff_value::{PageId, WinId};
 use std::marker::Model;
@@ -48,6 +50,21 @@ impl WinCell {
             None => None,
         };
         Ok(WinCell { name, opener, page })
+    }
+
+    /// The window as a record, which shares its name.
+    pub(crate) fn record(&self) -> Result<WinRec, NoMemory>
+        ensures { IfOk result (λ rec. rec ≡ win_rec self.now) }
+    {
+        let name = match &self.name {
+            Some(text) => Some(text.copy()?),
+            None => None,
+        };
+        Ok(WinRec {
+            page: self.page,
+            opener: self.opener,
+            name,
+        })
     }
 
     pub(crate) fn opener(&self) -> Option<WinId>

@@ -59,6 +59,26 @@ impl Windows {
         }
     }
 
+    /// The store of these, which are valid together.
+    pub(crate) fn of(
+        alloc: Global,
+        windows: CowVec<WinCell>,
+        opened: Vec<WinId>,
+        pages: Pages,
+        acts: Acts,
+    ) -> Windows
+        requires { AreWindows (record { windows = windows; opened = opened.items; pages = pages; acts = acts }) }
+        ensures { result ≡ record { windows = windows; opened = opened.items; pages = pages; acts = acts } }
+    {
+        Windows {
+            alloc,
+            windows,
+            opened,
+            pages,
+            acts,
+        }
+    }
+
     /// Equal windows, pages and activations that share their cells with these: none is copied, and
     /// no later change of one of the two is seen in the other. It is refused only for want of
     /// memory.

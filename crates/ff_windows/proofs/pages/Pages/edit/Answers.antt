@@ -1,7 +1,6 @@
-use Rattle.std.proofs.Common.{◌≡◌, ◌+◌, ◌<◌, length, get_or, set, List, slice_get, Some, sym, ap, subst, ◌∙◌, arith, length-set}
+use Rattle.std.proofs.Common.{◌≡◌, ◌+◌, ◌<◌, length, get_or, set, List, sym, ap, subst, ◌∙◌, arith, length-set}
 use Rattle.std.proofs.lemmas.Option.{slice_get-get_or}
-use Rattle.ff_machine.specs.Windows.{Page, no_page, first_ready}
-use Rattle.std.specs.Prelude.{is_some}
+use Rattle.ff_machine.specs.Windows.{Page, no_page}
 use Rattle.ff_windows.specs.Queues.{one_if}
 use Rattle.ff_windows.proofs.Counted.{one_more, count_changed}
 use Rattle.ff_windows.proofs.pages.Pages.edit.Goals as goal

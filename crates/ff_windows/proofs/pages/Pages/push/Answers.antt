@@ -1,4 +1,4 @@
-use Rattle.std.proofs.Common.{◌<◌, arith}
+use Rattle.std.proofs.Common.{arith}
 use Rattle.ff_windows.proofs.Counted.{one_more}
 use Rattle.ff_windows.proofs.pages.Pages.push.Goals as goal
 
