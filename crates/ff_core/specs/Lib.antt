@@ -1,3 +1,4 @@
 pub mod Copies
 pub mod Views
 pub mod Calls
+pub mod Resting

@@ -5,7 +5,9 @@ ghost use Rattle.ff_value.specs.Spelled.{IsWellSpelledInput};
 ghost use Rattle.ff_machine.specs.State as state;
 ghost use Rattle.ff_machine.specs.Valid.{IsState};
 ghost use Rattle.ff_machine.specs.Machine.{reactor};
+ghost use Rattle.std.specs.FinSet as finset;
 ghost use Rattle.ff_core.specs.Copies.{turning};
+ghost use Rattle.ff_core.specs.Resting.{resting};
 
 use crate::parts::Parts;
 use ff_name::NoMemory;
@@ -51,6 +53,20 @@ impl Browser {
     {
         Browser {
             parts: Parts::new(alloc, fuel),
+        }
+    }
+
+    /// A quiet browser with these stores, in which no page is touched, and with no fuel left. Each
+    /// input brings it so much fuel, from 1 to [`MOST_BUDGET`]. It takes no memory.
+    pub fn restore(alloc: Global, fuel: u32, stores: Stores) -> Browser
+        requires some { 1 ≤ fuel }
+        requires few { fuel ≤ MOST_BUDGET }
+        requires untouched { stores.touched ≡ finset.empty }
+        ensures { result ≡ resting fuel stores }
+    {
+        let _valid = stores.nodes();
+        Browser {
+            parts: Parts::resting(alloc, fuel, stores),
         }
     }
 

@@ -1,6 +1,7 @@
 //! What a browser holds, whether that is a valid state or not.
 ghost use Rattle.std.specs.Prelude.{◌≡◌, IfOk};
 ghost use Rattle.ff_machine.specs.State as state;
+ghost use Rattle.ff_core.specs.Resting.{resting};
 
 use ff_name::NoMemory;
 use ff_step::Task;
@@ -44,6 +45,20 @@ impl Parts {
         Parts {
             alloc,
             stores: Stores::new(alloc),
+            budget,
+            fuel: 0,
+            tasks: VecDeque::new(alloc),
+            quiet: true,
+        }
+    }
+
+    /// These stores, with nothing left to do. It takes no memory.
+    pub(crate) fn resting(alloc: Global, budget: u32, stores: Stores) -> Parts
+        ensures { result ≡ resting budget stores }
+    {
+        Parts {
+            alloc,
+            stores,
             budget,
             fuel: 0,
             tasks: VecDeque::new(alloc),

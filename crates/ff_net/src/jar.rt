@@ -2,6 +2,7 @@
 ghost use Rattle.std.specs.Prelude.{◌≡◌, ◌+◌, ◌≤◌, IfOk, OnErr, OnOk};
 ghost use Rattle.std.specs.Option.{option_copied};
 ghost use Rattle.std.specs.FinMap as finmap;
+ghost use Rattle.ff_machine.specs.Alone.{IsJar};
 ghost use Rattle.ff_machine.specs.Net as net;
 ghost use Rattle.ff_operators.specs.Answers.{Answers};
 
@@ -49,6 +50,14 @@ impl Jar {
             alloc,
             cookies: Rows::new(alloc),
         }
+    }
+
+    /// How many cookies there are.
+    pub fn len(&self) -> u32
+        ensures value { result ≡ finmap.len self.now }
+        ensures valid { IsJar self.now }
+    {
+        self.cookies.len()
     }
 
     /// The value of a domain's cookie, lent.

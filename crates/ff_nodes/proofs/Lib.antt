@@ -14,3 +14,7 @@ pub mod Rooms
 pub mod Heights
 pub mod Faults
 pub mod JoinedCells
+pub mod Adopting
+pub mod Deep
+pub mod Restored
+pub mod Levels

@@ -10,6 +10,7 @@
 
 mod cell;
 mod change;
+mod checking;
 mod climb;
 mod edits;
 mod inserting;
@@ -19,8 +20,12 @@ mod making;
 mod marks;
 mod node;
 mod nodes;
+mod parenting;
 mod raising;
 mod read;
+mod recording;
+mod referring;
+mod restoring;
 mod room;
 mod search;
 

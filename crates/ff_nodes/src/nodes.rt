@@ -53,6 +53,7 @@ impl Nodes {
     pub fn len(&self) -> u32
         ensures value { result ≡ length self.now }
         ensures bound { result ≤ MOST_NODES }
+        ensures valid { AreNodes self.now }
     {
         self.cells.len()
     }

@@ -15,7 +15,7 @@ use std::alloc::AllocError;
 use std::sync::ledger::Ledger;
 
 /// Adds marks to those of a node.
-fn raise<C: Ledger>(
+pub(crate) fn raise<C: Ledger>(
     cells: &mut CowVec<NodeCell>,
     n: NodeId,
     marks: Marks,
@@ -92,7 +92,7 @@ pub(crate) fn raise_from<C: Ledger>(
 }
 
 /// The cell of a node.
-fn cell_at(cells: &CowVec<NodeCell>, n: NodeId) -> &NodeCell
+pub(crate) fn cell_at(cells: &CowVec<NodeCell>, n: NodeId) -> &NodeCell
     requires { n.0 < length cells.now }
     ensures { result.now ≡ views.cell_at cells.now n }
 {

@@ -14,3 +14,4 @@ pub mod Started
 pub mod Steps
 pub mod Touching
 pub mod Updating
+pub mod Restored

@@ -1,3 +1,4 @@
 pub mod Copied
 pub mod Opened
+pub mod Restored
 pub mod Views

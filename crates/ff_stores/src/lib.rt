@@ -14,6 +14,7 @@
 mod cookies;
 mod loading;
 mod replies;
+mod restoring;
 mod sending;
 mod starting;
 mod stores;

@@ -15,8 +15,8 @@
 //!   cookie, give its value and take it out; `cookie all DOMAIN` gives those of a domain.
 //! - `request room DOMAIN` says whether there is room, and `request count DOMAIN` counts.
 //!   `request ask DOMAIN TEXT FOR` asks where there is room; `request answer DOMAIN PLACE` takes
-//!   one out. FOR is `window WINDOW`, `slot PAGE SLOT`, or `call PAGE ACTIVATION BODY` for a
-//!   function without parameters. `request copy TEXT FOR` copies such a request.
+//!   one out. FOR is `window WINDOW`, `slot PAGE SLOT`, `call PAGE ACTIVATION BODY` for a
+//!   function without parameters, or `hear PAGE ACTIVATION LETTERS BODY` for one with parameters. `request copy TEXT FOR` copies such a request.
 //!
 //! Windows:
 //!
@@ -45,6 +45,16 @@
 //!   `queue fill PAGE SLOT BODY` fills a slot, `queue pop PAGE` takes out the first script, and
 //!   `queue ready` gives the page whose script may run.
 //!
+//! Records, and stores that are made of them:
+//!
+//! - `record cookie DOMAIN KEY VALUE`, `record ask DOMAIN TEXT FOR`, `record act PARENT` and its
+//!   `record var NAME number NUMBER`, `.. text TEXT` or `.. function ACTIVATION LETTERS BODY`,
+//!   `record page ADDRESS WINDOW ROOT ACTIVATION NEXT` and its `record ready BODY` and `record wait
+//!   SLOT`, `record win PAGE OPENER NAME` and `record open WINDOW` note a record, where `-` is no
+//!   parent, no opener and no name. `record restore` says which stores are made of those that were
+//!   noted, and whether they have these records again, and forgets them.
+//! - `record saved` says the same of the records of the stores of the case.
+//!
 //! Copies of records that no other line makes: `copy shape KIND NAME ..` and `copy entry ready
 //! BODY` or `copy entry wait SLOT`.
 #![tactic(auto)]
@@ -56,6 +66,7 @@ mod queues;
 mod reading;
 mod records;
 mod requests;
+mod restoring;
 mod shown;
 mod stores;
 mod table;

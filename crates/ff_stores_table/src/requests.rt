@@ -3,6 +3,7 @@ ghost use Rattle.std.specs.Prelude.{IfOk};
 ghost use Rattle.ff_name.specs.Address.{IsRequest};
 
 use crate::reading::{domain, number, parted, text};
+use crate::restoring::function;
 use crate::words::{spelled, yes_or_no};
 use anyhow::{Result, bail};
 use ff_machine::{Dst, Pending};
@@ -78,7 +79,7 @@ fn address(alloc: Global, to: &str, uri: &str) -> Result<(Domain, Text)>
 }
 
 /// What a reply is for.
-fn destination(alloc: Global, words: &str) -> Result<Dst> {
+pub fn destination(alloc: Global, words: &str) -> Result<Dst> {
     let (word, rest) = parted(words);
     let (first, rest) = parted(rest);
     let first = number(first)?;
@@ -86,6 +87,7 @@ fn destination(alloc: Global, words: &str) -> Result<Dst> {
         "window" => Ok(Dst::Window(WinId(first))),
         "slot" => Ok(Dst::Slot(PageId(first), number(rest)?)),
         "call" => Ok(Dst::Call(PageId(first), callback(alloc, rest)?)),
+        "hear" => Ok(Dst::Call(PageId(first), function(alloc, rest)?)),
         _ => bail!("nothing that a reply is for: {word}"),
     }
 }

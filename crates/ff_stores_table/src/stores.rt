@@ -1,5 +1,6 @@
 //! The stores of a case, and the fork of them that is kept.
 
+use crate::restoring::Records;
 use anyhow::Result;
 use ff_net::{Jar, Requests};
 use ff_steps::Steps;
@@ -8,11 +9,12 @@ use std::alloc::Global;
 use std::mem;
 use std::sync::ledger::Ledger;
 
-/// The stores that lines change.
+/// The stores that lines change, and the records that lines noted.
 pub struct Stores {
     pub jar: Jar,
     pub requests: Requests,
     pub windows: Windows,
+    pub records: Records,
 }
 
 // Written out, so that the proof of a caller sees one call.
@@ -22,6 +24,7 @@ impl Drop for Stores {
             jar: _jar,
             requests: _requests,
             windows: _windows,
+            records: _records,
         } = self;
     }
 }
@@ -32,10 +35,11 @@ impl Stores {
             jar: Jar::new(alloc),
             requests: Requests::new(alloc),
             windows: Windows::new(alloc),
+            records: Records::new(alloc),
         }
     }
 
-    fn fork<C: Ledger>(&self, copies: &mut Steps<C>) -> Result<Stores> {
+    fn fork<C: Ledger>(&self, alloc: Global, copies: &mut Steps<C>) -> Result<Stores> {
         let jar = self.jar.fork(copies)?;
         let requests = self.requests.fork(copies)?;
         let windows = self.windows.fork(copies)?;
@@ -43,6 +47,7 @@ impl Stores {
             jar,
             requests,
             windows,
+            records: Records::new(alloc),
         })
     }
 }
@@ -72,8 +77,8 @@ impl Case {
     }
 
     /// Keeps a fork of the stores.
-    pub fn keep<C: Ledger>(&mut self, copies: &mut Steps<C>) -> Result<()> {
-        self.kept = self.stores.fork(copies)?;
+    pub fn keep<C: Ledger>(&mut self, alloc: Global, copies: &mut Steps<C>) -> Result<()> {
+        self.kept = self.stores.fork(alloc, copies)?;
         Ok(())
     }
 

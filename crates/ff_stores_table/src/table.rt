@@ -3,8 +3,9 @@ ghost use Rattle.std.specs.Prelude.{◌≡◌, ◌<◌};
 
 use crate::queues::Queues;
 use crate::reading::{parted, range};
+use crate::restoring::Records;
 use crate::stores::{Case, Stores};
-use crate::{cookies, queues, records, requests, variables, windows};
+use crate::{cookies, queues, records, requests, restoring, variables, windows};
 use anyhow::{Result, bail};
 use ff_steps::Steps;
 use std::alloc::Global;
@@ -47,7 +48,7 @@ fn follow<C: Ledger>(
 ) -> Result<String> {
     let (word, rest) = parted(line);
     match word {
-        "fork" => case.keep(copies)?,
+        "fork" => case.keep(alloc, copies)?,
         "swap" => case.swap(),
         "each" => return each(alloc, &mut case.stores, rest, copies),
         _ => return take(alloc, &mut case.stores, line, copies),
@@ -97,6 +98,7 @@ fn take<C: Ledger>(
         "request" => requests::take(alloc, &mut stores.requests, rest, copies),
         "window" => windows::take(alloc, &mut stores.windows, rest, copies),
         "variable" => variables::take(alloc, &mut stores.windows, rest, copies),
+        "record" => restoring::take(alloc, stores, rest, copies),
         "copy" => records::take(alloc, rest),
         _ => bail!("no line of the table: {word}"),
     }
