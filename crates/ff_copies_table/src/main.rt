@@ -2,12 +2,14 @@
 //! the lower one is level 0. One is an arrival of equal offers, one step, an arrival for the higher
 //! level alone, and steps of both until all is quiet; in the other the pool is drained, forked and
 //! taken. Then, for each trace of its input, which a heading begins, how many turns each of its inputs
-//! takes; or, where the heading says so, the story that its lines tell, or what an audit of them finds.
+//! takes; or, where the heading says so, the story that its lines tell, what an audit of them finds,
+//! or which pools are made of the classes that they name.
 #![tactic(auto)]
 
 mod alone;
 mod auditing;
 mod counting;
+mod restoring;
 mod story;
 
 ghost use Rattle.std.specs.Prelude.{◌≡◌, ◌<◌, false, IfOk};
@@ -223,8 +225,8 @@ fn show_classes(rt: &HostRuntime, classes: &Classes) -> io::Result<()> {
     }
 }
 
-/// Prints a heading, and the story that the lines tell, what an audit of them finds, or how many turns
-/// their inputs take.
+/// Prints a heading, and the story that the lines tell, what an audit of them finds, the pools of
+/// their classes, or how many turns their inputs take.
 fn show_lines(rt: &HostRuntime, heading: &str, lines: &[String]) -> io::Result<()> {
     if lines.is_empty() {
         return Ok(());
@@ -237,6 +239,10 @@ fn show_lines(rt: &HostRuntime, heading: &str, lines: &[String]) -> io::Result<(
         Some(("Audit", title)) => {
             println!(rt; "{title}")?;
             auditing::show(rt, lines)
+        }
+        Some(("Classes", title)) => {
+            println!(rt; "{title}")?;
+            restoring::show(rt, lines)
         }
         _ => show_turns(rt, heading, lines),
     }

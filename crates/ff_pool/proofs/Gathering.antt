@@ -1,7 +1,8 @@
 -- The parts of a pool as a world of copies: what each change of the parts makes of the world.
-use Rattle.std.proofs.Common.{◌≡◌, ℕ, ◌+◌, ◌<◌, ◌≤◌, Bool, true, false, cond, ◌==◌, Option, List, [], ◌++◌, length, All, get_or, set, refl, sym, ap, ap₂, subst, ◌∙◌, arith, length-set, get_or-set_same, get_or-set_other}
+use Rattle.std.proofs.Common.{◌≡◌, ◌≢◌, ℕ, ◌+◌, ◌<◌, ◌≤◌, Bool, true, false, cond, ◌==◌, Option, None, List, [], ◌∷◌, ◌++◌, length, map, All, get_or, set, refl, sym, ap, ap₂, subst, ◌∙◌, arith, length-set, get_or-set_same, get_or-set_other}
 use Rattle.std.proofs.lemmas.Bool.{eqb-true, eqb-false}
-use Rattle.std.proofs.lemmas.List.{get_or_default}
+use Rattle.std.proofs.lemmas.List.{get_or_default, length-map}
+use Rattle.std.proofs.lemmas.List.Elements.{All-from_get_or, All-get_or, All-head, All-tail}
 use Rattle.ff_lattice.specs.declared.names.TheConstants.{MOST_LEVELS}
 use Rattle.ff_value.specs.Spelled.{IsWellSpelledInput}
 use Rattle.ff_value.specs.declared.input.Input.{Input}
@@ -10,13 +11,18 @@ use Rattle.ff_machine.specs.State.{State}
 use Rattle.ff_machine.specs.Valid.{IsState}
 use Rattle.ff_machine.specs.Machine.{reactor}
 use Rattle.ff_core.proofs.Keeping.{keeps, fuelled}
-use Rattle.ff_reactive.specs.Worlds.{Copy, leader, offer, each, copy_at, step_copy, offered, emptied, has_work, step_turns, new_leader, split, new_world, world_arrive, world_turn, world_take, Ends, AreOffers}
+use Rattle.ff_reactive.specs.Worlds.{Copy, leader, offer, each, copy_at, step_copy, offered, emptied, has_work, step_turns, new_leader, split, new_world, world_arrive, world_turn, world_take, Ends, IsCopy, AreOffers}
 use Rattle.ff_reactive.proofs.Below.{length-each, get_or-each, each_agree}
+use Rattle.ff_reactive.specs.Runs.{Handled}
 use Rattle.ff_reactive.proofs.Finishing.{ends_by_fuel}
+use Rattle.ff_reactive.proofs.Turns.{settle_quiet}
 use Rattle.ff_reactive.proofs.Classes.{together_parts, new_leader_within, new_leader_together, new_leader_itself, leader-split, length-split}
 use Rattle.ff_reactive.proofs.Worlds.{new_world_ok, arrive_ok, turn_ok, take_ok}
 use Rattle.ff_value.specs.Same.{same_input}
-use Rattle.ff_pool.specs.Heads.{Head, HasArrived, new_head, head_at, outputs_at, step_of, step_head, offer_head, head_turns, head_works, given, gathered_copy, gathered_copies, gathered, IsWorldOf, IsKept}
+use Rattle.ff_pool.specs.Heads.{Head, HasArrived, new_head, head_at, outputs_at, step_of, step_head, offer_head, head_turns, head_works, given, gathered_copy, gathered_copies, gathered, class_of, IsWorldOf, IsKept}
+use Rattle.ff_pool.specs.Pooled.{Pooled, copy_of, seen}
+use Rattle.ff_pool.specs.Restored.{PoolRecs, pool_recs, tops, AreLed, LedBy, HaveBrowsers, IsFresh, IsResting}
+use Rattle.ff_pool.proofs.AtRest.{tops_less, tops_lead}
 use Rattle.ff_pool.proofs.Parting.{same_input_decides}
 
 -- a browser ends each input in one turn more than it brings fuel
@@ -208,3 +214,87 @@ state_at {fuel} {heads} {puts} {leaders} kept l lt = ap (λ c. c.state) (sym (co
 pub outputs_of : {fuel : ℕ} {heads : List Head} {puts : List (List Out)} {leaders : List ℕ} → IsKept fuel heads puts leaders → (l : ℕ) → l < length leaders
     → outputs_at puts l ≡ (copy_at (reactor fuel) (gathered fuel heads puts leaders) l).outputs
 outputs_of {fuel} {heads} {puts} {leaders} kept l lt = ap (λ c. c.outputs) (sym (copy-gathered fuel heads puts leaders l lt))
+
+-- the parts of a pool at rest, and the pool that they are
+module _ {n fuel : ℕ} {classes : List (List ℕ)} {browsers : List State} {heads : List Head} {puts : List (List Out)} {leaders : List ℕ}
+    (are : AreLed n classes leaders) (have : HaveBrowsers fuel leaders browsers heads) (none : puts ≡ each (λ l. []) n) where
+  abbrev pub rested : Pooled
+  rested = seen fuel false heads puts leaders
+
+  at_level : (l : ℕ) → l < length leaders → copy_of rested l ≡ gathered_copy fuel heads puts leaders l
+  at_level l lt = copy-gathered fuel heads puts leaders l lt
+
+  fresh_at : (l : ℕ) → l < length leaders → IsFresh fuel (head_at fuel heads (leader leaders l))
+  fresh_at l lt = let less = are.led.before l lt in All-get_or (IsFresh fuel) heads (leader leaders l) (new_head fuel) (omega (arith, lt, less, have.count)) have.fresh
+
+  copy_is : (l : ℕ) → l < length leaders → IsCopy (reactor fuel) (fuel + 1) IsWellSpelledInput (IsState fuel) (gathered_copy fuel heads puts leaders l)
+  copy_is l lt =
+      let fresh = fresh_at l lt in
+      record {
+        state_ok = fresh.valid;
+        ends = ap (λ (h : Handled Out State). h.after.quiet) (settle_quiet (reactor fuel) (fuel + 1) (head_at fuel heads (leader leaders l)).state fresh.quiet) ∙ fresh.quiet;
+        inbox_ok = subst (All IsWellSpelledInput) (sym fresh.no_inputs) (λ k d less. absurd (omega (arith, less)));
+      }
+
+  -- the leader of a level has the level's head
+  same_head : (l : ℕ) → l < length leaders → head_at fuel heads (leader leaders (leader leaders l)) ≡ head_at fuel heads (leader leaders l)
+  same_head l lt = ap (head_at fuel heads) (are.led.itself l lt)
+
+  top_in : (l : ℕ) → l < length leaders → leader leaders l < length leaders
+  top_in l lt = let less = are.led.before l lt in omega (arith, lt, less)
+
+  pub kept-rest : n ≤ MOST_LEVELS → IsKept fuel heads puts leaders
+  unfolding gathered_copies
+  kept-rest most = record {
+    heads_count = have.count;
+    puts_count = ap length none ∙ length-each {X = List Out} (λ l. []) n ∙ sym are.levels;
+    most = omega (arith, most, are.levels);
+    world = record {
+      count = length-gathered;
+      led = are.led;
+      ok = λ l lt. subst (IsCopy (reactor fuel) (fuel + 1) IsWellSpelledInput (IsState fuel)) (sym (at_level l lt)) (copy_is l lt);
+      states_alike = λ l lt.
+          ap (λ (c : Copy Input Out State). c.state) (at_level l lt) ∙ sym (ap (λ (h : Head). h.state) (same_head l lt))
+          ∙ sym (ap (λ (c : Copy Input Out State). c.state) (at_level (leader leaders l) (top_in l lt)));
+      inboxes_alike = λ l lt.
+          ap (λ (c : Copy Input Out State). c.inbox) (at_level l lt) ∙ sym (ap (λ (h : Head). h.inbox) (same_head l lt))
+          ∙ sym (ap (λ (c : Copy Input Out State). c.inbox) (at_level (leader leaders l) (top_in l lt)));
+    };
+  }
+    where
+      length-gathered : length (gathered_copies fuel heads puts leaders) ≡ length leaders
+      length-gathered = length-each (gathered_copy fuel heads puts leaders) (length leaders)
+
+  pub rests : n ≤ MOST_LEVELS → IsResting n fuel rested
+  rests most = record {
+    fuel_is = refl;
+    unspent = refl;
+    levels = are.levels;
+    valid = (kept-rest most).world;
+    quiet = λ l lt. ap (λ (c : Copy Input Out State). c.state.quiet) (at_level l (omega (arith, lt, are.levels))) ∙ (fresh_at l (omega (arith, lt, are.levels))).quiet;
+    no_inputs = λ l lt. ap (λ (c : Copy Input Out State). c.inbox) (at_level l (omega (arith, lt, are.levels))) ∙ (fresh_at l (omega (arith, lt, are.levels))).no_inputs;
+    no_outputs = λ l lt. ap (λ (c : Copy Input Out State). c.outputs) (at_level l (omega (arith, lt, are.levels))) ∙ ap (λ ps. outputs_at ps l) none ∙ get_or-each {X = List Out} (λ j. []) n l [] lt;
+  }
+
+  -- it has these classes and browsers
+  pub rest_recs : pool_recs rested ≡ record { classes = classes; browsers = browsers }
+  rest_recs = ap₂ (λ cs bs. record { classes = cs; browsers = bs }) are.classes_are (states_agree (tops leaders) (tops_less leaders (length leaders)) lead_all ∙ have.browsers_are)
+    where
+      lead_all : All (λ l. leader leaders l ≡ l) (tops leaders)
+      lead_all = All-from_get_or (λ l. leader leaders l ≡ l) (tops leaders) 0 (λ k less. tops_lead leaders (length leaders) k 0 less)
+
+      states_agree : (ls : List ℕ) → All (λ l. l < length leaders) ls → All (λ l. leader leaders l ≡ l) ls → map (λ l. (copy_of rested l).state) ls ≡ map (λ l. (head_at fuel heads l).state) ls
+      states_agree [] within lead = refl
+      states_agree (l ∷ ls) within lead =
+          ap₂ (λ (s : State) ss. s ∷ ss)
+          (ap (λ (c : Copy Input Out State). c.state) (at_level l (All-head (λ k. k < length leaders) l ls within)) ∙ ap (λ k. (head_at fuel heads k).state) (All-head (λ k. leader leaders k ≡ k) l ls lead))
+          (states_agree ls (All-tail (λ k. k < length leaders) l ls within) (All-tail (λ k. leader leaders k ≡ k) l ls lead))
+
+-- no pool at rest has other leaders than its classes have, or more or fewer browsers than classes
+pub not_led : {n fuel : ℕ} {classes : List (List ℕ)} {browsers : List State} (p : Pooled) → LedBy n classes None → IsResting n fuel p → pool_recs p ≢ record { classes = classes; browsers = browsers }
+not_led p none rests e = none p.world.leaders (record { led = rests.valid.led; levels = rests.levels; classes_are = ap (λ (r : PoolRecs). r.classes) e })
+
+pub not_matched : {classes : List (List ℕ)} {browsers : List State} (p : Pooled) → length classes ≢ length browsers → pool_recs p ≢ record { classes = classes; browsers = browsers }
+not_matched p differ e = differ
+    (sym (ap (λ (r : PoolRecs). length r.classes) e) ∙ length-map (tops p.world.leaders) (class_of p.world.leaders)
+    ∙ sym (length-map (tops p.world.leaders) (λ l. (copy_of p l).state)) ∙ ap (λ (r : PoolRecs). length r.browsers) e)

@@ -9,3 +9,4 @@ pub mod Reading
 pub mod Waiting
 pub mod Onward
 pub mod Playing
+pub mod AtRest

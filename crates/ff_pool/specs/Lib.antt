@@ -2,3 +2,4 @@ pub mod Heads
 pub mod Pooled
 pub mod Draining
 pub mod Events
+pub mod Restored

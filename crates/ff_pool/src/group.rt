@@ -2,6 +2,7 @@
 ghost use Rattle.std.specs.Prelude.{◌≡◌, ◌+◌, ◌≤◌, ◌++◌, ◌∷◌, [], false, All, IfOk, OnOk, Some};
 ghost use Rattle.ff_value.specs.Spelled.{IsWellSpelledInput};
 ghost use Rattle.ff_core.specs.Copies.{turning};
+ghost use Rattle.ff_machine.specs.Valid.{IsState};
 ghost use Rattle.ff_core.specs.declared.browser.TheConstants.{MOST_BUDGET};
 ghost use Rattle.ff_pool.specs.Heads.{new_head, step_of, step_head, offer_head, head_works, head_turns};
 
@@ -44,6 +45,18 @@ impl Group {
         }
     }
 
+    /// A group of this browser. Nothing waits for it.
+    pub(crate) fn of(alloc: Global, browser: Browser) -> Group
+        ensures made { result ≡ record { state = browser; inbox = [] } }
+        ensures valid { IsState browser.budget browser }
+    {
+        let _valid = browser.quiet();
+        Group {
+            browser,
+            inbox: Inbox::new(alloc),
+        }
+    }
+
     /// An equal group, and neither changes with the other. Its one refusal is want of memory.
     pub(crate) fn fork<C: Ledger>(&self, copies: &mut Steps<C>) -> Result<Group, NoMemory>
         ensures equal { IfOk result (λ group. group ≡ self.now) }
@@ -54,6 +67,13 @@ impl Group {
             browser,
             inbox: self.inbox.fork(copies)?,
         })
+    }
+
+    /// The browser.
+    pub(crate) fn browser(&self) -> &Browser
+        ensures { result.now ≡ self.now.state }
+    {
+        &self.browser
     }
 
     /// Whether the browser isn't quiet, or an input waits.

@@ -19,11 +19,14 @@ mod drain;
 mod event;
 mod group;
 mod inbox;
+mod leading;
 mod outs;
 mod play;
 mod pool;
+mod restoring;
 mod steps;
 
 pub use event::Event;
 pub use ff_core::NoMemory;
 pub use pool::Pool;
+pub use restoring::Browsers;

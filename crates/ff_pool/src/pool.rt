@@ -1,5 +1,5 @@
 //! The pool and its single steps.
-ghost use Rattle.std.specs.Prelude.{◌≡◌, ◌+◌, ◌<◌, ◌≤◌, ◌↔◌, true, false, not, IsTrue, IfOk, OnOk, OnErr};
+ghost use Rattle.std.specs.Prelude.{◌≡◌, ◌+◌, ◌<◌, ◌≤◌, ◌↔◌, true, false, not, All, IsTrue, IfOk, OnOk, OnErr};
 ghost use Rattle.ff_core.specs.Copies.{turning};
 ghost use Rattle.ff_core.specs.declared.browser.TheConstants.{MOST_BUDGET};
 ghost use Rattle.ff_lattice.specs.declared.names.TheConstants.{MOST_LEVELS};
@@ -7,12 +7,16 @@ ghost use Rattle.ff_reactive.specs.Worlds.{leader};
 ghost use Rattle.ff_pool.specs.Heads.{class_of};
 ghost use Rattle.ff_pool.specs.Pooled as pooled;
 ghost use Rattle.ff_pool.specs.Pooled.{size, copy_of, new_pool, arrived, turned, taken, step_turns, AreOffersTo, IsPool};
+ghost use Rattle.ff_pool.specs.Restored.{pool_recs, IsReady, IsResting};
+ghost use Rattle.ff_records.specs.Restored.{Restores};
 
 use crate::classes::class_of;
 use crate::group::Group;
+use crate::leading::leaders_of;
 use crate::outs::Outs;
-use crate::steps::{arrive_heads, forked_heads, forked_outs, has_work, step_class};
-use ff_core::NoMemory;
+use crate::restoring::{Browsers, led_heads, no_outs};
+use crate::steps::{arrive_heads, browser_of, forked_heads, forked_outs, has_work, step_class};
+use ff_core::{Browser, NoMemory};
 use ff_lattice::LevelSet;
 use ff_name::Level;
 use ff_steps::Steps;
@@ -79,6 +83,41 @@ impl Pool {
         })
     }
 
+    /// A pool of `n` levels, at most `MOST_LEVELS`, in these classes and with these browsers, to
+    /// which each input brings so much fuel, from 1 to `MOST_BUDGET`. No input waits, and all
+    /// outputs were taken. `None` exactly where the classes are no partition of the levels, each
+    /// once and by their least levels in rising order, or aren't as many as the browsers.
+    pub fn restore(
+        alloc: Global,
+        n: u8,
+        fuel: u32,
+        classes: &[LevelSet],
+        browsers: Browsers,
+    ) -> Result<Option<Pool>, NoMemory>
+        requires most { n ≤ MOST_LEVELS }
+        requires fuel_some { 1 ≤ fuel }
+        requires fuel_most { fuel ≤ MOST_BUDGET }
+        requires ready { All (IsReady fuel) browsers }
+        ensures { IfOk result (Restores (IsResting n fuel) pool_recs (record { classes = classes.now; browsers = browsers })) }
+    {
+        if classes.len() != browsers.len() {
+            return Ok(None);
+        }
+        let Some(leaders) = leaders_of(alloc, n, classes)? else {
+            return Ok(None);
+        };
+        let heads = led_heads(alloc, fuel, leaders.as_slice(), browsers)?;
+        let puts = no_outs(alloc, n)?;
+        Ok(Some(Pool {
+            alloc,
+            fuel,
+            spent: false,
+            heads,
+            puts,
+            leaders: leaders.into_vec(),
+        }))
+    }
+
     /// Whether a call that changes this pool found no memory.
     pub fn spent(&self) -> bool
         ensures answer { result ≡ self.now.spent }
@@ -135,6 +174,19 @@ impl Pool {
         ensures { result ≡ class_of self.now.world.leaders l.0 }
     {
         class_of(self.leaders.as_slice(), usize::from(l.0))
+    }
+
+    /// The browser of a level.
+    pub fn browser(&self, l: Level) -> &Browser
+        requires unspent { self.now.spent ≡ false }
+        requires level { l.0 < size self.now }
+        ensures { result.now ≡ (copy_of self.now l.0).state }
+    {
+        browser_of(
+            self.heads.as_slice(),
+            self.leaders.as_slice(),
+            usize::from(l.0),
+        )
     }
 
     /// Puts each level's offer, where there is one, behind the inputs that wait for it. Levels of a

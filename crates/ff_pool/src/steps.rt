@@ -9,7 +9,7 @@ ghost use Rattle.ff_pool.specs.Heads.{Head, HasArrived, step_of, step_head, offe
 use crate::classes::split;
 use crate::group::Group;
 use crate::outs::Outs;
-use ff_core::NoMemory;
+use ff_core::{Browser, NoMemory};
 use ff_steps::Steps;
 use ff_value::{Input, Out};
 use std::alloc::Global;
@@ -69,6 +69,15 @@ pub(crate) fn has_work(heads: &[Group], leaders: &[usize], l: usize) -> bool
     ensures { (d : Head) → result ≡ head_works (slice_index_or heads.now (leader leaders.now l) d) }
 {
     heads[leaders[l]].has_work()
+}
+
+/// The browser of a level's class.
+pub(crate) fn browser_of<'a>(heads: &'a [Group], leaders: &[usize], l: usize) -> &'a Browser
+    requires level { l < length leaders.now }
+    requires led { leader leaders.now l < length heads.now }
+    ensures { (d : Head) → result.now ≡ (slice_index_or heads.now (leader leaders.now l) d).state }
+{
+    heads[leaders[l]].browser()
 }
 
 /// The offers arrive: the leaders part, new ones get forks of the browsers that led them, and each

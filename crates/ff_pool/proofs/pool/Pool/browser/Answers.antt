@@ -1,0 +1,11 @@
+use Rattle.std.proofs.Common.{◌≡◌, ◌∙◌, ap, false}
+use Rattle.ff_pool.specs.Heads.{new_head}
+use Rattle.ff_pool.proofs.Reading.{read_state}
+use Rattle.ff_pool.proofs.pool.Pool.browser.Goals as goal
+
+pub returns : goal.returns
+returns c =
+    let unspent : c.self.inside.spent ≡ false = ap (λ p. p.spent) c.self.view_is ∙ c.requires.unspent in
+    let none = new_head c.self.inside.fuel in
+    c.browser_of.ensures none
+    ∙ read_state c.self.invariant unspent c.self.view_is (λ again. c.requires.level) c.as_slice.ensures.value c.as_slice-2.ensures.value c.from.ensures none
