@@ -1,0 +1,5 @@
+pub mod Mapped
+pub mod Asked
+pub mod Stored
+pub mod Pools
+pub mod Same
