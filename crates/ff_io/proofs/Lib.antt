@@ -1,3 +1,4 @@
+pub mod Cuts
 pub mod CuttingLemmas
 pub mod GatheringLemmas
 pub mod Fetching

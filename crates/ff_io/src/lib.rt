@@ -8,6 +8,7 @@
 mod buffer;
 mod chunk;
 mod counts;
+mod cutting;
 mod dir_shelf;
 mod fetch;
 mod lines;
@@ -23,6 +24,7 @@ mod tape;
 mod whole;
 
 pub use chunk::MOST_READ_BYTES;
+pub use cutting::split_line;
 pub use dir_shelf::DirShelf;
 pub use fetch::{FetchFail, fetch_front};
 pub use lines::{LineFail, Lines, MOST_LINE_BYTES, MOST_TRACE_BYTES, Next};

@@ -241,6 +241,9 @@ module _ (p : Assignment) (d : Data) (bytes : List ℕ) (value : d ≡ data_of p
   pub text_is : bytes ≡ printed p
   text_is = text (ap has_float value ∙ no_float p) ∙ ap compact_text value
 
+  pub written_utf8 : IsUtf8 bytes → IsUtf8 (printed p)
+  written_utf8 utf8 = subst IsUtf8 text_is utf8
+
   read_is : (depth d ≤ max_depth → read bytes ≡ Some d) → read (printed p) ≡ Some (data_of p)
   read_is back = ap read (sym text_is) ∙ back (subst (λ (e : Data). depth e ≤ max_depth) (sym value) (shallow p)) ∙ ap Some value
 

@@ -4,6 +4,7 @@ ghost use Rattle.ff_contract.specs.Appending.{Appends};
 ghost use Rattle.serde_json.specs.Data.{object, string, put};
 ghost use Rattle.serde_json.specs.View.{view, members_view};
 ghost use Rattle.ff_lattice.specs.Order.{size, name};
+ghost use Rattle.std.specs.Str.{IsUtf8};
 ghost use Rattle.ff_policy.specs.Assignment.{AreKeys, AreWithin, IsWithin, IsAssignment};
 ghost use Rattle.ff_policy.specs.Printing as spec;
 ghost use Rattle.ff_policy.specs.Printing.{data_of, printed, is_under, pair_if, pair_data, pairs_data, pairs_in, pairs_from, strings, keys_data};
@@ -29,6 +30,7 @@ impl Policy {
     #[tactic(auto, using(ff_contract::proofs::Sequence::front_none))]
     pub fn print(&self, alloc: Global, out: &mut Vec<u8>) -> Result<(), NoMemory>
         ensures appends { Appends result out.old.items out.new.items (printed self.now) }
+        ensures utf8 { OnOk result (IsUtf8 (printed self.now)) }
         ensures again { OnOk result (length (printed self.now) ≤ MOST_POLICY_BYTES → IsPolicyOf (printed self.now) self.now) }
         // A newline behind the text changes nothing.
         ensures line { OnOk result (length (printed self.now ++ codes "\n") ≤ MOST_POLICY_BYTES → IsPolicyOf (printed self.now ++ codes "\n") self.now) }
@@ -41,6 +43,7 @@ impl Policy {
     /// The text of the policy.
     fn text(&self, alloc: Global) -> Result<Vec<u8>, NoMemory>
         ensures text { IfOk result (λ text. text.items ≡ printed self.now) }
+        ensures utf8 { OnOk result (IsUtf8 (printed self.now)) }
         ensures again { OnOk result (length (printed self.now) ≤ MOST_POLICY_BYTES → IsPolicyOf (printed self.now) self.now) }
         ensures line { OnOk result (length (printed self.now ++ codes "\n") ≤ MOST_POLICY_BYTES → IsPolicyOf (printed self.now ++ codes "\n") self.now) }
     {

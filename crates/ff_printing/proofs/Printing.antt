@@ -1,11 +1,11 @@
 -- What is printed piece by piece is printed whole.
-use Rattle.std.proofs.Common.{◌≡◌, ◌<◌, ◌+◌, ℕ, false, Result, Ok, Err, List, [], ◌∷◌, ◌++◌, length, map, take, get_or, refl, sym, ◌∙◌, ap, subst, append_assoc, append-nil}
-use Rattle.std.specs.Prelude.{is_err}
+use Rattle.std.proofs.Common.{◌≡◌, ◌<◌, ◌+◌, ℕ, Bool, true, false, Result, Ok, Err, List, [], ◌∷◌, ◌++◌, length, map, take, get_or, refl, sym, ◌∙◌, ap, subst, append_assoc, append-nil}
+use Rattle.std.specs.Prelude.{is_err, OnOk, OnErr}
 use Rattle.std.specs.List.{join_with_byte}
 use Rattle.std.proofs.lemmas.List.{take_more}
 use Rattle.std.proofs.lemmas.List.Concat.{flat_map-append}
 use Rattle.ff_contract.specs.Appending.{Appends, AppendsFront}
-use Rattle.ff_contract.proofs.Sequence.{front_first, front_second}
+use Rattle.ff_contract.proofs.Sequence.{front_first, front_second, front_none}
 use Rattle.ff_text.specs.declared.items.Sexp.{Sexp}
 use Rattle.ff_text.specs.Printed.{spelled}
 use Rattle.ff_text.specs.Notation.{span}
@@ -26,6 +26,22 @@ then {p} {q} {r} {first} {more} (stopped a b e) (whole c d f) = cc
 then {p} {q} {r} {first} {more} (stopped a b e) (cut_off c d f) = cc
 then {p} {q} {r} {first} {more} (stopped a b e) (stopped c d f) = stopped a d (f ∙ e)
 
+-- nothing was to be appended
+pub nothing : (p : Printer) → Prints p p []
+nothing p = from p.failed refl
+  where
+    from : (b : Bool) → p.failed ≡ b → Prints p p []
+    from true e = stopped e e refl
+    from false e = whole e e (sym (append-nil p.bytes.items))
+
+-- want of memory that something else has found
+pub failed_before : (p q : Printer) → q.failed ≡ true → q.bytes.items ≡ p.bytes.items → (bytes : List ℕ) → Prints p q bytes
+failed_before p q failed same bytes = from p.failed refl
+  where
+    from : (b : Bool) → p.failed ≡ b → Prints p q bytes
+    from true e = stopped e failed same
+    from false e = cut_off e failed (front_none p.bytes.items q.bytes.items bytes same)
+
 pub prints_as : {p q : Printer} {bytes : List ℕ} (others : List ℕ) → others ≡ bytes → Prints p q bytes → Prints p q others
 prints_as {p} {q} others e prints = subst (λ bs. Prints p q bs) (sym e) prints
 
@@ -33,6 +49,16 @@ prints_as {p} {q} others e prints = subst (λ bs. Prints p q bs) (sym e) prints
 pub noted : {X E : Type 0} (p q : Printer) (bytes : List ℕ) (done : Result X E) → p.failed ≡ false → q.failed ≡ is_err done → Appends done p.bytes.items q.bytes.items bytes → Prints p q bytes
 noted p q bytes (Ok it) before after appends = whole before after appends
 noted p q bytes (Err refused) before after appends = cut_off before after appends
+
+-- what a printer did with what it went on after, once it has ended
+pub appended : {X E : Type 0} (p q : Printer) (answer : Result X E) (old new bytes : List ℕ) → p.failed ≡ false → p.bytes.items ≡ old → new ≡ q.bytes.items → OnOk answer (q.failed ≡ false) → OnErr answer (q.failed ≡ true)
+    → Prints p q bytes → Appends answer old new bytes
+appended p q (Ok it) old new bytes before was is ok err (whole a b e) = is ∙ e ∙ ap (λ bs. bs ++ bytes) was
+appended p q (Ok it) old new bytes before was is ok err (cut_off a b e) = cc
+appended p q (Ok it) old new bytes before was is ok err (stopped a b e) = cc
+appended p q (Err refused) old new bytes before was is ok err (whole a b e) = cc
+appended p q (Err refused) old new bytes before was is ok err (cut_off a b e) = subst (λ bs. AppendsFront bs new bytes) was (subst (λ bs. AppendsFront p.bytes.items bs bytes) (sym is) e)
+appended p q (Err refused) old new bytes before was is ok err (stopped a b e) = cc
 
 joined_ending : (first : List ℕ) (parts : List Sexp) → join_with_byte 32 (first ∷ map spelled parts) ++ 41 ∷ [] ≡ first ++ ending parts
 joined_ending first [] = refl

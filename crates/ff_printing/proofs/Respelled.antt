@@ -143,7 +143,7 @@ three parts a b c e =
     let o = two f.others b c f.others_same in
     record { first = f.first; second = o.first; third = o.second; is = f.is ∙ ap (λ ps. f.first ∷ ps) o.is; first_same = f.first_same; second_same = o.first_same; third_same = o.second_same }
 
-words_same : (items : List Sexp) (xs : List (List ℕ)) → map bare items ≡ map bare (map word xs) → AreWords items xs
+pub words_same : (items : List Sexp) (xs : List (List ℕ)) → map bare items ≡ map bare (map word xs) → AreWords items xs
 words_same items [] e = subst (λ is. AreWords is []) (sym (none items e)) no_words
 words_same items (x ∷ xs) e =
     let c = cut items (word x) (map word xs) e in

@@ -9,3 +9,4 @@ mod printer;
 
 pub use ff_name::NoMemory;
 pub use print::{print_doc, print_expr, print_pairs, print_resp, print_shown};
+pub use printer::Printer;

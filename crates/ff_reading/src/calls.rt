@@ -7,14 +7,14 @@ ghost use Rattle.ff_value.specs.Spelled.{IsWellSpelledResp};
 ghost use Rattle.ff_value.specs.declared.reply.Resp.{Resp};
 ghost use Rattle.ff_text.specs.Printed.{IsWellSpelled};
 ghost use Rattle.ff_forms.specs.Faults.{FirstFault};
-ghost use Rattle.ff_forms.specs.Grammar.{Gives, a_document, an_expression, a_response, doc_in, expr_in, resp_in};
+ghost use Rattle.ff_forms.specs.Grammar.{Gives, reading, a_name, parameters, a_document, an_expression, a_response, doc_in, expr_in, resp_in};
 ghost use Rattle.ff_forms.specs.Spellings.{SpellsDoc, SpellsExpr, SpellsResp};
 ghost use Rattle.ff_forms.specs.declared.fault.SyntaxFault.{SyntaxFault};
 
-use crate::reading;
+use crate::{leaves, reading};
 use ff_forms::SyntaxFault;
 use ff_text::Sexp;
-use ff_value::{Doc, Expr, Resp};
+use ff_value::{Doc, Expr, Name, Names, Resp};
 use std::alloc::Global;
 
 /// The document that an item is, or the first fault.
@@ -57,4 +57,18 @@ pub fn read_resp(alloc: Global, item: &Sexp) -> Result<Resp, SyntaxFault>
     ensures exact { (fault : SyntaxFault) → FirstFault a_response item.now fault → Gives result (Err fault) }
 {
     reading::read_resp(alloc, item)
+}
+
+/// The name that an item is, or the fault.
+pub fn read_name(alloc: Global, item: &Sexp) -> Result<Name, SyntaxFault>
+    ensures { Gives result (reading item.now a_name) }
+{
+    leaves::read_name(alloc, item)
+}
+
+/// The parameters that an item lists, variables that differ, or the first fault.
+pub fn read_parameters(alloc: Global, item: &Sexp) -> Result<Names, SyntaxFault>
+    ensures { Gives result (reading item.now parameters) }
+{
+    leaves::read_parameters(alloc, item)
 }

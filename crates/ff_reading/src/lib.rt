@@ -1,4 +1,4 @@
-//! Documents, expressions and responses, read from items of the notation.
+//! Documents, expressions, responses and their parts, read from items of the notation.
 #![tactic(auto)]
 
 mod calls;
@@ -9,6 +9,6 @@ mod reading;
 mod shapes;
 mod words;
 
-pub use calls::{read_doc, read_expr, read_resp};
+pub use calls::{read_doc, read_expr, read_name, read_parameters, read_resp};
 pub use ff_forms::{NoMemory, SyntaxFault};
 pub use law::{what_is_at_fault_is_refused, what_is_spelled_is_read};

@@ -14,7 +14,7 @@ use Rattle.ff_rules.specs.declared.rule.Rule.{Rule}
 use Rattle.ff_rules.specs.declared.rule.TheConstants.{MOST_RULES}
 use Rattle.ff_rules.specs.declared.fault.ReleaseFault.{ReleaseFault}
 use Rattle.ff_rules.specs.declared.fault.ReleaseFault.TheVariants as fault
-use Rattle.ff_rules.proofs.Cuts.{fewer_after}
+use Rattle.ff_io.proofs.Cuts.{fewer_after}
 
 -- what a line gives, from what its bytes are read as
 abbrev line_answer : Order → ℕ → Bool → Result (List Sexp) TextFault → Result (Option Rule) ReleaseFault

@@ -21,7 +21,7 @@ use Rattle.ff_rules.specs.declared.fault.ReleaseFault.TheVariants as fault
 use Rattle.ff_rules.specs.declared.fault.ReleaseFail.{ReleaseFail}
 use Rattle.ff_rules.specs.declared.fault.ReleaseFail.TheVariants.{Fault, NoMemory}
 use Rattle.ff_rules.proofs.Once.{reads_rules_once}
-use Rattle.ff_rules.proofs.Cuts.{fewer_after}
+use Rattle.ff_io.proofs.Cuts.{fewer_after}
 
 -- ---- a line
 

@@ -1,6 +1,5 @@
 //! The lines of release rules.
-ghost use Rattle.std.specs.Prelude.{◌≡◌, ◌<◌, ◌≤◌, ℕ, Some, None, Err, IfOk, IfSome, MatchOption, length};
-ghost use Rattle.ff_io.specs.Cutting.{content, after_line};
+ghost use Rattle.std.specs.Prelude.{◌≡◌, ◌≤◌, ℕ, Some, None, Err, IfOk, IfSome, MatchOption, length};
 ghost use Rattle.ff_lattice.specs.Order.{Order, level_named};
 ghost use Rattle.ff_text.specs.declared.reading.TheConstants.{MOST_BYTES};
 ghost use Rattle.ff_trace.specs.Parts as parts;
@@ -14,23 +13,7 @@ use ff_lattice::Lattice;
 use ff_text::{Sexp, TextFault, read_items};
 use ff_trace::{is_silent, kind_of, number_of};
 use ff_value::Kind;
-use memchr::memchr;
 use std::alloc::Global;
-
-/// The first line of some bytes, without its newline, and the bytes after it.
-#[tactic(auto, using(crate::proofs::Cuts::line_at, crate::proofs::Cuts::rest_at, crate::proofs::Cuts::line_whole, crate::proofs::Cuts::rest_none, crate::proofs::Cuts::fewer_after, crate::proofs::Cuts::content_short))]
-pub(crate) fn split_line(bytes: &[u8]) -> (&[u8], &[u8])
-    requires { 0 < length bytes.now }
-    ensures line { result.0.now ≡ content bytes.now }
-    ensures rest { result.1.now ≡ after_line bytes.now }
-    ensures fewer { length result.1.now < length bytes.now }
-    ensures short { length result.0.now ≤ length bytes.now }
-{
-    match memchr(b'\n', bytes) {
-        Some(at) => (&bytes[..at], &bytes[at + 1..]),
-        None => (bytes, &bytes[bytes.len()..]),
-    }
-}
 
 /// The rule of the line of this number, or none for a line of blanks alone and for a comment.
 pub(crate) fn read_line(

@@ -8,8 +8,9 @@ ghost use Rattle.ff_rules.specs.declared.fault.ReleaseFault.{ReleaseFault};
 ghost use Rattle.ff_rules.specs.declared.rule.TheConstants.{MOST_RULES_BYTES};
 
 use crate::fault::{ReleaseFail, ReleaseFault};
-use crate::lines::{read_line, split_line};
+use crate::lines::read_line;
 use crate::rule::{MOST_RULES, MOST_RULES_BYTES, Rules};
+use ff_io::split_line;
 use ff_lattice::Lattice;
 use std::alloc::Global;
 

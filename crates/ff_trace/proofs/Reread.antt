@@ -44,19 +44,19 @@ read_again {A} which read item text value same e =
     let is = word_from item text same in
     ap (by_word which read) is.is ∙ ap (or_fault which) e
 
-number_again : (item : Sexp) (n : ℕ) → n < 2 ^ 32 → bare item ≡ bare (number n) → number_in item ≡ Ok n
+pub number_again : (item : Sexp) (n : ℕ) → n < 2 ^ 32 → bare item ≡ bare (number n) → number_in item ≡ Ok n
 number_again item n small same = read_again fault.Number number_of item (nat_text n) n same (number_spelled n (nat_text n) small refl)
 
-address_again : (item : Sexp) (url : Url) → address.IsWellSpelled url → bare item ≡ bare (word (printed url)) → address_in item ≡ Ok url
+pub address_again : (item : Sexp) (url : Url) → address.IsWellSpelled url → bare item ≡ bare (word (printed url)) → address_in item ≡ Ok url
 address_again item url well same = read_again fault.Url read_url item (printed url) url same (read_url_found (printed url) url (as_printed url well))
 
 domain_spelled : (text : List ℕ) → IsDomain text → domain_of text ≡ Some text
 domain_spelled text h = let test : is_domain text ≡ true = is_domain-from text h in rw test refl
 
-domain_again : (item : Sexp) (text : List ℕ) → IsDomain text → bare item ≡ bare (word text) → domain_in item ≡ Ok text
+pub domain_again : (item : Sexp) (text : List ℕ) → IsDomain text → bare item ≡ bare (word text) → domain_in item ≡ Ok text
 domain_again item text h same = read_again fault.Url domain_of item text text same (domain_spelled text h)
 
-string_again : (item : Sexp) (value : List ℕ) → bare item ≡ bare (string value) → string_in item ≡ Ok value
+pub string_again : (item : Sexp) (value : List ℕ) → bare item ≡ bare (string value) → string_in item ≡ Ok value
 string_again item value same = let is = string_from item value same in ap by_string is.is
 
 response_again : (item : Sexp) (resp : Resp) → IsWellSpelledResp resp → bare item ≡ bare (resp_item resp) → response_in item ≡ Ok resp

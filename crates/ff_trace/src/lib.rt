@@ -18,6 +18,6 @@ pub use law::{
     a_line_is_read_in_one_way, pairs_are_put_in_order, the_first_fault_of_a_line_decides,
     what_is_spelled_is_a_part,
 };
-pub use parts::number_of;
+pub use parts::{number_of, read_address, read_domain, read_number, read_string};
 pub use printing::{print_input, print_out};
 pub use reading::{is_silent, read_input};

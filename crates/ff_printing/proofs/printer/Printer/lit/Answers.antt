@@ -26,4 +26,4 @@ returns-in-Bool-false c =
 pub returns-in-Num : goal.returns-in-Num
 returns-in-Num c =
     let same : to_z w64 (of_z w64 c.in-Num.n) ≡ c.in-Num.n = search rules in
-    prints_item (lit_item c.args.lit.now) (ap (λ l. spelled (lit_item l)) c.in-Num.is ∙ spelled-word (num_text c.in-Num.n) ∙ ap num_text (sym same)) c.number.ensures
+    prints_item (lit_item c.args.lit.now) (ap (λ l. spelled (lit_item l)) c.in-Num.is ∙ spelled-word (num_text c.in-Num.n) ∙ ap num_text (sym same)) c.num.ensures

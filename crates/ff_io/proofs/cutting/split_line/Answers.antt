@@ -1,7 +1,7 @@
 use Rattle.std.proofs.Common.{◌+◌, ◌-◌, drop, length, arith, ◌∙◌}
 use Rattle.std.proofs.lemmas.List.{take_all, length-drop}
-use Rattle.ff_rules.proofs.Cuts.{rest_at, rest_none}
-use Rattle.ff_rules.proofs.lines.split_line.Goals as goal
+use Rattle.ff_io.proofs.Cuts.{rest_at, rest_none}
+use Rattle.ff_io.proofs.cutting.split_line.Goals as goal
 
 pub returns-in-Some-clause-rest : goal.returns-in-Some-clause-rest
 returns-in-Some-clause-rest c =
