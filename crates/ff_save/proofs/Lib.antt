@@ -3,3 +3,6 @@ pub mod Asked
 pub mod Stored
 pub mod Pools
 pub mod Same
+pub mod Remade
+pub mod Rowed
+pub mod RowByRow

@@ -8,7 +8,8 @@ use Rattle.ff_pool.specs.Pooled.{Pooled, copy_of}
 use Rattle.ff_pool.specs.Restored.{IsResting, tops, pool_recs}
 use Rattle.ff_pool.proofs.AtRest.{tops_less}
 use Rattle.ff_save.proofs.Pools.{same_pools}
-use Rattle.ff_save.specs.Saved.{SavedRecs, saved_recs, stores_recs}
+use Rattle.ff_saved.specs.Recs.{stores_recs}
+use Rattle.ff_save.specs.Saved.{SavedRecs, saved_recs}
 use Rattle.ff_save.proofs.Mapped.{same_on}
 use Rattle.ff_save.proofs.Stored.{AtRest, same_states}
 

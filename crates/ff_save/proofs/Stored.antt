@@ -19,7 +19,7 @@ use Rattle.ff_records.specs.declared.records.WinRec.{WinRec}
 use Rattle.ff_records.specs.declared.records.CookieRec.{CookieRec}
 use Rattle.ff_records.specs.Records.{WindowsRecs, node_rec, node_recs, variable, act_rec, act_recs, page_rec, win_rec, windows_recs, cookie_rec, cookie_recs}
 use Rattle.ff_nodes.proofs.Adopting.{counted}
-use Rattle.ff_save.specs.Saved.{StoresRecs, stores_recs}
+use Rattle.ff_saved.specs.Recs.{StoresRecs, stores_recs}
 use Rattle.ff_save.proofs.Mapped.{same_maps}
 use Rattle.ff_save.proofs.Asked.{same_requests}
 

@@ -1,24 +1,14 @@
--- What a pool at rest is saved as.
-use Rattle.std.specs.Prelude.{ℕ, List, map}
-use Rattle.ff_machine.specs.Stores.{Stores}
+-- What a pool at rest is saved as: records, and the text of their rows.
+use Rattle.std.specs.Prelude.{ℕ, List, [], ◌∷◌, ◌++◌, map}
 use Rattle.ff_machine.specs.State.{State}
-use Rattle.ff_records.specs.declared.records.NodeRec.{NodeRec}
-use Rattle.ff_records.specs.declared.records.CookieRec.{CookieRec}
-use Rattle.ff_records.specs.declared.records.AskRec.{AskRec}
-use Rattle.ff_records.specs.Records.{WindowsRecs, node_recs, windows_recs, cookie_recs, ask_recs}
+use Rattle.ff_policy.specs.Assignment.{Assignment}
+use Rattle.ff_policy.specs.Printing.{printed}
 use Rattle.ff_pool.specs.Pooled.{Pooled}
 use Rattle.ff_pool.specs.Restored.{pool_recs}
-
--- the records of all stores of a browser, and the mass that its scripts have made
-pub record StoresRecs : Type 0 where
-  pub nodes : List NodeRec
-  pub windows : WindowsRecs
-  pub cookies : List CookieRec
-  pub asks : List AskRec
-  pub mass : ℕ
-
-abbrev pub stores_recs : Stores → StoresRecs
-stores_recs s = record { nodes = node_recs s.nodes; windows = windows_recs s.windows; cookies = cookie_recs s.jar; asks = ask_recs s.requests; mass = s.mass }
+use Rattle.ff_saved.specs.Recs.{StoresRecs, stores_recs}
+use Rattle.ff_saved.specs.Rows.{rows_text, stores_rows}
+use Rattle.ff_saved.specs.declared.row.Row.{Row}
+use Rattle.ff_saved.specs.declared.row.Row.TheVariants.{Head, Policy, Class, End}
 
 -- the classes of a pool by their least levels, and the records of each one's browser
 pub record SavedRecs : Type 0 where
@@ -27,3 +17,17 @@ pub record SavedRecs : Type 0 where
 
 abbrev pub saved_recs : Pooled → SavedRecs
 saved_recs p = record { classes = (pool_recs p).classes; browsers = map (λ (s : State). stores_recs s.stores) (pool_recs p).browsers }
+
+-- the rows of each class: its levels, and the stores of its browser
+abbrev pub classes_rows : List (List ℕ) → List StoresRecs → List Row
+classes_rows [] browsers = []
+classes_rows (class ∷ classes) [] = []
+classes_rows (class ∷ classes) (stores ∷ browsers) = Class class ∷ (stores_rows stores ++ classes_rows classes browsers)
+
+-- all rows: which text it is, under which policy, the classes, and the end
+abbrev pub saved_rows : Assignment → SavedRecs → List Row
+saved_rows p recs = Head ∷ Policy (printed p) ∷ (classes_rows recs.classes recs.browsers ++ End ∷ [])
+
+-- the saved text: a line for each row
+abbrev pub saved_text : Assignment → SavedRecs → List ℕ
+saved_text p recs = rows_text p.order (saved_rows p recs)

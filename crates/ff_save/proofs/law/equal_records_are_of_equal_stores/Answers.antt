@@ -1,6 +1,6 @@
 use Rattle.ff_save.proofs.Asked.{same_requests}
 use Rattle.ff_save.proofs.Stored.{same_nodes, same_windows, same_cookies, same_stores}
-use Rattle.ff_save.proofs.equal_records_are_of_equal_stores.Goals as goal
+use Rattle.ff_save.proofs.law.equal_records_are_of_equal_stores.Goals as goal
 
 pub returns-clause-nodes : goal.returns-clause-nodes
 returns-clause-nodes c = same_nodes

@@ -1,0 +1,11 @@
+pub mod Printing
+pub mod Levels
+pub mod Each
+pub mod NodeKinds
+pub mod Again
+pub mod Classes
+pub mod Rereading
+pub mod Once
+pub mod LineByLine
+pub mod Gathering
+pub mod Adding
