@@ -6,3 +6,11 @@ pub mod Same
 pub mod Remade
 pub mod Rowed
 pub mod RowByRow
+pub mod LevelRows
+pub mod Grown
+pub mod Texts
+pub mod Finished
+pub mod Saving
+pub mod OtherPolicy
+pub mod Collecting
+pub mod Verdicts

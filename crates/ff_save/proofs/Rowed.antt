@@ -12,7 +12,6 @@ use Rattle.ff_name.specs.Address.{IsRequest}
 use Rattle.ff_name.proofs.Ascii.{IsUtf8-from_request}
 use Rattle.ff_value.specs.Spelled.{IsWellSpelledVal}
 use Rattle.ff_value.specs.declared.ids.NodeId.{NodeId}
-use Rattle.ff_value.specs.declared.value.Code.{Code}
 use Rattle.ff_value.specs.declared.value.Val.{Val}
 use Rattle.ff_value.specs.declared.value.Val.TheVariants as val
 use Rattle.ff_lattice.specs.Order.{Order}

@@ -9,15 +9,16 @@ use Rattle.ff_pool.specs.Restored.{IsResting, tops, pool_recs}
 use Rattle.ff_pool.proofs.AtRest.{tops_less}
 use Rattle.ff_save.proofs.Pools.{same_pools}
 use Rattle.ff_saved.specs.Recs.{stores_recs}
+use Rattle.ff_save.specs.Holding.{IsAtRest}
 use Rattle.ff_save.specs.Saved.{SavedRecs, saved_recs}
 use Rattle.ff_save.proofs.Mapped.{same_on}
-use Rattle.ff_save.proofs.Stored.{AtRest, same_states}
+use Rattle.ff_save.proofs.Stored.{same_states}
 
 -- the browsers of a pool at rest are at rest
-browsers_rest : {n fuel : ℕ} (p : Pooled) → IsResting n fuel p → All (AtRest fuel) (pool_recs p).browsers
+pub browsers_rest : {n fuel : ℕ} (p : Pooled) → IsResting n fuel p → All (IsAtRest fuel) (pool_recs p).browsers
 browsers_rest {n} {fuel} p is =
-    All-map (AtRest fuel) (λ l. (copy_of p l).state) (tops p.world.leaders)
-    (All-weaker (λ l. l < length p.world.leaders) (λ l. AtRest fuel (copy_of p l).state)
+    All-map (IsAtRest fuel) (λ l. (copy_of p l).state) (tops p.world.leaders)
+    (All-weaker (λ l. l < length p.world.leaders) (λ l. IsAtRest fuel (copy_of p l).state)
     (λ l lt. record { valid = subst (λ f. IsState f (copy_of p l).state) is.fuel_is (is.valid.ok l lt).state_ok; quiet = is.quiet l (omega (arith, lt, is.levels)) })
     (tops p.world.leaders) (tops_less p.world.leaders (length p.world.leaders)))
 
@@ -25,4 +26,4 @@ pub same_saved : (n fuel : ℕ) (p q : Pooled) → n ≤ MOST_LEVELS → IsResti
 same_saved n fuel p q most is other same =
     same_pools most is other
     (ap₂ (λ cs bs. record { classes = cs; browsers = bs }) (ap (λ (r : SavedRecs). r.classes) same)
-    (same_on (AtRest fuel) (λ (s : State). stores_recs s.stores) (same_states fuel) (pool_recs p).browsers (pool_recs q).browsers (browsers_rest p is) (browsers_rest q other) (ap (λ (r : SavedRecs). r.browsers) same)))
+    (same_on (IsAtRest fuel) (λ (s : State). stores_recs s.stores) (same_states fuel) (pool_recs p).browsers (pool_recs q).browsers (browsers_rest p is) (browsers_rest q other) (ap (λ (r : SavedRecs). r.browsers) same)))

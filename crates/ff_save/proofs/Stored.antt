@@ -1,5 +1,5 @@
 -- Stores of a browser with equal records are equal.
-use Rattle.std.proofs.Common.{◌≡◌, ℕ, ◌==◌, Option, Some, None, IsTrue, List, length, get_or, refl, sym, ap, ap₂, ◌∙◌, arith, count_by}
+use Rattle.std.proofs.Common.{◌≡◌, ℕ, ◌==◌, Option, Some, None, List, length, get_or, refl, sym, ap, ap₂, ◌∙◌, arith, count_by}
 use Rattle.std.specs.FinMap as finmap
 use Rattle.std.proofs.Math.ListN.{get_or-map}
 use Rattle.std.proofs.lemmas.List.{get_or_default, length-map, same_lists}
@@ -10,7 +10,7 @@ use Rattle.ff_machine.specs.Net.{Jar}
 use Rattle.ff_machine.specs.Stores.{Stores}
 use Rattle.ff_machine.specs.State.{State}
 use Rattle.ff_machine.specs.Alone.{AreNodes}
-use Rattle.ff_machine.specs.Valid.{IsStores, IsState}
+use Rattle.ff_machine.specs.Valid.{IsStores}
 use Rattle.ff_records.specs.declared.records.NodeRec.{NodeRec}
 use Rattle.ff_records.specs.declared.records.Variable.{Variable}
 use Rattle.ff_records.specs.declared.records.ActRec.{ActRec}
@@ -20,6 +20,7 @@ use Rattle.ff_records.specs.declared.records.CookieRec.{CookieRec}
 use Rattle.ff_records.specs.Records.{WindowsRecs, node_rec, node_recs, variable, act_rec, act_recs, page_rec, win_rec, windows_recs, cookie_rec, cookie_recs}
 use Rattle.ff_nodes.proofs.Adopting.{counted}
 use Rattle.ff_saved.specs.Recs.{StoresRecs, stores_recs}
+use Rattle.ff_save.specs.Holding.{IsAtRest}
 use Rattle.ff_save.proofs.Mapped.{same_maps}
 use Rattle.ff_save.proofs.Asked.{same_requests}
 
@@ -97,11 +98,7 @@ same_stores s t is other touched same =
     ∙ ap₂ (λ m ps. record { nodes = t.nodes; windows = t.windows; jar = t.jar; requests = t.requests; mass = m; touched = ps }) (ap (λ (r : StoresRecs). r.mass) same) touched
 
 -- browsers at rest
-pub record AtRest (fuel : ℕ) (s : State) : Type 0 where
-  pub valid : IsState fuel s
-  pub quiet : IsTrue s.quiet
-
-pub same_states : (fuel : ℕ) (s t : State) → AtRest fuel s → AtRest fuel t → stores_recs s.stores ≡ stores_recs t.stores → s ≡ t
+pub same_states : (fuel : ℕ) (s t : State) → IsAtRest fuel s → IsAtRest fuel t → stores_recs s.stores ≡ stores_recs t.stores → s ≡ t
 same_states fuel s t is other same =
     let here = is.valid.quiet is.quiet in
     let there = other.valid.quiet other.quiet in

@@ -1,1 +1,5 @@
 pub mod Saved
+pub mod LevelByLevel
+pub mod Gathered
+pub mod Holding
+pub mod Whole

@@ -9,3 +9,6 @@ pub mod Once
 pub mod LineByLine
 pub mod Gathering
 pub mod Adding
+pub mod Shallow
+pub mod Nested
+pub mod Kept

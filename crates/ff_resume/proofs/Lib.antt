@@ -1,0 +1,3 @@
+pub mod Stood
+pub mod Resting
+pub mod Owing

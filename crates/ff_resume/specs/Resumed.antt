@@ -1,0 +1,56 @@
+-- What is saved of where copies stand, and what a run owes that goes on from there.
+use Rattle.std.specs.Prelude.{ℕ, Bool, cond, not, nat_lt, ◌&&◌, List, [], ◌++◌, map, filter}
+use Rattle.std.specs.List.{list_all}
+use Rattle.ff_lattice.specs.LevelSet.{levels_where}
+use Rattle.ff_lattice.specs.Order.{size}
+use Rattle.ff_machine.specs.State.{State}
+use Rattle.ff_machine.specs.Machine.{reactor}
+use Rattle.ff_policy.specs.Assignment.{Assignment}
+use Rattle.ff_pool.specs.Pooled.{Pooled}
+use Rattle.ff_reactive.specs.Copies.{below}
+use Rattle.ff_reactive.specs.Rested as rested
+use Rattle.ff_reactive.specs.Standings.{Standing}
+use Rattle.ff_saved.specs.Recs.{stores_recs}
+use Rattle.ff_save.specs.Saved.{SavedRecs, saved_text}
+use Rattle.ff_session.specs.Multi.{seen_by, run_text, run_turns, copies_entry, stands_after}
+use Rattle.ff_session.specs.Works.{Duty}
+use Rattle.ff_status.specs.declared.status.Status.TheVariants.{Done}
+use Rattle.ff_value.specs.declared.input.Input.{Input}
+
+-- Of n levels those that are one copy with a level.
+abbrev pub class_at : ℕ → Standing State → ℕ → List ℕ
+class_at n from l = levels_where (λ k. nat_lt k n && from.alike k l)
+
+-- whether no level below it is one copy with a level
+abbrev pub leads_at : Standing State → ℕ → Bool
+leads_at from l = list_all (λ k. not (from.alike k l)) (below l)
+
+-- the least level of each copy, in rising order
+abbrev pub tops_at : ℕ → Standing State → List ℕ
+tops_at n from = filter (leads_at from) (below n)
+
+-- The classes of the copies of n levels that stand there, and the records of each one's browser.
+abbrev pub standing_recs : ℕ → Standing State → SavedRecs
+standing_recs n from = record { classes = map (class_at n from) (tops_at n from); browsers = map (λ l. stores_recs (from.states l).stores) (tops_at n from) }
+
+-- The saved text of where the copies of all levels of a policy stand.
+abbrev pub standing_text : Assignment → Standing State → List ℕ
+standing_text p from = saved_text p (standing_recs (size p.order) from)
+
+-- Where the copies of a pool stand.
+abbrev pub stand_of : Pooled → Standing State
+stand_of pool = rested.standing_of (reactor pool.fuel) pool.world
+
+-- What is put once a trace was read: where it was read to its end and has no bad line, the saved text
+-- of where its inputs have brought the copies.
+abbrev pub closing_text : Assignment → Standing State → Bool → List Input → List ℕ
+closing_text p from whole is = cond whole (standing_text p (stands_after p from is)) []
+
+-- What a resumed run owes: each text in time, and the saved text after a good trace.
+abbrev pub resume_duty : Assignment → Standing State → Duty Input
+resume_duty p from = record {
+  entry = copies_entry p (seen_by p) from;
+  text = λ whole is. run_text p (seen_by p) from is ++ closing_text p from whole is;
+  turns = run_turns p (seen_by p) from;
+  good = λ is. Done;
+}

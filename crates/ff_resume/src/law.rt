@@ -1,0 +1,28 @@
+//! What a run in parts tells.
+ghost use Rattle.std.specs.Prelude.{◌≡◌, ◌++◌, List};
+ghost use Rattle.ff_lattice.specs.Order.{size};
+ghost use Rattle.ff_machine.specs.State.{State};
+ghost use Rattle.ff_policy.specs.Assignment.{Assignment};
+ghost use Rattle.ff_reactive.specs.Copies.{multi};
+ghost use Rattle.ff_reactive.specs.Standings.{Standing, StandAlike, fresh};
+ghost use Rattle.ff_reactive.specs.Text.{text_out};
+ghost use Rattle.ff_resume.specs.Resumed.{standing_text};
+ghost use Rattle.ff_session.specs.Levels.{levels, machine};
+ghost use Rattle.ff_session.specs.Multi.{run_text, seen_by, stands_after};
+ghost use Rattle.ff_value.specs.declared.input.Input.{Input};
+
+/// The text of a run over some inputs and then others is that of the run over the first ones and then,
+/// from where the copies then stand, over the others; in the end the copies stand where they stand
+/// after the whole run, and so are saved as the same text. From new copies on, it is the
+/// multi-executed run.
+pub fn parts_of_a_run_are_the_whole_run()
+    ensures text { (p : Assignment) (from : Standing State) (is js : List Input)
+        → run_text p (seen_by p) from (is ++ js) ≡ run_text p (seen_by p) from is ++ run_text p (seen_by p) (stands_after p from is) js }
+    ensures saved { (p : Assignment) (from : Standing State) (is js : List Input) → standing_text p (stands_after p (stands_after p from is) js) ≡ standing_text p (stands_after p from (is ++ js)) }
+    ensures multi { (p : Assignment) (is : List Input) → run_text p (seen_by p) (fresh (machine p)) is ≡ text_out (levels p) (multi (machine p) (levels p) is) }
+{}
+
+/// Copies that stand alike are saved as the same text.
+pub fn equal_standings_are_saved_as_the_same()
+    ensures { (p : Assignment) (a b : Standing State) → StandAlike (size p.order) a b → standing_text p a ≡ standing_text p b }
+{}

@@ -1,0 +1,80 @@
+-- What bytes are by the pool that was made of them, or by what they are the text of no pool.
+use Rattle.std.proofs.Common.{◌≡◌, ◌≤◌, ◌<◌, ℕ, Option, Some, None, List, [], ◌∷◌, ◌++◌, length, sym, ap, subst, ◌∙◌, arith}
+use Rattle.std.specs.Str.{IsUtf8}
+use Rattle.std.proofs.lemmas.List.Elements.{All-head, All-tail}
+use Rattle.ff_io.specs.Cutting.{content, after_line}
+use Rattle.ff_lattice.specs.Order.{size}
+use Rattle.ff_policy.specs.Assignment.{Assignment, IsAssignment}
+use Rattle.ff_policy.specs.Printing.{printed}
+use Rattle.ff_pool.specs.Pooled.{Pooled}
+use Rattle.ff_pool.specs.Restored.{IsResting}
+use Rattle.ff_records.specs.Restored.{Restores}
+use Rattle.ff_saved.specs.Rows.{row_text, FitsLine}
+use Rattle.ff_saved.specs.declared.row.Row.{Row}
+use Rattle.ff_saved.specs.declared.row.Row.TheVariants as row
+use Rattle.ff_save.specs.Gathered.{Gathered, saved_of}
+use Rattle.ff_save.specs.Holding.{Holds, HasText, Gathers}
+use Rattle.ff_save.specs.Saved.{classes_rows, saved_recs, saved_text}
+use Rattle.ff_save.specs.Whole.{IsSaved, IsOnly, IsOfOther}
+use Rattle.ff_save.specs.declared.gathering.Gathering.{Gathering}
+use Rattle.ff_save.specs.declared.read.TheConstants.{MOST_SAVED_BYTES}
+use Rattle.ff_save.proofs.OtherPolicy.{policies_once}
+use Rattle.ff_save.proofs.Saving.{no_pool, none_restored, another, the_pool}
+use Rattle.ff_save.proofs.Texts.{first_line, later_lines}
+
+-- too many bytes
+pub too_long : (p : Assignment) (bytes : List ℕ) → MOST_SAVED_BYTES < length bytes → (pool : Pooled) → ¬ IsSaved p bytes pool
+too_long p bytes long pool saved = let fits = saved.whole.fits in omega (arith, long, fits, ap length saved.text)
+
+module _ (p : Assignment) (valid : IsAssignment p) (utf8 : IsUtf8 (printed p)) (bytes : List ℕ) where
+  -- no lines of a saved text
+  pub no_lines : (found : Option Gathering) → Gathers p.order p.fuel bytes found → found ≡ None → (pool : Pooled) → ¬ IsSaved p bytes pool
+  no_lines found gathers none = no_pool p valid.draft.order_is utf8 bytes (subst (Gathers p.order p.fuel bytes) none gathers)
+
+  module _ (found : Option Gathering) (held : Gathering) (gathers : Gathers p.order p.fuel bytes found) (is : found ≡ Some held) where
+    text : HasText p.order p.fuel bytes held
+    text = subst (Gathers p.order p.fuel bytes) is gathers
+
+    pub fuel_some : 1 ≤ held.fuel
+    fuel_some = subst (λ f. 1 ≤ f) (sym text.holds.fuel_is) valid.some_fuel
+
+    pub fuel_few : held.fuel ≤ 1000000
+    fuel_few = subst (λ f. f ≤ 1000000) (sym text.holds.fuel_is) valid.little_fuel
+
+    module _ (n : ℕ) (n_is : n ≡ size p.order) (made : Option Pooled) (restores : (g : Gathered) → Holds held.fuel g held → Restores (IsResting n held.fuel) saved_recs (saved_of g) made) where
+      restored : Restores (IsResting (size p.order) p.fuel) saved_recs (saved_of text.all) made
+      restored =
+          subst (λ m. Restores (IsResting m p.fuel) saved_recs (saved_of text.all) made) n_is
+          (subst (λ f. Restores (IsResting n f) saved_recs (saved_of text.all) made) text.holds.fuel_is
+          (restores text.all (subst (λ f. Holds f text.all held) (sym text.holds.fuel_is) text.holds)))
+
+      -- no pool
+      pub not_made : made ≡ None → (pool : Pooled) → ¬ IsSaved p bytes pool
+      not_made none = none_restored p valid.draft.order_is utf8 bytes held text (subst (Restores (IsResting (size p.order) p.fuel) saved_recs (saved_of text.all)) none restored)
+
+      -- a pool
+      module _ (pool : Pooled) (some : made ≡ Some pool) where
+        rests_with : IsResting (size p.order) p.fuel pool × (saved_recs pool ≡ saved_of text.all)
+        rests_with = subst (Restores (IsResting (size p.order) p.fuel) saved_recs (saved_of text.all)) some restored
+
+        pub made_rests : IsResting (size p.order) p.fuel pool
+        made_rests = rests_with.0
+
+        pub is_the_pool : length bytes ≤ MOST_SAVED_BYTES → bytes ≡ saved_text p (saved_recs pool) → IsOnly p bytes pool
+        is_the_pool few same = the_pool p valid.draft.order_is utf8 bytes held text pool rests_with.0 rests_with.1 few same
+
+        pub is_another : (bytes ≡ saved_text p (saved_recs pool) → ⊥) → (other : Pooled) → ¬ IsSaved p bytes other
+        is_another differs = another p valid.draft.order_is utf8 bytes held text pool rests_with.0 rests_with.1 differs
+
+-- a saved text isn't that of another policy
+pub saved_own : (p : Assignment) (bytes : List ℕ) (pool : Pooled) → IsUtf8 (printed p) → IsSaved p bytes pool → ¬ IsOfOther p bytes
+saved_own p bytes pool utf8 saved other =
+    let recs = saved_recs pool in
+    let rest : List Row = classes_rows recs.classes recs.browsers ++ row.End ∷ [] in
+    let head_fits = All-head (FitsLine p.order) row.Head (row.Policy (printed p) ∷ rest) saved.whole.lines in
+    let policy_fits = All-head (FitsLine p.order) (row.Policy (printed p)) rest (All-tail (FitsLine p.order) row.Head (row.Policy (printed p) ∷ rest) saved.whole.lines) in
+    let second : content (after_line bytes) ≡ row_text p.order (row.Policy (printed p)) =
+    ap (λ bs. content (after_line bs)) saved.text
+    ∙ ap content (later_lines p.order row.Head (row.Policy (printed p) ∷ rest) head_fits.nested)
+    ∙ first_line p.order (row.Policy (printed p)) rest policy_fits.nested in
+    other.other (policies_once p.order other.text (printed p) other.utf8 utf8 other.short (sym other.second ∙ second))

@@ -1,0 +1,10 @@
+use Rattle.std.proofs.Common.{◌≤◌, flat_map}
+use Rattle.ff_lattice.specs.Order.{size}
+use Rattle.ff_printing.specs.Pieces.{Prints}
+use Rattle.ff_reactive.specs.Copies.{below}
+use Rattle.ff_saved.specs.Rows.{rows_text}
+use Rattle.ff_save.specs.LevelByLevel.{level_rows}
+use Rattle.ff_save.proofs.write.write_classes.Given as goal
+
+abbrev pub invariant-loop-number : goal.invariant-loop-number
+invariant-loop-number l = (l.number ≤ size l.policy.order) × Prints l.fn.out l.out (rows_text l.policy.order (flat_map (level_rows l.pool) (below l.number)))
