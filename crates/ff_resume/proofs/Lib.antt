@@ -1,3 +1,4 @@
 pub mod Stood
 pub mod Resting
 pub mod Owing
+pub mod GoingOn

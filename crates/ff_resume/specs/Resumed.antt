@@ -9,9 +9,10 @@ use Rattle.ff_policy.specs.Assignment.{Assignment}
 use Rattle.ff_pool.specs.Pooled.{Pooled}
 use Rattle.ff_reactive.specs.Copies.{below}
 use Rattle.ff_reactive.specs.Rested as rested
-use Rattle.ff_reactive.specs.Standings.{Standing}
+use Rattle.ff_reactive.specs.Standings.{Standing, StandAlike}
 use Rattle.ff_saved.specs.Recs.{stores_recs}
 use Rattle.ff_save.specs.Saved.{SavedRecs, saved_text}
+use Rattle.ff_save.specs.Whole.{IsSaved, IsWhole}
 use Rattle.ff_session.specs.Multi.{seen_by, run_text, run_turns, copies_entry, stands_after}
 use Rattle.ff_session.specs.Works.{Duty}
 use Rattle.ff_status.specs.declared.status.Status.TheVariants.{Done}
@@ -54,3 +55,11 @@ resume_duty p from = record {
   turns = run_turns p (seen_by p) from;
   good = λ is. Done;
 }
+
+-- A pool was read from what a run over inputs was saved as: at its end the copies stood as those of a
+-- pool whose saved text can be read, and the text is that of the pool that was read.
+pub record WasSaved (p : Assignment) (from : Standing State) (is : List Input) (read : Pooled) : Type 0 where
+  pub there : Pooled
+  pub whole : IsWhole p there
+  pub stands : StandAlike (size p.order) (stand_of there) (stands_after p from is)
+  pub saved : IsSaved p (standing_text p (stands_after p from is)) read

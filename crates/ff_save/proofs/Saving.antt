@@ -32,7 +32,7 @@ use Rattle.ff_save.proofs.Grown.{GathersAll, GivesBack, rows_gathered, all_shall
 use Rattle.ff_save.proofs.LevelRows.{class_inside}
 use Rattle.ff_save.proofs.Rowed.{rows_good, rows_again}
 use Rattle.ff_save.proofs.Same.{same_saved}
-use Rattle.ff_save.proofs.Texts.{all_read_shallow, lines_short}
+use Rattle.ff_save.proofs.Texts.{all_read_shallow, lines_short, rows_once}
 
 -- the rows of classes and browsers are of a kind where those of each are
 rows_are : (P : Row → Type 0) (classes : List (List ℕ)) (browsers : List StoresRecs) → All (λ class. P (row.Class class)) classes → All (λ recs. All P (stores_rows recs)) browsers → All P (classes_rows classes browsers)
@@ -92,6 +92,16 @@ module _ (policy : Assignment) (order_is : IsOrder policy.order) (utf8 : IsUtf8 
   -- a pool whose text the bytes are
   text_of : (bytes : List ℕ) (p : Pooled) → IsSaved policy bytes p → IsTextOf policy.order bytes (saved_rows policy (saved_recs p))
   text_of bytes p saved = record { spelled = good p saved.whole.rests; fit = saved.whole.lines; text = saved.text }
+
+  -- there is one at most
+  pub one_pool : (bytes : List ℕ) (p q : Pooled) → IsSaved policy bytes p → IsSaved policy bytes q → p ≡ q
+  one_pool bytes p q first second =
+      let one = gathers p first.whole.rests in
+      let other = gathers q second.whole.rests in
+      let same : saved_rows policy (saved_recs p) ≡ saved_rows policy (saved_recs q) = rows_once policy.order bytes (saved_rows policy (saved_recs p)) (saved_rows policy (saved_recs q)) (text_of bytes p first) (text_of bytes q second) in
+      let all : Some one.all ≡ Some other.all = sym one.is ∙ ap (gathered_all no_classes) same ∙ other.is in
+      let is : one.all ≡ other.all = cc in
+      same_saved (size policy.order) policy.fuel p q order_is.few first.whole.rests second.whole.rests (sym one.saved ∙ ap saved_of is ∙ other.saved)
 
   pub no_pool : (bytes : List ℕ) → IsNoText policy.order bytes no_classes → (p : Pooled) → ¬ IsSaved policy bytes p
   no_pool bytes none p saved =

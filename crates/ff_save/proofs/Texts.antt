@@ -1,17 +1,20 @@
 -- The lines of a text that rows are printed as.
-use Rattle.std.proofs.Common.{◌≡◌, ◌≢◌, ◌<◌, ◌≤◌, ◌==◌, ℕ, Bool, true, false, cond, Some, Ok, List, [], ◌∷◌, ◌++◌, length, All, refl, sym, ap, subst, ◌∙◌, arith, append_assoc}
+use Rattle.std.proofs.Common.{◌≡◌, ◌≢◌, ◌<◌, ◌≤◌, ◌==◌, ℕ, Bool, true, false, cond, Some, Result, Ok, List, [], ◌∷◌, ◌++◌, length, All, refl, sym, ap, ap₂, subst, ◌∙◌, arith, append_assoc}
 use Rattle.std.proofs.lemmas.Bool.{eq-eqb, eqb-true, ne_eqb}
 use Rattle.std.proofs.lemmas.List.{length-append}
 use Rattle.std.proofs.lemmas.List.Elements.{All-nil, All-cons, All-head, All-tail}
 use Rattle.ff_io.specs.Cutting.{content, after_line}
 use Rattle.ff_lattice.specs.Order.{Order}
 use Rattle.ff_text.specs.Printed.{AreWellSpelled}
+use Rattle.ff_trace.specs.declared.fault.LineFault.{LineFault}
 use Rattle.ff_text.specs.declared.reading.TheConstants.{MOST_BYTES}
 use Rattle.ff_saved.specs.Drafting.{and_then}
 use Rattle.ff_saved.specs.Reading.{ReadsRow}
 use Rattle.ff_saved.specs.Rows.{row_items, row_text, rows_text, IsRow, FitsLine}
 use Rattle.ff_saved.specs.declared.row.Row.{Row}
 use Rattle.ff_saved.proofs.Nested.{IsOneLine, row_one_line}
+use Rattle.ff_saved.proofs.Once.{reads_row_once}
+use Rattle.ff_saved.proofs.Rereading.{line_again}
 use Rattle.ff_saved.proofs.Shallow.{IsShallow, read_shallow}
 use Rattle.ff_save.specs.Gathered.{Gathered, no_classes, gathered_all, ReadsRows, no_line, one_line, IsTextOf, IsNoText}
 use Rattle.ff_save.specs.Holding.{Holds, IsStuck, IsLineOf, HasLine, HasText}
@@ -71,6 +74,27 @@ cut_text order bytes (one ∷ others) some text =
 no_text : (order : Order) (bytes : List ℕ) (rows : List Row) → length bytes ≡ 0 → IsTextOf order bytes rows → rows ≡ []
 no_text order bytes [] none text = refl
 no_text order bytes (one ∷ others) none text = let some = some_text order one others in absurd (omega (arith, some, none, ap length text.text))
+
+-- a line is that of one row
+line_once : (order : Order) (line : List ℕ) (a b : Row) → IsLineOf order line a → IsLineOf order line b → a ≡ b
+line_once order line a b first second =
+    let same : ◌≡◌ {A = Result Row LineFault} (Ok a) (Ok b) =
+    reads_row_once order line (Ok a) (Ok b) (subst (λ l. ReadsRow order l (Ok a)) (sym first.2) (line_again order a first.0 first.1)) (subst (λ l. ReadsRow order l (Ok b)) (sym second.2) (line_again order b second.0 second.1)) in
+    cc
+
+-- and a text of one list of rows
+pub rows_once : (order : Order) (bytes : List ℕ) (xs ys : List Row) → IsTextOf order bytes xs → IsTextOf order bytes ys → xs ≡ ys
+rows_once order bytes [] ys first second = sym (no_text order bytes ys (ap length first.text) second)
+rows_once order bytes (x ∷ xs) ys first second =
+    let fits = All-head (FitsLine order) x xs first.fit in
+    let line : IsLineOf order (content bytes) x = (All-head (IsRow order) x xs first.spelled, fits, ap content first.text ∙ first_line order x xs fits.nested) in
+    let rest : IsTextOf order (after_line bytes) xs = record {
+      spelled = All-tail (IsRow order) x xs first.spelled;
+      fit = All-tail (FitsLine order) x xs first.fit;
+      text = ap after_line first.text ∙ later_lines order x xs fits.nested;
+    } in
+    let cut = cut_text order bytes ys (subst (λ bs. 0 < length bs) (sym first.text) (some_text order x xs)) second in
+    ap₂ (λ one more. one ∷ more) (line_once order (content bytes) x cut.one line cut.line) (rows_once order (after_line bytes) xs cut.others rest cut.rest) ∙ sym cut.are
 
 -- the rows that were read nest no deeper than their lines
 pub all_read_shallow : (order : Order) (bytes : List ℕ) (rows : List Row) → ReadsRows order bytes rows → All IsShallow rows

@@ -1,7 +1,10 @@
 -- What bytes are by the pool that was made of them, or by what they are the text of no pool.
-use Rattle.std.proofs.Common.{◌≡◌, ◌≤◌, ◌<◌, ℕ, Option, Some, None, List, [], ◌∷◌, ◌++◌, length, sym, ap, subst, ◌∙◌, arith}
+use Rattle.std.proofs.Common.{◌≡◌, ◌≤◌, ◌<◌, ℕ, true, ◌&&◌, Option, Some, None, List, [], ◌∷◌, ◌++◌, length, codes, sym, ap, subst, ◌∙◌, arith}
 use Rattle.std.specs.Str.{IsUtf8}
+use Rattle.std.proofs.lemmas.Bool.{and_parts}
 use Rattle.std.proofs.lemmas.List.Elements.{All-head, All-tail}
+use Rattle.std.proofs.lemmas.Str.{IsUtf8-from_is_utf8}
+use Rattle.ff_forms.specs.Canonical.{word, string}
 use Rattle.ff_io.specs.Cutting.{content, after_line}
 use Rattle.ff_lattice.specs.Order.{size}
 use Rattle.ff_policy.specs.Assignment.{Assignment, IsAssignment}
@@ -9,6 +12,9 @@ use Rattle.ff_policy.specs.Printing.{printed}
 use Rattle.ff_pool.specs.Pooled.{Pooled}
 use Rattle.ff_pool.specs.Restored.{IsResting}
 use Rattle.ff_records.specs.Restored.{Restores}
+use Rattle.ff_text.specs.Printed.{fits_at}
+use Rattle.ff_text.specs.Notation.{span}
+use Rattle.ff_text.proofs.Layers.{fits_at-Str}
 use Rattle.ff_saved.specs.Rows.{row_text, FitsLine}
 use Rattle.ff_saved.specs.declared.row.Row.{Row}
 use Rattle.ff_saved.specs.declared.row.Row.TheVariants as row
@@ -19,7 +25,7 @@ use Rattle.ff_save.specs.Whole.{IsSaved, IsOnly, IsOfOther}
 use Rattle.ff_save.specs.declared.gathering.Gathering.{Gathering}
 use Rattle.ff_save.specs.declared.read.TheConstants.{MOST_SAVED_BYTES}
 use Rattle.ff_save.proofs.OtherPolicy.{policies_once}
-use Rattle.ff_save.proofs.Saving.{no_pool, none_restored, another, the_pool}
+use Rattle.ff_save.proofs.Saving.{no_pool, one_pool, none_restored, another, the_pool}
 use Rattle.ff_save.proofs.Texts.{first_line, later_lines}
 
 -- too many bytes
@@ -65,6 +71,20 @@ module _ (p : Assignment) (valid : IsAssignment p) (utf8 : IsUtf8 (printed p)) (
 
         pub is_another : (bytes ≡ saved_text p (saved_recs pool) → ⊥) → (other : Pooled) → ¬ IsSaved p bytes other
         is_another differs = another p valid.draft.order_is utf8 bytes held text pool rests_with.0 rests_with.1 differs
+
+-- what the policy is printed as in a saved text is UTF-8
+printed_utf8 : (p : Assignment) (bytes : List ℕ) (pool : Pooled) → IsSaved p bytes pool → IsUtf8 (printed p)
+printed_utf8 p bytes pool saved =
+    let recs = saved_recs pool in
+    let rest : List Row = classes_rows recs.classes recs.browsers ++ row.End ∷ [] in
+    let fits = All-head (FitsLine p.order) (row.Policy (printed p)) rest (All-tail (FitsLine p.order) row.Head (row.Policy (printed p) ∷ rest) saved.whole.lines) in
+    let parts = and_parts (fits_at (word (codes "policy")) 0) (fits_at (string (printed p)) 0 && true) fits.nested in
+    let last = and_parts (fits_at (string (printed p)) 0) true parts.1 in
+    IsUtf8-from_is_utf8 (printed p) (sym (ap (λ f. f 0) (fits_at-Str (span 0 0) (printed p))) ∙ last.0)
+
+-- bytes are the saved text of at most one pool
+pub one_saved : (p : Assignment) (bytes : List ℕ) (a b : Pooled) → IsAssignment p → IsSaved p bytes a → IsSaved p bytes b → a ≡ b
+one_saved p bytes a b valid first second = one_pool p valid.draft.order_is (printed_utf8 p bytes a first) bytes a b first second
 
 -- a saved text isn't that of another policy
 pub saved_own : (p : Assignment) (bytes : List ℕ) (pool : Pooled) → IsUtf8 (printed p) → IsSaved p bytes pool → ¬ IsOfOther p bytes

@@ -14,7 +14,9 @@ ghost use Rattle.ff_records.specs.Records.{node_recs, windows_recs, cookie_recs,
 ghost use Rattle.ff_saved.specs.Drafting.{no_recs, added_all};
 ghost use Rattle.ff_saved.specs.Recs.{stores_recs};
 ghost use Rattle.ff_saved.specs.Rows.{IsRow, stores_rows};
+ghost use Rattle.ff_policy.specs.Assignment.{Assignment, IsAssignment};
 ghost use Rattle.ff_save.specs.Saved.{saved_recs};
+ghost use Rattle.ff_save.specs.Whole.{IsSaved};
 
 /// Valid stores of a browser that have the same records are the same, each by itself and all
 /// together, where the same pages count as touched.
@@ -30,6 +32,11 @@ pub fn equal_records_are_of_equal_stores()
 /// the same.
 pub fn equal_records_are_of_equal_pools()
     ensures { (n fuel : ℕ) (p q : Pooled) → n ≤ MOST_LEVELS → IsResting n fuel p → IsResting n fuel q → saved_recs p ≡ saved_recs q → p ≡ q }
+{}
+
+/// Bytes are the saved text of at most one pool.
+pub fn a_saved_text_is_of_one_pool()
+    ensures { (policy : Assignment) (bytes : List ℕ) (a b : Pooled) → IsAssignment policy → IsSaved policy bytes a → IsSaved policy bytes b → a ≡ b }
 {}
 
 /// The rows of the records of valid stores are well spelled, with numbers of 32 bits, and give these

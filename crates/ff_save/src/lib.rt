@@ -20,8 +20,8 @@ pub use fail::SavedFail;
 pub use ff_name::NoMemory;
 pub use ff_saved::SavedFault;
 pub use law::{
-    equal_records_are_of_equal_pools, equal_records_are_of_equal_stores,
-    rows_of_valid_stores_are_rows,
+    a_saved_text_is_of_one_pool, equal_records_are_of_equal_pools,
+    equal_records_are_of_equal_stores, rows_of_valid_stores_are_rows,
 };
 pub use read::{MOST_SAVED_BYTES, read_saved};
 pub use restoring::restore_stores;
