@@ -1,16 +1,14 @@
 -- The words of the command line, one by one.
-use Rattle.std.proofs.Common.{◌≡◌, ◌⊎◌, inl, inr, ℕ, ◌<◌, ◌≤◌, ◌^◌, cond, Option, Some, None, List, [], ◌∷◌, length, get_or, map, codes, bytes_eq, String, Global, refl, sym, ap, subst, ◌∙◌, arith}
-use Rattle.std.specs.Bool.{⊤}
-use Rattle.std.specs.Option.{MatchOption}
+use Rattle.std.proofs.Common.{◌≡◌, ◌⊎◌, inl, inr, ℕ, ◌<◌, ◌≤◌, ◌^◌, cond, List, [], ◌∷◌, length, map, codes, bytes_eq, String, Global, refl, sym, ap, subst, ◌∙◌, arith}
 use Rattle.std.proofs.lemmas.List.{length-map}
 use Rattle.std.proofs.lemmas.Fmt.{decimal_injective}
 use Rattle.std.specs.String.{string_bytes}
 use Rattle.ff_number.specs.Decimal.{nat_text}
 use Rattle.ff_gen.specs.declared.generator.TheConstants.{MOST_LINES}
 use Rattle.ff_session.specs.declared.work.Work.TheVariants.{Multi, Plain, Format}
-use Rattle.ff_run.specs.Words.{word_of, dash, Spell, MayFollow, AreUnder, AreNames, IsSlice, AsksBy, AreCommand, NeedsPolicy}
+use Rattle.ff_run.specs.Words.{word_of, dash, Spell, MayFollow, AreUnder, AreNames, IsSlice, AsksBy, AreCommand, NeedsFile, NeedsPolicy}
 use Rattle.ff_run.specs.declared.words.Command.{Command}
-use Rattle.ff_run.specs.declared.words.Command.TheVariants.{Audit, Travel, Check, Upgrade, Trace, Generate, Release}
+use Rattle.ff_run.specs.declared.words.Command.TheVariants.{Audit, Travel, Check, Upgrade, Trace, Generate, Resume, Release}
 
 -- ---- what stands in words
 
@@ -42,6 +40,7 @@ bare Upgrade = Upgrade
 bare Audit = Audit
 bare Travel = Travel
 bare (Trace work) = Trace work
+bare Resume = Resume
 bare Release = Release
 
 -- the command of a word
@@ -49,13 +48,14 @@ abbrev command_at : List ℕ → Command
 command_at word =
     cond (bytes_eq word (codes "check")) Check (cond (bytes_eq word (codes "multi")) (Trace Multi) (cond (bytes_eq word (codes "plain")) (Trace Plain)
     (cond (bytes_eq word (codes "upgrade")) Upgrade (cond (bytes_eq word (codes "gen")) (Generate 0 0) (cond (bytes_eq word (codes "audit")) Audit (cond (bytes_eq word (codes "travel")) Travel
-    (cond (bytes_eq word (codes "release")) Release (Trace Format))))))))
+    (cond (bytes_eq word (codes "resume")) Resume (cond (bytes_eq word (codes "release")) Release (Trace Format)))))))))
 
 by_word : (c : Command) → command_at (word_of c) ≡ bare c
 by_word Check = refl
 by_word Upgrade = refl
 by_word Audit = refl
 by_word Travel = refl
+by_word Resume = refl
 by_word Release = refl
 by_word (Trace Multi) = refl
 by_word (Trace Plain) = refl
@@ -65,11 +65,11 @@ by_word (Generate start inputs) = refl
 bare_once : (c d : Command) → word_of c ≡ word_of d → bare c ≡ bare d
 bare_once c d same = sym (by_word c) ∙ ap command_at same ∙ by_word d
 
--- a command under a policy alone, one with numbers, or a released run
+-- a command under a policy alone, one with numbers, or one with a file too
 data Kinds : Command → Type 0 where
   under : (c : Command) → NeedsPolicy c → bare c ≡ c → ((words : List (List ℕ)) (name file : List ℕ) → Spell words c name file → AreUnder words c name × (file ≡ dash)) → Kinds c
   numbers : (start inputs : ℕ) → Kinds (Generate start inputs)
-  released : Kinds Release
+  by_file : (c : Command) → NeedsFile c → bare c ≡ c → ((words : List (List ℕ)) (name file : List ℕ) → Spell words c name file → AreNames words c name file) → Kinds c
 
 kinds : (c : Command) → Kinds c
 kinds Check = Kinds.under Check tt refl (λ words name file spelled. spelled)
@@ -78,53 +78,38 @@ kinds Audit = Kinds.under Audit tt refl (λ words name file spelled. spelled)
 kinds Travel = Kinds.under Travel tt refl (λ words name file spelled. spelled)
 kinds (Trace work) = Kinds.under (Trace work) tt refl (λ words name file spelled. spelled)
 kinds (Generate start inputs) = Kinds.numbers start inputs
-kinds Release = Kinds.released
+kinds Resume = Kinds.by_file Resume tt refl (λ words name file spelled. spelled)
+kinds Release = Kinds.by_file Release tt refl (λ words name file spelled. spelled)
 
 -- the word of what is spelled comes first
 first_is : (words : List (List ℕ)) (c : Command) (name file : List ℕ) → Kinds c → Spell words c name file → first_of words ≡ word_of c
 first_is words c name file (Kinds.under b needs same unders) spelled = ap first_of (unders words name file spelled).0.words_are
 first_is words c name file (Kinds.numbers start inputs) spelled = ap first_of spelled.0.words_are
-first_is words c name file Kinds.released spelled = ap first_of spelled.words_are
+first_is words c name file (Kinds.by_file b needs same names) spelled = ap first_of (names words name file spelled).words_are
 
 -- words that begin so are those of no command of another word
 other_word : (words : List (List ℕ)) (c d : Command) (name file other more : List ℕ) → Kinds c → Kinds d → (bare c ≡ bare d → ⊥) → Spell words c name file → Spell words d other more → ⊥
 other_word words c d name file other more k l apart first second = apart (bare_once c d (sym (first_is words c name file k first) ∙ first_is words d other more l second))
 
--- whether the command has numbers, and whether it has a second name
-abbrev IsGenerate : Command → Type 0
-IsGenerate (Generate start inputs) = ⊤
-IsGenerate other = ⊥
+-- commands with another word are other ones
+not_generate : (c : Command) (start inputs : ℕ) → NeedsPolicy c → bare c ≡ c → bare (Generate start inputs) ≡ bare c → ⊥
+not_generate c start inputs needs itself same = subst NeedsPolicy (sym (same ∙ itself)) needs
 
-abbrev IsRelease : Command → Type 0
-IsRelease Release = ⊤
-IsRelease other = ⊥
-
-not_generate : (c : Command) (start inputs : ℕ) → NeedsPolicy c → bare (Generate start inputs) ≡ bare c → ⊥
-not_generate c start inputs needs same = from c (subst IsGenerate same tt) needs
+not_by_file : (c d : Command) → NeedsFile c → bare c ≡ c → NeedsPolicy d → bare d ≡ d → bare c ≡ bare d → ⊥
+not_by_file c d files first needs second same = both d needs (subst NeedsFile (sym first ∙ same ∙ second) files)
   where
-    from : (d : Command) → IsGenerate (bare d) → NeedsPolicy d → ⊥
-    from Check is needs' = is
-    from Upgrade is needs' = is
-    from Audit is needs' = is
-    from Travel is needs' = is
-    from (Trace work) is needs' = is
-    from (Generate s n) is needs' = needs'
-    from Release is needs' = needs'
+    both : (e : Command) → NeedsPolicy e → NeedsFile e → ⊥
+    both Check needs' files' = files'
+    both Upgrade needs' files' = files'
+    both Audit needs' files' = files'
+    both Travel needs' files' = files'
+    both (Trace work) needs' files' = files'
+    both (Generate start inputs) needs' files' = files'
+    both Resume needs' files' = needs'
+    both Release needs' files' = needs'
 
-not_release : (c : Command) → NeedsPolicy c → bare Release ≡ bare c → ⊥
-not_release c needs same = from c (subst IsRelease same tt) needs
-  where
-    from : (d : Command) → IsRelease (bare d) → NeedsPolicy d → ⊥
-    from Check is needs' = is
-    from Upgrade is needs' = is
-    from Audit is needs' = is
-    from Travel is needs' = is
-    from (Trace work) is needs' = is
-    from (Generate s n) is needs' = needs'
-    from Release is needs' = needs'
-
-apart : (start inputs : ℕ) → bare Release ≡ bare (Generate start inputs) → ⊥
-apart start inputs same = subst IsRelease same tt
+apart : (c : Command) (start inputs : ℕ) → NeedsFile c → bare c ≡ c → bare c ≡ bare (Generate start inputs) → ⊥
+apart c start inputs files itself same = subst NeedsFile (sym itself ∙ same) files
 
 spelled_once : (words : List (List ℕ)) (c d : Command) (name file other more : List ℕ) → Kinds c → Kinds d → Spell words c name file → Spell words d other more → (c ≡ d) × (name ≡ other) × (file ≡ more)
 spelled_once words c d name file other more (Kinds.under b needs same unders) (Kinds.under b' needs' same' unders') first second =
@@ -133,11 +118,11 @@ spelled_once words c d name file other more (Kinds.under b needs same unders) (K
     let both : word_of c ∷ name ∷ f.0.more ≡ word_of d ∷ other ∷ s.0.more = sym f.0.words_are ∙ s.0.words_are in
     (sym same ∙ bare_once c d (ap first_of both) ∙ same', ap second_of both, f.1 ∙ sym s.1)
 spelled_once words c d name file other more (Kinds.under b needs same unders) (Kinds.numbers start inputs) first second =
-    absurd (other_word words (Generate start inputs) c other more name file (Kinds.numbers start inputs) (Kinds.under c needs same unders) (not_generate c start inputs needs) second first)
-spelled_once words c d name file other more (Kinds.under b needs same unders) Kinds.released first second =
-    absurd (other_word words Release c other more name file Kinds.released (Kinds.under c needs same unders) (not_release c needs) second first)
+    absurd (other_word words (Generate start inputs) c other more name file (Kinds.numbers start inputs) (Kinds.under c needs same unders) (not_generate c start inputs needs same) second first)
+spelled_once words c d name file other more (Kinds.under b needs same unders) (Kinds.by_file b' files same' names) first second =
+    absurd (other_word words d c other more name file (Kinds.by_file d files same' names) (Kinds.under c needs same unders) (not_by_file d c files same' needs same) second first)
 spelled_once words c d name file other more (Kinds.numbers start inputs) (Kinds.under b needs same unders) first second =
-    absurd (other_word words (Generate start inputs) d name file other more (Kinds.numbers start inputs) (Kinds.under d needs same unders) (not_generate d start inputs needs) first second)
+    absurd (other_word words (Generate start inputs) d name file other more (Kinds.numbers start inputs) (Kinds.under d needs same unders) (not_generate d start inputs needs same) first second)
 spelled_once words c d name file other more (Kinds.numbers start inputs) (Kinds.numbers start' inputs') first second =
     let both : codes "gen" ∷ nat_text start ∷ nat_text inputs ∷ [] ≡ codes "gen" ∷ nat_text start' ∷ nat_text inputs' ∷ [] = sym first.0.words_are ∙ second.0.words_are in
     let few = first.0.few in
@@ -145,15 +130,17 @@ spelled_once words c d name file other more (Kinds.numbers start inputs) (Kinds.
     let starts = decimal_injective start start' first.0.start_fits second.0.start_fits (ap second_of both) in
     let counts = decimal_injective inputs inputs' (omega arith) (omega arith) (ap third_of both) in
     (ap (λ n. Generate n inputs) starts ∙ ap (λ n. Generate start' n) counts, first.1 ∙ sym second.1, first.2 ∙ sym second.2)
-spelled_once words c d name file other more (Kinds.numbers start inputs) Kinds.released first second =
-    absurd (other_word words Release (Generate start inputs) other more name file Kinds.released (Kinds.numbers start inputs) (apart start inputs) second first)
-spelled_once words c d name file other more Kinds.released (Kinds.under b needs same unders) first second =
-    absurd (other_word words Release d name file other more Kinds.released (Kinds.under d needs same unders) (not_release d needs) first second)
-spelled_once words c d name file other more Kinds.released (Kinds.numbers start inputs) first second =
-    absurd (other_word words Release (Generate start inputs) name file other more Kinds.released (Kinds.numbers start inputs) (apart start inputs) first second)
-spelled_once words c d name file other more Kinds.released Kinds.released first second =
-    let both : codes "release" ∷ name ∷ file ∷ [] ≡ codes "release" ∷ other ∷ more ∷ [] = sym first.words_are ∙ second.words_are in
-    (refl, ap second_of both, ap third_of both)
+spelled_once words c d name file other more (Kinds.numbers start inputs) (Kinds.by_file b files same names) first second =
+    absurd (other_word words d (Generate start inputs) other more name file (Kinds.by_file d files same names) (Kinds.numbers start inputs) (apart d start inputs files same) second first)
+spelled_once words c d name file other more (Kinds.by_file b files same names) (Kinds.under b' needs same' unders) first second =
+    absurd (other_word words c d name file other more (Kinds.by_file c files same names) (Kinds.under d needs same' unders) (not_by_file c d files same needs same') first second)
+spelled_once words c d name file other more (Kinds.by_file b files same names) (Kinds.numbers start inputs) first second =
+    absurd (other_word words c (Generate start inputs) name file other more (Kinds.by_file c files same names) (Kinds.numbers start inputs) (apart c start inputs files same) first second)
+spelled_once words c d name file other more (Kinds.by_file b files same names) (Kinds.by_file b' files' same' names') first second =
+    let f = names words name file first in
+    let s = names' words other more second in
+    let both : word_of c ∷ name ∷ file ∷ [] ≡ word_of d ∷ other ∷ more ∷ [] = sym f.words_are ∙ s.words_are in
+    (sym same ∙ bare_once c d (ap first_of both) ∙ same', ap second_of both, ap third_of both)
 
 -- so words ask for one command under one policy, by one file
 pub asks_once : (words : List (String Global)) (c d : Command) (name file other more : List ℕ) → AsksBy words c name file → AsksBy words d other more → (c ≡ d) × (name ≡ other) × (file ≡ more)
@@ -168,13 +155,14 @@ spell_two word name Travel is needs some = (record { more = []; words_are = ap (
 spell_two word name Upgrade is needs some = (record { more = []; words_are = ap (λ w. w ∷ name ∷ []) (sym is); follows = tt; named = some }, refl)
 spell_two word name (Trace work) is needs some = (record { more = []; words_are = ap (λ w. w ∷ name ∷ []) (sym is); follows = tt; named = some }, refl)
 spell_two word name (Generate start inputs) is needs some = absurd needs
+spell_two word name Resume is needs some = absurd needs
 spell_two word name Release is needs some = absurd needs
 
 -- two words are those of a command under a policy alone
 two_under : (word name : List ℕ) (c : Command) (other more : List ℕ) → Kinds c → Spell (word ∷ name ∷ []) c other more → NeedsPolicy c × AreUnder (word ∷ name ∷ []) c other
 two_under word name c other more (Kinds.under b needs same unders) spelled = (needs, (unders (word ∷ name ∷ []) other more spelled).0)
 two_under word name c other more (Kinds.numbers start inputs) spelled = absurd (omega (arith, ap length spelled.0.words_are))
-two_under word name c other more Kinds.released spelled = absurd (omega (arith, ap length spelled.words_are))
+two_under word name c other more (Kinds.by_file b files same names) spelled = absurd (omega (arith, ap length (names (word ∷ name ∷ []) other more spelled).words_are))
 
 pub spell_no_two : (word name : List ℕ) → ((command : Command) → NeedsPolicy command → word_of command ≡ word → ⊥) → (c : Command) (other more : List ℕ) → ¬ Spell (word ∷ name ∷ []) c other more
 spell_no_two word name none c other more spelled = let u = two_under word name c other more (kinds c) spelled in none c u.0 (sym (ap first_of u.1.words_are))
@@ -194,6 +182,7 @@ third (Trace Multi) word more is follows needs = (refl, subst (MayFollow (Trace 
 third (Trace Plain) word more is follows needs = absurd (subst (MayFollow (Trace Plain)) is follows)
 third (Trace Format) word more is follows needs = absurd (subst (MayFollow (Trace Format)) is follows)
 third (Generate start inputs) word more is follows needs = absurd needs
+third Resume word more is follows needs = absurd needs
 third Release word more is follows needs = absurd needs
 
 third_under : (word first second : List ℕ) (c : Command) (other : List ℕ) → NeedsPolicy c → AreUnder (word ∷ first ∷ second ∷ []) c other → (word ≡ codes "multi") × IsSlice second
@@ -201,13 +190,30 @@ third_under word first second c other needs u =
     let is = third c second u.more (sym (ap (λ ws. rest_of (rest_of ws)) u.words_are)) u.follows needs in
     (ap first_of u.words_are ∙ is.0, is.1)
 
-pub spell_no_three : (word first second : List ℕ) → (word ≡ codes "multi" → ⊥) → (word ≡ codes "gen" → ⊥) → (word ≡ codes "release" → ⊥) → (c : Command) (other more : List ℕ) → ¬ Spell (word ∷ first ∷ second ∷ []) c other more
-spell_no_three word first second no_multi no_gen no_release c other more spelled = from c (kinds c) spelled
+-- a command with another file is that of one of two words
+file_word : (c : Command) → NeedsFile c → (word_of c ≡ codes "resume") ⊎ (word_of c ≡ codes "release")
+file_word Resume files = inl refl
+file_word Release files = inr refl
+file_word Check files = absurd files
+file_word Upgrade files = absurd files
+file_word Audit files = absurd files
+file_word Travel files = absurd files
+file_word (Trace work) files = absurd files
+file_word (Generate start inputs) files = absurd files
+
+pub spell_no_three : (word first second : List ℕ) → (word ≡ codes "multi" → ⊥) → (word ≡ codes "gen" → ⊥) → (word ≡ codes "resume" → ⊥) → (word ≡ codes "release" → ⊥) → (c : Command) (other more : List ℕ)
+    → ¬ Spell (word ∷ first ∷ second ∷ []) c other more
+spell_no_three word first second no_multi no_gen no_resume no_release c other more spelled = from c (kinds c) spelled
   where
     from : (d : Command) → Kinds d → Spell (word ∷ first ∷ second ∷ []) d other more → ⊥
     from d (Kinds.under b needs same unders) spelled' = no_multi (third_under word first second d other needs (unders (word ∷ first ∷ second ∷ []) other more spelled').0).0
     from d (Kinds.numbers start inputs) spelled' = no_gen (ap first_of spelled'.0.words_are)
-    from d Kinds.released spelled' = no_release (ap first_of spelled'.words_are)
+    from d (Kinds.by_file b files same names) spelled' =
+        let word_is = ap first_of (names (word ∷ first ∷ second ∷ []) other more spelled').words_are in
+        elim (file_word d files) [
+          | inl resume ↦ no_resume (word_is ∙ resume)
+          | inr release ↦ no_release (word_is ∙ release)
+        ]
 
 pub spell_slice : (name word : List ℕ) (slice : ℕ) → (name ≡ [] → ⊥) → 1 ≤ slice → slice < 2 ^ 32 → word ≡ nat_text slice → Spell (codes "multi" ∷ name ∷ word ∷ []) (Trace Multi) name dash
 spell_slice name word slice some least most is = (
@@ -229,7 +235,7 @@ multi_words name word c other more spelled = from c (kinds c) spelled
         let u = (unders (codes "multi" ∷ name ∷ word ∷ []) other more spelled').0 in
         ((third_under (codes "multi") name word d other needs u).1, λ none. u.named (sym (ap second_of u.words_are) ∙ none))
     from d (Kinds.numbers start inputs) spelled' = let same : ◌≡◌ {A = ℕ} 109 103 = ap (λ ws. first_or_zero (first_of ws)) spelled'.0.words_are in absurd (omega arith)
-    from d Kinds.released spelled' = let same : ◌≡◌ {A = ℕ} 109 114 = ap (λ ws. first_or_zero (first_of ws)) spelled'.words_are in absurd (omega arith)
+    from d (Kinds.by_file b files same names) spelled' = absurd (not_by_file d (Trace Multi) files same tt refl (bare_once d (Trace Multi) (sym (ap first_of (names (codes "multi" ∷ name ∷ word ∷ []) other more spelled').words_are))))
 
 pub spell_no_slice : (name word : List ℕ) → ¬ IsSlice word → (c : Command) (other more : List ℕ) → ¬ Spell (codes "multi" ∷ name ∷ word ∷ []) c other more
 spell_no_slice name word none c other more spelled = none (multi_words name word c other more spelled).0
@@ -256,8 +262,8 @@ generated_words first second c other more spelled = from c (kinds c) spelled
     from : (d : Command) → Kinds d → Spell (codes "gen" ∷ first ∷ second ∷ []) d other more → AreGenerated first second
     from d (Kinds.under b needs same unders) spelled' =
         let u = (unders (codes "gen" ∷ first ∷ second ∷ []) other more spelled').0 in
-        absurd (not_generate d 0 0 needs (bare_once (Generate 0 0) d (ap first_of u.words_are)))
-    from d Kinds.released spelled' = absurd (apart 0 0 (bare_once Release (Generate 0 0) (sym (ap first_of spelled'.words_are))))
+        absurd (not_generate d 0 0 needs same (bare_once (Generate 0 0) d (ap first_of u.words_are)))
+    from d (Kinds.by_file b files same names) spelled' = absurd (apart d 0 0 files same (bare_once d (Generate 0 0) (sym (ap first_of (names (codes "gen" ∷ first ∷ second ∷ []) other more spelled').words_are))))
     from d (Kinds.numbers start inputs) spelled' = record {
       start = start;
       inputs = inputs;
@@ -273,25 +279,46 @@ spell_no_start first second none c other more spelled = let g = generated_words 
 pub spell_no_inputs : (first second : List ℕ) → ((n : ℕ) → n ≤ MOST_LINES → second ≡ nat_text n → ⊥) → (c : Command) (other more : List ℕ) → ¬ Spell (codes "gen" ∷ first ∷ second ∷ []) c other more
 spell_no_inputs first second none c other more spelled = let g = generated_words first second c other more spelled in none g.inputs g.few g.second_is
 
-pub spell_names : (name file : List ℕ) → (name ≡ [] → ⊥) → (file ≡ [] → ⊥) → Spell (codes "release" ∷ name ∷ file ∷ []) Release name file
-spell_names name file some_name some_file = record { words_are = refl; named = some_name; filed = some_file }
+-- a command with another file is spelled by its names
+file_itself : (c : Command) → NeedsFile c → bare c ≡ c
+file_itself Resume files = refl
+file_itself Release files = refl
+file_itself Check files = absurd files
+file_itself Upgrade files = absurd files
+file_itself Audit files = absurd files
+file_itself Travel files = absurd files
+file_itself (Trace work) files = absurd files
+file_itself (Generate start inputs) files = absurd files
 
--- the words that begin with `release`
-released_words : (name file : List ℕ) (c : Command) (other more : List ℕ) → Spell (codes "release" ∷ name ∷ file ∷ []) c other more → AreNames (codes "release" ∷ name ∷ file ∷ []) other more
-released_words name file c other more spelled = from c (kinds c) spelled
+pub spell_names : (c : Command) (name file : List ℕ) → NeedsFile c → (name ≡ [] → ⊥) → (file ≡ [] → ⊥) → Spell (word_of c ∷ name ∷ file ∷ []) c name file
+spell_names c name file files some_name some_file = from c files (record { words_are = refl; named = some_name; filed = some_file })
   where
-    from : (d : Command) → Kinds d → Spell (codes "release" ∷ name ∷ file ∷ []) d other more → AreNames (codes "release" ∷ name ∷ file ∷ []) other more
-    from d (Kinds.under b needs same unders) spelled' =
-        let u = (unders (codes "release" ∷ name ∷ file ∷ []) other more spelled').0 in
-        absurd (not_release d needs (bare_once Release d (ap first_of u.words_are)))
-    from d (Kinds.numbers start inputs) spelled' = absurd (apart 0 0 (bare_once Release (Generate 0 0) (ap first_of spelled'.0.words_are)))
-    from d Kinds.released spelled' = spelled'
+    from : (d : Command) → NeedsFile d → AreNames (word_of c ∷ name ∷ file ∷ []) d name file → Spell (word_of c ∷ name ∷ file ∷ []) d name file
+    from Resume files' names = names
+    from Release files' names = names
+    from Check files' names = absurd files'
+    from Upgrade files' names = absurd files'
+    from Audit files' names = absurd files'
+    from Travel files' names = absurd files'
+    from (Trace work) files' names = absurd files'
+    from (Generate start inputs) files' names = absurd files'
 
-pub spell_no_first : (name file : List ℕ) → name ≡ [] → (c : Command) (other more : List ℕ) → ¬ Spell (codes "release" ∷ name ∷ file ∷ []) c other more
-spell_no_first name file none c other more spelled = let n = released_words name file c other more spelled in n.named (sym (ap second_of n.words_are) ∙ none)
+-- the words that begin with its word
+file_words : (c : Command) (name file : List ℕ) → NeedsFile c → (d : Command) (other more : List ℕ) → Spell (word_of c ∷ name ∷ file ∷ []) d other more → AreNames (word_of c ∷ name ∷ file ∷ []) d other more
+file_words c name file files d other more spelled = from d (kinds d) spelled
+  where
+    from : (e : Command) → Kinds e → Spell (word_of c ∷ name ∷ file ∷ []) e other more → AreNames (word_of c ∷ name ∷ file ∷ []) e other more
+    from e (Kinds.under b needs same unders) spelled' =
+        let u = (unders (word_of c ∷ name ∷ file ∷ []) other more spelled').0 in
+        absurd (not_by_file c e files (file_itself c files) needs same (bare_once c e (ap first_of u.words_are)))
+    from e (Kinds.numbers start inputs) spelled' = absurd (apart c 0 0 files (file_itself c files) (bare_once c (Generate 0 0) (ap first_of spelled'.0.words_are)))
+    from e (Kinds.by_file b files' same names) spelled' = names (word_of c ∷ name ∷ file ∷ []) other more spelled'
 
-pub spell_no_second : (name file : List ℕ) → file ≡ [] → (c : Command) (other more : List ℕ) → ¬ Spell (codes "release" ∷ name ∷ file ∷ []) c other more
-spell_no_second name file none c other more spelled = let n = released_words name file c other more spelled in n.filed (sym (ap third_of n.words_are) ∙ none)
+pub spell_no_first : (c : Command) (name file : List ℕ) → NeedsFile c → name ≡ [] → (d : Command) (other more : List ℕ) → ¬ Spell (word_of c ∷ name ∷ file ∷ []) d other more
+spell_no_first c name file files none d other more spelled = let n = file_words c name file files d other more spelled in n.named (sym (ap second_of n.words_are) ∙ none)
+
+pub spell_no_second : (c : Command) (name file : List ℕ) → NeedsFile c → file ≡ [] → (d : Command) (other more : List ℕ) → ¬ Spell (word_of c ∷ name ∷ file ∷ []) d other more
+spell_no_second c name file files none d other more spelled = let n = file_words c name file files d other more spelled in n.filed (sym (ap third_of n.words_are) ∙ none)
 
 -- ---- other words
 
@@ -310,9 +337,10 @@ few_words words c name file (Kinds.under b needs same unders) spelled = let u = 
     more (Trace Plain) (v ∷ w ∷ ws) needs' follows long = absurd follows
     more (Trace Format) (v ∷ w ∷ ws) needs' follows long = absurd follows
     more (Generate start inputs) (v ∷ w ∷ ws) needs' follows long = absurd needs'
+    more Resume (v ∷ w ∷ ws) needs' follows long = absurd needs'
     more Release (v ∷ w ∷ ws) needs' follows long = absurd needs'
 few_words words c name file (Kinds.numbers start inputs) spelled = inr (ap length spelled.0.words_are)
-few_words words c name file Kinds.released spelled = inr (ap length spelled.words_are)
+few_words words c name file (Kinds.by_file b files same names) spelled = inr (ap length (names words name file spelled).words_are)
 
 pub asks_other : (ws : List (String Global)) → (length ws ≡ 2 → ⊥) → (length ws ≡ 3 → ⊥) → ¬ AreCommand ws
 asks_other ws no_two no_three asked =

@@ -21,7 +21,7 @@ use Rattle.ff_status.specs.declared.status.TraceFault.{TraceFault}
 use Rattle.ff_run.proofs.DrawnLines.{same_front}
 use Rattle.ff_io.specs.Port.{Told}
 use Rattle.ff_status.specs.declared.status.Status.{Status}
-use Rattle.ff_status.specs.declared.status.Status.TheVariants.{Done, Leaks, Usage, Policy, Trace, ReadFault, WriteFault, ShelfFault, NoMemory, Release}
+use Rattle.ff_status.specs.declared.status.Status.TheVariants.{Done, Leaks, Usage, Policy, Trace, ReadFault, WriteFault, ShelfFault, NoMemory, Saved, Release}
 use Rattle.ff_run.specs.Checked.{IsPut}
 use Rattle.ff_run.specs.Generated.{IsDrawn, AreDrawn, RanDrawn, AtMostDrawn, Generates, summary}
 
@@ -80,6 +80,7 @@ generated p start n before turns (Ok sum) told now Usage ran most put none same 
 generated p start n before turns (Ok sum) told now Leaks ran most put none same = put
 generated p start n before turns (Ok sum) told now ReadFault ran most put none same = put
 generated p start n before turns (Ok sum) told now ShelfFault ran most put none same = put
+generated p start n before turns (Ok sum) told now (Saved fault) ran most put none same = put
 generated p start n before turns (Ok sum) told now (Release fault) ran most put none same = put
 
 -- ---- the loop over the lines

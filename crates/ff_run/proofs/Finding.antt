@@ -1,12 +1,13 @@
 -- Something is found by its name, or nothing is.
-use Rattle.std.proofs.Common.{◌≡◌, ◌≢◌, ℕ, ◌⊎◌, inl, inr, Option, Some, None, Result, Ok, Err, List, sym, subst, ◌∙◌, ◌≤◌, arith}
+use Rattle.std.proofs.Common.{◌≡◌, ◌≢◌, ℕ, ◌⊎◌, inl, inr, Option, Some, None, Result, Ok, Err, List, sym, subst, ◌∙◌, arith}
 use Rattle.std.specs.Result.{IfOk, IfErr, IsErrOf}
 use Rattle.ff_io.specs.Shelf.{ShelfTold}
 use Rattle.ff_io.specs.Fetched.{IsFrontOf, IsFetched}
 use Rattle.ff_status.specs.declared.status.Status.{Status}
 use Rattle.ff_status.specs.declared.status.Status.TheVariants.{ShelfFault, NoMemory}
+use Rattle.ff_run.specs.Status.{IsEarly}
 use Rattle.ff_run.specs.Words.{dash}
-use Rattle.ff_run.specs.Names.{FetchFailed, IsUnfetched, IsKnown, IsLater, Names, NamesBad, Refuses, StandsFor, IsOutside}
+use Rattle.ff_run.specs.Names.{Accepts, FetchFailed, IsKnown, IsLater, Names, NamesBad, Refuses, StandsFor, IsOutside}
 
 -- where the files are told, one front of a file is fetched
 front_once : (file : Option (List ℕ)) (limit : ℕ) (a b : List ℕ) → IsFrontOf file limit a → IsFrontOf file limit b → a ≡ b
@@ -22,6 +23,13 @@ fetched_once shelf name limit a b no_dash (inr told) first second =
 pub known_from : (a b : ShelfTold) → a.files ≡ b.files → (name : List ℕ) → IsKnown a name → IsKnown b name
 known_from a b same name (inl is_dash) = inl is_dash
 known_from a b same name (inr told) = inr (told.0, sym same ∙ told.1)
+
+-- a fetch that failed since then failed since before
+pub failed_from : (before mid now : ShelfTold) → IsLater before mid → (name : List ℕ) → FetchFailed name mid now → FetchFailed name before now
+failed_from before mid now later name rose = let less = later.faults name in omega (arith, less, rose)
+
+pub later_from : (before mid now : ShelfTold) → IsLater before mid → IsLater mid now → IsLater before now
+later_from before mid now first second = record { files = second.files ∙ first.files; faults = λ name. let a = first.faults name in let b = second.faults name in omega (arith, a, b) }
 
 module _ {X : Type 0} (built_in : X) (most : ℕ) (Gives : List ℕ → X → Type 0) (IsBad : List ℕ → Status → Type 0) where
   pub no_memory : (before now : ShelfTold) (name : List ℕ) → Refuses built_in most Gives IsBad before now name NoMemory
@@ -99,6 +107,10 @@ module _ {X : Type 0} (built_in : X) (most : ℕ) (Gives : List ℕ → X → Ty
         | inr out ↦ not_outside out
       ]
 
+      -- and a run that doesn't end early goes on by it
+      pub accepts_found : ((status : Status) → IsKnown shelf name → NamesBad built_in most Gives IsBad shelf name status → (result ≡ Err status) ⊎ IsOutside result) → (now : ShelfTold) (s : Status) → ¬ IsEarly s → Accepts built_in most Gives IsBad shelf now name s
+      accepts_found exact now s late = record { bad = λ ends known names fetched. absurd (not_bad exact ends known names); good = λ y known names fetched. late }
+
     -- nothing was found
     module _ (now : ShelfTold) (status : Status) (is : result ≡ Err status) (refuses : Refuses built_in most Gives IsBad shelf now name status) (no_shelf : (bytes : List ℕ) → IsBad bytes ShelfFault → ⊥) where
       failed_shelf : (s : Status) → Refuses built_in most Gives IsBad shelf now name s → s ≡ ShelfFault → FetchFailed name shelf now
@@ -125,6 +137,9 @@ module _ {X : Type 0} (built_in : X) (most : ℕ) (Gives : List ℕ → X → Ty
         | inr out ↦ for_memory fetched out
       ]
 
+      pub accepts_refused : ((s : Status) → IsKnown shelf name → NamesBad built_in most Gives IsBad shelf name s → (result ≡ Err s) ⊎ IsOutside result) → Accepts built_in most Gives IsBad shelf now name status
+      accepts_refused exact = record { bad = bad_refused exact; good = λ x known names fetched early. subst IsEarly (good_refused x known names fetched) early }
+
   -- the same by another shelf that tells the same files
   pub names_from : (a b : ShelfTold) → a.files ≡ b.files → (name : List ℕ) (x : X) → Names built_in most Gives IsBad a name x → Names built_in most Gives IsBad b name x
   names_from a b same name _ (Names.at_dash other is_dash) = Names.at_dash name is_dash
@@ -141,12 +156,12 @@ module _ {X : Type 0} (built_in : X) (most : ℕ) (Gives : List ℕ → X → Ty
     held = stand.held;
   }
 
--- a fetch that failed since then failed since before
-pub failed_from : (before mid now : ShelfTold) → IsLater before mid → (name : List ℕ) → FetchFailed name mid now → FetchFailed name before now
-failed_from before mid now later name rose = let less = later.faults name in omega (arith, less, rose)
-
-pub later_from : (before mid now : ShelfTold) → IsLater before mid → IsLater mid now → IsLater before now
-later_from before mid now first second = record { files = second.files ∙ first.files; faults = λ name. let a = first.faults name in let b = second.faults name in omega (arith, a, b) }
+  -- the same of a fetch since an earlier one that went well
+  pub accepts_from : (before mid now : ShelfTold) (name : List ℕ) (s : Status) → IsLater before mid → Accepts built_in most Gives IsBad mid now name s → Accepts built_in most Gives IsBad before now name s
+  accepts_from before mid now name s later accepts = record {
+    bad = λ ends known names fetched. accepts.bad ends (known_from before mid (sym later.files) name known) (bad_from before mid (sym later.files) name ends names) (λ failed. fetched (failed_from before mid now later name failed));
+    good = λ x known names fetched. accepts.good x (known_from before mid (sym later.files) name known) (names_from before mid (sym later.files) name x names) (λ failed. fetched (failed_from before mid now later name failed));
+  }
 
 -- an answer that is found is no refusal
 pub found_so : {T E : Type 0} (x : T) (e : E) → IsErrOf {T = T} (Ok x) e → ⊥

@@ -8,6 +8,7 @@ pub mod Commands
 pub mod Finding
 pub mod PolicyFaults
 pub mod RulesFaults
+pub mod StateFaults
 pub mod Obeying
 pub mod Headline
 pub mod Counting

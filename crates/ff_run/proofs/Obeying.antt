@@ -1,36 +1,37 @@
 -- A command is obeyed under the policy that was found, by the rules that were found, or there is
 -- none.
-use Rattle.std.proofs.Common.{◌≡◌, ◌≢◌, ℕ, ◌⊎◌, inl, inr, Option, Result, Ok, Err, List, [], refl, sym, subst, ◌∙◌, String, Global}
+use Rattle.std.proofs.Common.{◌≡◌, ◌≢◌, ℕ, inl, inr, Option, Result, Ok, Err, List, [], refl, subst, ◌∙◌, String, Global}
 use Rattle.ff_io.specs.Counts.{Rose}
-use Rattle.ff_io.specs.Pieces.{Piece}
 use Rattle.ff_io.specs.Port.{Told}
 use Rattle.ff_io.specs.Shelf.{ShelfTold}
 use Rattle.ff_lattice.specs.Order.{Order}
 use Rattle.ff_policy.specs.Assignment.{Assignment, builtin}
 use Rattle.ff_policy.specs.Reading.{IsPolicyOf}
-use Rattle.ff_policy.specs.declared.fault.PolicyFault.{PolicyFault}
-use Rattle.ff_rules.specs.declared.rule.Rule.{Rule}
-use Rattle.ff_rules.specs.declared.fault.ReleaseFault.{ReleaseFault}
+use Rattle.ff_resume.specs.Resumed.{resume_duty, stand_of}
+use Rattle.ff_save.specs.Whole.{IsSaved}
+use Rattle.ff_saved.specs.declared.fault.SavedFault.TheVariants as saved
 use Rattle.ff_session.specs.Giving.{Gives}
 use Rattle.ff_session.specs.Works.{Duty, Exchanged, IsWritten}
 use Rattle.ff_release.specs.Releasing.{release_duty}
-use Rattle.ff_run.specs.Words.{AreCommand, dash}
-use Rattle.ff_run.specs.Names.{NamesBad, Refuses, StandsFor, IsKnown, IsLater, IsUnfetched, FetchFailed, FetchedOrFailed, IsFetchedOrFails}
-use Rattle.ff_run.specs.Policies.{NamesFault, IsBadPolicy, RefusesPolicy, Under}
-use Rattle.ff_run.specs.Rules.{AreBadRules, AreRulesOf, ByRules, NamesRulesFault, RefusesRules}
+use Rattle.ff_run.specs.Words.{AreCommand}
+use Rattle.ff_run.specs.Names.{NamesBad, Refuses, IsLater, FetchedOrFailed, IsFetchedOrFails}
+use Rattle.ff_run.specs.Policies.{IsBadPolicy, RefusesPolicy, Under}
+use Rattle.ff_run.specs.Rules.{AreBadRules, AreRulesOf, NamesRulesFault, RefusesRules}
+use Rattle.ff_run.specs.States.{IsBadState, NamesStateFault, RefusesState, new_copies}
 use Rattle.ff_run.specs.Checked.{IsPut, check_text}
 use Rattle.ff_run.specs.Upgraded.{upgrade_text}
 use Rattle.ff_run.specs.declared.policies.TheConstants as policies
 use Rattle.ff_run.specs.declared.rules.TheConstants as rules_file
+use Rattle.ff_run.specs.declared.states.TheConstants as states
 use Rattle.ff_run.specs.Status.{IsEarly, IsUnfailing}
 use Rattle.ff_status.specs.Words.{IsGood, error_line}
 use Rattle.ff_status.specs.declared.status.TraceFault.{TraceFault}
-use Rattle.ff_run.specs.Run.{Suits, Performs, Obeys, Releases, Accepts, NothingFailed, IsUntouched}
+use Rattle.ff_run.specs.Run.{Suits, Performs, PerformsBy, Obeys, NothingFailed, IsUntouched}
 use Rattle.ff_run.specs.declared.words.Command.{Command}
 use Rattle.ff_run.specs.declared.words.Command.TheVariants as command
 use Rattle.ff_status.specs.declared.status.Status.{Status}
-use Rattle.ff_status.specs.declared.status.Status.TheVariants.{Done, Leaks, Usage, Policy, Trace, ReadFault, WriteFault, ShelfFault, NoMemory, Release}
-use Rattle.ff_run.proofs.Finding.{bad_from, failed_from, known_from, names_from, stands_from}
+use Rattle.ff_status.specs.declared.status.Status.TheVariants.{Done, Leaks, Usage, Policy, Trace, ReadFault, WriteFault, ShelfFault, NoMemory, Saved, Release}
+use Rattle.ff_run.proofs.Finding.{bad_from, failed_from, stands_from}
 
 -- ---- the words
 
@@ -44,6 +45,7 @@ suits_command words ReadFault other are = are
 suits_command words WriteFault other are = are
 suits_command words ShelfFault other are = are
 suits_command words NoMemory other are = are
+suits_command words (Saved fault) other are = are
 suits_command words (Release fault) other are = are
 
 -- no bytes fail to be fetched
@@ -58,6 +60,12 @@ no_shelf_rules order bytes bad = from ShelfFault bad refl
   where
     from : (s : Status) → AreBadRules order bytes s → s ≡ ShelfFault → ⊥
     from _ (AreBadRules.faulty fault is) e = cc
+
+pub no_shelf_state : (p : Assignment) (bytes : List ℕ) → IsBadState p bytes ShelfFault → ⊥
+no_shelf_state p bytes bad = from ShelfFault bad refl
+  where
+    from : (s : Status) → IsBadState p bytes s → s ≡ ShelfFault → ⊥
+    from _ (IsBadState.faulty fault is) e = cc
 
 -- ---- what is carried out
 
@@ -77,6 +85,7 @@ module _ {X : Type 0} {Given : List ℕ → Result (Option X) TraceFault → Typ
   early Usage written is = written
   early (Policy fault) written is = written
   early ShelfFault written is = written
+  early (Saved fault) written is = written
   early (Release fault) written is = written
 
   well_ended : {r w : Type 0} (t : Status) → IsWritten Given owed t run.pieces turns_before turns_now → (t ≡ ReadFault → r) → (t ≡ WriteFault → w) → ¬ r → ¬ w → IsUnfailing t
@@ -89,6 +98,7 @@ module _ {X : Type 0} {Given : List ℕ → Result (Option X) TraceFault → Typ
   well_ended Usage written reads writes no_read no_write = tt
   well_ended (Policy fault) written reads writes no_read no_write = tt
   well_ended ShelfFault written reads writes no_read no_write = written
+  well_ended (Saved fault) written reads writes no_read no_write = tt
   well_ended (Release fault) written reads writes no_read no_write = tt
 
   exchanged_late : IsLate before now s
@@ -104,6 +114,7 @@ put_late text before now ReadFault put = absurd put
 put_late text before now Usage put = absurd put
 put_late text before now (Policy fault) put = absurd put
 put_late text before now ShelfFault put = absurd put
+put_late text before now (Saved fault) put = absurd put
 put_late text before now (Release fault) put = absurd put
 
 -- a command that is carried out under a policy doesn't end early, and well where nothing failed
@@ -113,6 +124,7 @@ performed command.Upgrade p shelf file before now turns_before turns_now s run =
 performed (command.Trace work) p shelf file before now turns_before turns_now s run = exchanged_late s run
 performed command.Audit p shelf file before now turns_before turns_now s run = exchanged_late s run
 performed command.Travel p shelf file before now turns_before turns_now s run = exchanged_late s run
+performed command.Resume p shelf file before now turns_before turns_now s by = exchanged_late s by.held
 performed command.Release p shelf file before now turns_before turns_now s by = exchanged_late s by.held
 performed (command.Generate start inputs) p shelf file before now turns_before turns_now Done run = record { late = λ is. is; well = λ no_read no_write. tt }
 performed (command.Generate start inputs) p shelf file before now turns_before turns_now WriteFault run = record { late = λ is. is; well = λ no_read no_write. no_write run.held.1 }
@@ -123,25 +135,13 @@ performed (command.Generate start inputs) p shelf file before now turns_before t
 performed (command.Generate start inputs) p shelf file before now turns_before turns_now Usage run = absurd run
 performed (command.Generate start inputs) p shelf file before now turns_before turns_now (Policy fault) run = absurd run
 performed (command.Generate start inputs) p shelf file before now turns_before turns_now ShelfFault run = absurd run
+performed (command.Generate start inputs) p shelf file before now turns_before turns_now (Saved fault) run = absurd run
 performed (command.Generate start inputs) p shelf file before now turns_before turns_now (Release fault) run = absurd run
 
 pub late : (c : Command) (p : Assignment) (shelf : ShelfTold) (file : List ℕ) (before now : Told) (turns_before turns_now : ℕ) (s : Status) → Performs c p shelf file before now turns_before turns_now s → ¬ IsEarly s
 late c p shelf file before now turns_before turns_now s run = (performed c p shelf file before now turns_before turns_now s run).late
 
 module _ (name file : List ℕ) (shelf shelf_now : ShelfTold) (before now : Told) (turns_before turns_now : ℕ) where
-  -- a command that was carried out under a policy
-  pub obeys_under : (c : Command) (s : Status) → Under shelf name (λ p. Performs c p shelf file before now turns_before turns_now s) → Obeys c name file shelf shelf_now before now turns_before turns_now s
-  obeys_under c Done under = under
-  obeys_under c Leaks under = under
-  obeys_under c (Trace number fault) under = under
-  obeys_under c ReadFault under = under
-  obeys_under c WriteFault under = under
-  obeys_under c NoMemory under = inr under
-  obeys_under c Usage under = late c under.found shelf file before now turns_before turns_now Usage under.held.1 tt
-  obeys_under c (Policy fault) under = absurd (late c under.found shelf file before now turns_before turns_now (Policy fault) under.held.1 tt)
-  obeys_under c ShelfFault under = absurd (late c under.found shelf file before now turns_before turns_now ShelfFault under.held.1 tt)
-  obeys_under c (Release fault) under = absurd (late c under.found shelf file before now turns_before turns_now (Release fault) under.held.1 tt)
-
   -- there is no policy of this name
   pub obeys_refused : (c : Command) (s : Status) → RefusesPolicy shelf shelf_now name s → now ≡ before → turns_now ≡ turns_before → Obeys c name file shelf shelf_now before now turns_before turns_now s
   obeys_refused c s refuses same unturned = from s refuses
@@ -169,6 +169,7 @@ module _ (name file : List ℕ) (shelf shelf_now : ShelfTold) (before now : Told
   unfailing c (Policy fault) obeys fine = tt
   unfailing c (Trace number fault) obeys fine = tt
   unfailing c NoMemory obeys fine = tt
+  unfailing c (Saved fault) obeys fine = tt
   unfailing c (Release fault) obeys fine = tt
   unfailing c ShelfFault obeys fine = elim obeys.0 [
     | inl first ↦ fine.fetches first
@@ -177,65 +178,86 @@ module _ (name file : List ℕ) (shelf shelf_now : ShelfTold) (before now : Told
   unfailing c ReadFault obeys fine = (performed c obeys.found shelf file before now turns_before turns_now ReadFault obeys.held.1).well fine.reads fine.writes
   unfailing c WriteFault obeys fine = (performed c obeys.found shelf file before now turns_before turns_now WriteFault obeys.held.1).well fine.reads fine.writes
 
--- ---- a released run
+-- ---- by the other file
 
 module _ (p : Assignment) (file : List ℕ) (before now : Told) (turns_before turns_now : ℕ) where
-  -- it was carried out by the rules of this name
-  pub releases_by : (shelf shelf_now : ShelfTold) (s : Status) → Performs command.Release p shelf file before now turns_before turns_now s → Releases p file shelf shelf_now before now turns_before turns_now s
-  releases_by shelf shelf_now Done by = by
-  releases_by shelf shelf_now Leaks by = by
-  releases_by shelf shelf_now (Trace number fault) by = by
-  releases_by shelf shelf_now ReadFault by = by
-  releases_by shelf shelf_now WriteFault by = by
-  releases_by shelf shelf_now NoMemory by = inr by
-  releases_by shelf shelf_now Usage by = late command.Release p shelf file before now turns_before turns_now Usage by tt
-  releases_by shelf shelf_now (Policy fault) by = late command.Release p shelf file before now turns_before turns_now (Policy fault) by tt
-  releases_by shelf shelf_now ShelfFault by = absurd (late command.Release p shelf file before now turns_before turns_now ShelfFault by tt)
-  releases_by shelf shelf_now (Release fault) by = absurd (late command.Release p shelf file before now turns_before turns_now (Release fault) by tt)
+  -- a command that was carried out
+  pub performs_by : (c : Command) (shelf shelf_now : ShelfTold) (s : Status) → Performs c p shelf file before now turns_before turns_now s → PerformsBy c p file shelf shelf_now before now turns_before turns_now s
+  performs_by c shelf shelf_now Done run = run
+  performs_by c shelf shelf_now Leaks run = run
+  performs_by c shelf shelf_now (Trace number fault) run = run
+  performs_by c shelf shelf_now ReadFault run = run
+  performs_by c shelf shelf_now WriteFault run = run
+  performs_by c shelf shelf_now NoMemory run = inr run
+  performs_by c shelf shelf_now Usage run = late c p shelf file before now turns_before turns_now Usage run tt
+  performs_by c shelf shelf_now (Policy fault) run = late c p shelf file before now turns_before turns_now (Policy fault) run tt
+  performs_by c shelf shelf_now ShelfFault run = absurd (late c p shelf file before now turns_before turns_now ShelfFault run tt)
+  performs_by c shelf shelf_now (Saved fault) run = absurd (late c p shelf file before now turns_before turns_now (Saved fault) run tt)
+  performs_by c shelf shelf_now (Release fault) run = absurd (late c p shelf file before now turns_before turns_now (Release fault) run tt)
 
-  -- there are no rules of this name
-  pub releases_refused : (shelf shelf_now : ShelfTold) (s : Status) → RefusesRules p.order shelf shelf_now file s → now ≡ before → turns_now ≡ turns_before → Releases p file shelf shelf_now before now turns_before turns_now s
-  releases_refused shelf shelf_now s refuses same unturned = from s refuses
+  -- one whose file was refused
+  pub refused_by : {X : Type 0} {built_in : X} {most : ℕ} {Gives : List ℕ → X → Type 0} {IsBad : List ℕ → Status → Type 0} (c : Command) (shelf shelf_now : ShelfTold) (s : Status) → Refuses built_in most Gives IsBad shelf shelf_now file s
+      → ((t : Status) → NamesBad built_in most Gives IsBad shelf file t → IsUntouched before now turns_before turns_now → PerformsBy c p file shelf shelf_now before now turns_before turns_now t)
+      → now ≡ before → turns_now ≡ turns_before → PerformsBy c p file shelf shelf_now before now turns_before turns_now s
+  refused_by {built_in = built_in} {most = most} {Gives = Gives} {IsBad = IsBad} c shelf shelf_now s refuses by_bytes same unturned = from s refuses
     where
       untouched : IsUntouched before now turns_before turns_now
       untouched = record { port = same; turns = unturned }
 
-      by_bytes : (bytes : List ℕ) (t : Status) → AreBadRules p.order bytes t → NamesBad [] rules_file.MOST_FETCHED (AreRulesOf p.order) (AreBadRules p.order) shelf file t → Releases p file shelf shelf_now before now turns_before turns_now t
-      by_bytes bytes _ (AreBadRules.faulty fault is) names = (names, untouched)
-
-      from : (t : Status) → RefusesRules p.order shelf shelf_now file t → Releases p file shelf shelf_now before now turns_before turns_now t
+      from : (t : Status) → Refuses built_in most Gives IsBad shelf shelf_now file t → PerformsBy c p file shelf shelf_now before now turns_before turns_now t
       from _ (Refuses.no_file no_dash failed) = ((no_dash, failed), untouched)
-      from _ (Refuses.bad_file t names) = by_bytes names.bytes t names.bad names
+      from _ (Refuses.bad_file t names) = by_bytes t names untouched
       from _ Refuses.no_memory = inl untouched
 
-  -- the same by a shelf before a fetch that went well, under the policy that was found
+  -- the rules of a released run
+  pub unruled : (shelf shelf_now : ShelfTold) (s : Status) → RefusesRules p.order shelf shelf_now file s → now ≡ before → turns_now ≡ turns_before → PerformsBy command.Release p file shelf shelf_now before now turns_before turns_now s
+  unruled shelf shelf_now s refuses same unturned = refused_by command.Release shelf shelf_now s refuses (λ t names untouched. by_bytes names.bytes t names.bad names untouched) same unturned
+    where
+      by_bytes : (bytes : List ℕ) (t : Status) → AreBadRules p.order bytes t → NamesBad [] rules_file.MOST_FETCHED (AreRulesOf p.order) (AreBadRules p.order) shelf file t → IsUntouched before now turns_before turns_now
+          → PerformsBy command.Release p file shelf shelf_now before now turns_before turns_now t
+      by_bytes bytes _ (AreBadRules.faulty fault is) names untouched = (refl, names, untouched)
+
+  -- the saved state of a resumed run
+  pub unresumed : (shelf shelf_now : ShelfTold) (s : Status) → RefusesState p shelf shelf_now file s → now ≡ before → turns_now ≡ turns_before → PerformsBy command.Resume p file shelf shelf_now before now turns_before turns_now s
+  unresumed shelf shelf_now s refuses same unturned = refused_by command.Resume shelf shelf_now s refuses (λ t names untouched. by_bytes names.bytes t names.bad names untouched) same unturned
+    where
+      by_bytes : (bytes : List ℕ) (t : Status) → IsBadState p bytes t → NamesBad (new_copies p) states.MOST_FETCHED (IsSaved p) (IsBadState p) shelf file t → IsUntouched before now turns_before turns_now
+          → PerformsBy command.Resume p file shelf shelf_now before now turns_before turns_now t
+      by_bytes bytes _ (IsBadState.faulty fault is) names untouched = (refl, names, untouched)
+
+  -- the same by a shelf before a fetch that went well
+  pub performs_from : (shelf mid : ShelfTold) → IsLater shelf mid → (c : Command) (s : Status) → Performs c p mid file before now turns_before turns_now s → Performs c p shelf file before now turns_before turns_now s
+  performs_from shelf mid later command.Check s run = run
+  performs_from shelf mid later command.Upgrade s run = run
+  performs_from shelf mid later command.Audit s run = run
+  performs_from shelf mid later command.Travel s run = run
+  performs_from shelf mid later (command.Trace work) s run = run
+  performs_from shelf mid later (command.Generate start inputs) s run = run
+  performs_from shelf mid later command.Resume s run =
+      stands_from (new_copies p) states.MOST_FETCHED (IsSaved p) (IsBadState p) mid shelf later.files file (λ pool. Exchanged (Gives p.order) (resume_duty p (stand_of pool)) before now turns_before turns_now s) run
+  performs_from shelf mid later command.Release s run =
+      stands_from [] rules_file.MOST_FETCHED (AreRulesOf p.order) (AreBadRules p.order) mid shelf later.files file (λ rules. Exchanged (Gives p.order) (release_duty p rules) before now turns_before turns_now s) run
+
+  -- and under the policy that was found
   module _ (name : List ℕ) (shelf mid shelf_now : ShelfTold) (later : IsLater shelf mid) (under : (holds : Assignment → Type 0) → holds p → Under shelf name holds) where
-    by_rules : (s : Status) → Performs command.Release p mid file before now turns_before turns_now s → Under shelf name (λ q. Performs command.Release q shelf file before now turns_before turns_now s)
-    by_rules s by = under (λ q. Performs command.Release q shelf file before now turns_before turns_now s)
-        (stands_from [] rules_file.MOST_FETCHED (AreRulesOf p.order) (AreBadRules p.order) mid shelf later.files file (λ rules. Exchanged (Gives p.order) (release_duty p rules) before now turns_before turns_now s) by)
+    performs_under : (c : Command) (s : Status) → Performs c p mid file before now turns_before turns_now s → Under shelf name (λ q. Performs c q shelf file before now turns_before turns_now s)
+    performs_under c s run = under (λ q. Performs c q shelf file before now turns_before turns_now s) (performs_from shelf mid later c s run)
 
-    pub obeys_released : (s : Status) → Releases p file mid shelf_now before now turns_before turns_now s → Obeys command.Release name file shelf shelf_now before now turns_before turns_now s
-    obeys_released Done by = by_rules Done by
-    obeys_released Leaks by = by_rules Leaks by
-    obeys_released (Trace number fault) by = by_rules (Trace number fault) by
-    obeys_released ReadFault by = by_rules ReadFault by
-    obeys_released WriteFault by = by_rules WriteFault by
-    obeys_released NoMemory (inl untouched) = inl untouched
-    obeys_released NoMemory (inr by) = inr (by_rules NoMemory by)
-    obeys_released Usage none = none
-    obeys_released (Policy fault) none = absurd none
-    obeys_released ShelfFault released = (inr (released.0.0, failed_from shelf mid shelf_now later file released.0.1), released.1)
-    obeys_released (Release fault) released =
-        (refl, under (λ q. NamesRulesFault q.order shelf file fault) (bad_from [] rules_file.MOST_FETCHED (AreRulesOf p.order) (AreBadRules p.order) mid shelf later.files file (Release fault) released.0), released.1)
-
--- a shelf before a fetch that went well
-pub accepts_from : (order : Order) (file : List ℕ) (shelf mid shelf_now : ShelfTold) (s : Status) → IsLater shelf mid → Accepts order file mid shelf_now s → Accepts order file shelf shelf_now s
-accepts_from order file shelf mid shelf_now s later accepts = record {
-  bad = λ fault known names fetched. accepts.bad fault (known_from shelf mid (sym later.files) file known)
-      (bad_from [] rules_file.MOST_FETCHED (AreRulesOf order) (AreBadRules order) shelf mid (sym later.files) file (Release fault) names) (λ failed. fetched (failed_from shelf mid shelf_now later file failed));
-  good = λ rules known names fetched. accepts.good rules (known_from shelf mid (sym later.files) file known)
-      (names_from [] rules_file.MOST_FETCHED (AreRulesOf order) (AreBadRules order) shelf mid (sym later.files) file rules names) (λ failed. fetched (failed_from shelf mid shelf_now later file failed));
-}
+    pub obeys_by : (c : Command) (s : Status) → PerformsBy c p file mid shelf_now before now turns_before turns_now s → Obeys c name file shelf shelf_now before now turns_before turns_now s
+    obeys_by c Done run = performs_under c Done run
+    obeys_by c Leaks run = performs_under c Leaks run
+    obeys_by c (Trace number fault) run = performs_under c (Trace number fault) run
+    obeys_by c ReadFault run = performs_under c ReadFault run
+    obeys_by c WriteFault run = performs_under c WriteFault run
+    obeys_by c NoMemory (inl untouched) = inl untouched
+    obeys_by c NoMemory (inr run) = inr (performs_under c NoMemory run)
+    obeys_by c Usage none = none
+    obeys_by c (Policy fault) none = absurd none
+    obeys_by c ShelfFault ended = (inr (ended.0.0, failed_from shelf mid shelf_now later file ended.0.1), ended.1)
+    obeys_by c (Saved fault) ended =
+        (ended.0, under (λ q. NamesStateFault q shelf file fault) (bad_from (new_copies p) states.MOST_FETCHED (IsSaved p) (IsBadState p) mid shelf later.files file (Saved fault) ended.1), ended.2)
+    obeys_by c (Release fault) ended =
+        (ended.0, under (λ q. NamesRulesFault q.order shelf file fault) (bad_from [] rules_file.MOST_FETCHED (AreRulesOf p.order) (AreBadRules p.order) mid shelf later.files file (Release fault) ended.1), ended.2)
 
 -- ---- fetches that failed
 
@@ -262,4 +284,6 @@ said_none ReadFault none = cc
 said_none WriteFault none = cc
 said_none ShelfFault none = cc
 said_none NoMemory none = cc
+said_none (Saved saved.OtherPolicy) none = cc
+said_none (Saved saved.NotSaved) none = cc
 said_none (Release fault) none = cc

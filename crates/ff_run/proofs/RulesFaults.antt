@@ -1,5 +1,5 @@
 -- What the bytes of a rules file give, and how a run ends where they give nothing.
-use Rattle.std.proofs.Common.{◌≡◌, ◌⊎◌, inl, inr, ℕ, Result, Ok, Err, List, [], All}
+use Rattle.std.proofs.Common.{◌≡◌, inl, inr, ℕ, Result, Ok, Err, List, All}
 use Rattle.std.proofs.lemmas.List.Elements.{All-nil}
 use Rattle.ff_contract.specs.Answering.{Answers}
 use Rattle.ff_lattice.specs.Order.{Order}

@@ -1,8 +1,9 @@
 pub mod Words
+pub mod Status
 pub mod Names
 pub mod Policies
 pub mod Rules
-pub mod Status
+pub mod States
 pub mod Checked
 pub mod Upgraded
 pub mod Generated

@@ -6,6 +6,7 @@ use Rattle.ff_io.specs.Shelf.{Files, ShelfTold}
 use Rattle.ff_io.specs.Fetched.{IsFetched}
 use Rattle.ff_status.specs.declared.status.Status.{Status}
 use Rattle.ff_status.specs.declared.status.Status.TheVariants.{ShelfFault, NoMemory}
+use Rattle.ff_run.specs.Status.{IsEarly}
 use Rattle.ff_run.specs.Words.{dash}
 
 -- a fetch of the file of this name failed
@@ -53,6 +54,12 @@ module _ {X : Type 0} (built_in : X) (most : ℕ) (Gives : List ℕ → X → Ty
     pub named : Names shelf name found
     pub only : (other : X) → IsKnown shelf name → Names shelf name other → other ≡ found
     pub held : holds found
+
+  -- What is wrong with the file of this name is what the run ends with, and by what else the name
+  -- stands for it goes on, where this is known and no fetch of it failed.
+  pub record Accepts (before now : ShelfTold) (name : List ℕ) (status : Status) : Type 0 where
+    pub bad : (ends : Status) → IsKnown before name → NamesBad before name ends → ¬ FetchFailed name before now → (status ≡ ends) ⊎ (status ≡ NoMemory)
+    pub good : (x : X) → IsKnown before name → Names before name x → ¬ FetchFailed name before now → ¬ IsEarly status
 
 -- no fetch of any file failed, or that one did is the answer
 abbrev pub IsFetchedOrFails : {X : Type 0} → ShelfTold → ShelfTold → Result X Status → Type 0

@@ -7,7 +7,7 @@ use Rattle.ff_rules.specs.declared.rule.Rule.{Rule}
 use Rattle.ff_rules.specs.declared.fault.ReleaseFault.{ReleaseFault}
 use Rattle.ff_status.specs.declared.status.Status.{Status}
 use Rattle.ff_status.specs.declared.status.Status.TheVariants.{Release}
-use Rattle.ff_run.specs.Names.{Names, NamesBad, Refuses, StandsFor}
+use Rattle.ff_run.specs.Names.{Accepts, Names, NamesBad, Refuses, StandsFor}
 use Rattle.ff_run.specs.declared.rules.TheConstants.{MOST_FETCHED}
 
 -- the bytes give these rules
@@ -29,6 +29,10 @@ NamesRulesFault order shelf name fault = NamesBad [] MOST_FETCHED (AreRulesOf or
 -- why there are no rules of this name
 abbrev pub RefusesRules : Order → ShelfTold → ShelfTold → List ℕ → Status → Type 0
 RefusesRules order = Refuses [] MOST_FETCHED (AreRulesOf order) (AreBadRules order)
+
+-- what is wrong with the rules of this name is what a run ends with, and by good ones it goes on
+abbrev pub AcceptsRules : Order → ShelfTold → ShelfTold → List ℕ → Status → Type 0
+AcceptsRules order = Accepts [] MOST_FETCHED (AreRulesOf order) (AreBadRules order)
 
 -- by the rules of this name this holds; where it is known what the name stands for, by no others
 abbrev pub ByRules : Order → ShelfTold → List ℕ → (List Rule → Type 0) → Type 0

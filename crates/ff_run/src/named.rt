@@ -1,12 +1,15 @@
 //! A name, and what it stands for.
 ghost use Rattle.std.specs.Prelude.{◌≡◌, ◌≢◌, ◌<◌, ◌⊎◌, ℕ, List, IfOk, IfErr, Ok, Err};
+ghost use Rattle.ff_run.specs.Status.{IsUncopied};
 ghost use Rattle.ff_run.specs.Names.{Names, NamesBad, Refuses, IsFetchedOrFails, IsKnown, IsLater, IsOutside};
 ghost use Rattle.ff_run.specs.Words.{dash};
 ghost use Rattle.ff_status.specs.declared.status.Status.{Status};
 
 use ff_io::{FetchFail, Shelf, fetch_front};
 use ff_status::Status;
+use ff_steps::Steps;
 use std::alloc::{AllocError, Global};
+use std::sync::ledger::Ledger;
 
 /// What a name may stand for: something built in at `-`, and else what a file's bytes give.
 pub(crate) trait Named {
@@ -25,6 +28,9 @@ pub(crate) trait Named {
     // The bytes give nothing, and the run ends so.
     ghost is_bad: { Self → List ℕ → Status → Type 0 };
 
+    // How the counter of copied cells goes on while a file is read.
+    ghost copied: { Self → ℕ → ℕ → Type 0 };
+
     /// How many bytes of a file count, from 1 on.
     fn most(&self) -> usize
         ensures value { result ≡ most self.now }
@@ -34,25 +40,33 @@ pub(crate) trait Named {
     fn at_dash(&self, alloc: Global) -> Result<Self::Found, AllocError>
         ensures { IfOk result (λ found. found ≡ at_dash self.now) };
 
-    /// What the bytes of a file give.
-    fn read(&self, alloc: Global, bytes: &[u8]) -> Result<Self::Found, Status>
+    /// What the bytes of a file give. `copies` counts the cells that are copied for it.
+    fn read<C: Ledger>(
+        &self,
+        alloc: Global,
+        bytes: &[u8],
+        copies: &mut Steps<C>,
+    ) -> Result<Self::Found, Status>
         ensures found { IfOk result (gives self.now bytes.now) }
         ensures bad { IfErr result (λ status. (status ≡ Status.NoMemory) ⊎ is_bad self.now bytes.now status) }
         ensures only { (found : Self.Found) → gives self.now bytes.now found → (result ≡ Ok found) ⊎ (result ≡ Err Status.NoMemory) }
-        ensures exact { (status : Status) → is_bad self.now bytes.now status → (result ≡ Err status) ⊎ (result ≡ Err Status.NoMemory) };
+        ensures exact { (status : Status) → is_bad self.now bytes.now status → (result ≡ Err status) ⊎ (result ≡ Err Status.NoMemory) }
+        ensures copied { copied self.now copies.old copies.new }
+        ensures uncopied { IfErr result (λ status. IsUncopied status → copies.new ≡ copies.old) };
 }
 
-/// What this name stands for. The shelf isn't called for `-`.
+/// What this name stands for. The shelf isn't called for `-`, and no cell is copied for it.
 ///
 /// # Errors
 ///
 /// `ShelfFault` where a fetch failed, `NoMemory`, and what the bytes of the file end a run with.
 #[tactic(auto, using(crate::proofs::Finding::no_memory, crate::proofs::Finding::named_at_dash, crate::proofs::Finding::accepts_at_dash, crate::proofs::Finding::none_at_dash))]
-pub(crate) fn find<N: Named, S: Shelf>(
+pub(crate) fn find<N: Named, S: Shelf, C: Ledger>(
     alloc: Global,
     what: &N,
     shelf: &mut S,
     name: &str,
+    copies: &mut Steps<C>,
 ) -> Result<N::Found, Status>
     ensures named { IfOk result (Names (N.at_dash what.now) (N.most what.now) (N.gives what.now) (N.is_bad what.now) (S.told shelf.old) name.now) }
     ensures refused { IfErr result (Refuses (N.at_dash what.now) (N.most what.now) (N.gives what.now) (N.is_bad what.now) (S.told shelf.old) (S.told shelf.new) name.now) }
@@ -60,6 +74,8 @@ pub(crate) fn find<N: Named, S: Shelf>(
     ensures exact { (status : Status) → IsKnown (S.told shelf.old) name.now → NamesBad (N.at_dash what.now) (N.most what.now) (N.gives what.now) (N.is_bad what.now) (S.told shelf.old) name.now status → (result ≡ Err status) ⊎ IsOutside result }
     ensures fetched { IsFetchedOrFails (S.told shelf.old) (S.told shelf.new) result }
     ensures later { IsLater (S.told shelf.old) (S.told shelf.new) }
+    ensures copied { (copies.new ≡ copies.old) ⊎ N.copied what.now copies.old copies.new }
+    ensures uncopied { IfErr result (λ status. IsUncopied status → copies.new ≡ copies.old) }
     ensures untouched { name.now ≡ dash → shelf.new ≡ shelf.old }
 {
     if name == "-" {
@@ -68,17 +84,18 @@ pub(crate) fn find<N: Named, S: Shelf>(
             Err(_) => Err(Status::NoMemory),
         }
     } else {
-        fetch(alloc, what, shelf, name)
+        fetch(alloc, what, shelf, name, copies)
     }
 }
 
 /// What the bytes of the file of this name give.
 #[tactic(auto, using(crate::proofs::Finding::no_memory))]
-fn fetch<N: Named, S: Shelf>(
+fn fetch<N: Named, S: Shelf, C: Ledger>(
     alloc: Global,
     what: &N,
     shelf: &mut S,
     name: &str,
+    copies: &mut Steps<C>,
 ) -> Result<N::Found, Status>
     requires { name.now ≢ dash }
     ensures named { IfOk result (Names (N.at_dash what.now) (N.most what.now) (N.gives what.now) (N.is_bad what.now) (S.told shelf.old) name.now) }
@@ -87,9 +104,11 @@ fn fetch<N: Named, S: Shelf>(
     ensures exact { (status : Status) → IsKnown (S.told shelf.old) name.now → NamesBad (N.at_dash what.now) (N.most what.now) (N.gives what.now) (N.is_bad what.now) (S.told shelf.old) name.now status → (result ≡ Err status) ⊎ IsOutside result }
     ensures fetched { IsFetchedOrFails (S.told shelf.old) (S.told shelf.new) result }
     ensures later { IsLater (S.told shelf.old) (S.told shelf.new) }
+    ensures copied { (copies.new ≡ copies.old) ⊎ N.copied what.now copies.old copies.new }
+    ensures uncopied { IfErr result (λ status. IsUncopied status → copies.new ≡ copies.old) }
 {
     match fetch_front(alloc, shelf, name, what.most()) {
-        Ok(bytes) => what.read(alloc, bytes.as_slice()),
+        Ok(bytes) => what.read(alloc, bytes.as_slice(), copies),
         Err(FetchFail::Fetch) => Err(Status::ShelfFault),
         Err(FetchFail::NoMemory) => Err(Status::NoMemory),
     }

@@ -2,9 +2,10 @@
 ghost use Rattle.std.specs.Prelude.{◌≡◌, ◌<◌, ◌≤◌};
 ghost use Rattle.ff_policy.specs.Assignment.{IsAssignment};
 ghost use Rattle.ff_run.specs.Names.{FetchedOrFailed, IsLater};
-ghost use Rattle.ff_run.specs.Run.{Accepts, Releases};
-ghost use Rattle.ff_run.specs.Status.{IsEarly};
+ghost use Rattle.ff_run.specs.Run.{Does};
+ghost use Rattle.ff_run.specs.Status.{IsEarly, IsUncopied};
 ghost use Rattle.ff_run.specs.Words.{dash};
+ghost use Rattle.ff_run.specs.declared.words.Command.{Command};
 
 use crate::named::find;
 use crate::rules::RulesFile;
@@ -29,18 +30,17 @@ pub(crate) fn release_by<S: Shelf, P: Port, C: Ledger, L: Ledger>(
     turns: &mut Steps<L>,
 ) -> Status
     requires { 0 < slice }
-    ensures releases { Releases policy.now file.now (S.told shelf.old) (S.told shelf.new) (P.told port.old) (P.told port.new) turns.old turns.new result }
-    ensures accepts { Accepts policy.now.order file.now (S.told shelf.old) (S.told shelf.new) result }
+    ensures does { Does Command.Release policy.now file.now (S.told shelf.old) (S.told shelf.new) (P.told port.old) (P.told port.new) turns.old turns.new result }
     ensures fetched { FetchedOrFailed (S.told shelf.old) (S.told shelf.new) result }
     ensures later { IsLater (S.told shelf.old) (S.told shelf.new) }
     ensures valid { IsAssignment policy.now }
     ensures untouched { IsEarly result → (port.new ≡ port.old) × (turns.new ≡ turns.old) }
     ensures no_fetch { file.now ≡ dash → shelf.new ≡ shelf.old }
-    ensures no_copies { IsEarly result → copies.new ≡ copies.old }
+    ensures no_copies { IsUncopied result → copies.new ≡ copies.old }
     ensures copies { copies.old ≤ copies.new }
 {
     let _known = policy.lattice();
-    match find(alloc, &RulesFile { policy }, shelf, file) {
+    match find(alloc, &RulesFile { policy }, shelf, file, copies) {
         Ok(rules) => release(alloc, policy, rules, slice, port, copies, turns),
         Err(status) => status,
     }

@@ -1,12 +1,14 @@
 //! The release rules of a command, by their name.
-ghost use Rattle.std.specs.Prelude.{[]};
+ghost use Rattle.std.specs.Prelude.{◌≡◌, []};
 ghost use Rattle.ff_run.specs.Rules.{AreBadRules, AreRulesOf};
 
 use crate::named::Named;
 use ff_policy::Policy;
 use ff_release::{MOST_RULES_BYTES, ReleaseFail, Rules};
 use ff_status::Status;
+use ff_steps::Steps;
 use std::alloc::{AllocError, Global};
+use std::sync::ledger::Ledger;
 
 /// How many bytes of a rules file count: one more than rules may have.
 const MOST_FETCHED: usize = MOST_RULES_BYTES + 1;
@@ -19,7 +21,7 @@ pub(crate) struct RulesFile<'a> {
 }
 
 impl Named for RulesFile<'_> {
-    ghost use Rattle.std.specs.Prelude.{[]};
+    ghost use Rattle.std.specs.Prelude.{◌≡◌, []};
     ghost use Rattle.ff_run.specs.Rules.{AreBadRules, AreRulesOf};
     ghost use Rattle.ff_run.specs.declared.rules.TheConstants.{MOST_FETCHED};
 
@@ -33,6 +35,8 @@ impl Named for RulesFile<'_> {
 
     ghost is_bad = { λ file. AreBadRules file.policy.now.order };
 
+    ghost copied = { λ _ before now. now ≡ before };
+
     fn most(&self) -> usize {
         MOST_FETCHED
     }
@@ -43,7 +47,12 @@ impl Named for RulesFile<'_> {
 
     /// The rules of the bytes. Else the run ends with `Release` and their fault, or for want of
     /// memory.
-    fn read(&self, alloc: Global, bytes: &[u8]) -> Result<Rules, Status> {
+    fn read<C: Ledger>(
+        &self,
+        alloc: Global,
+        bytes: &[u8],
+        _copies: &mut Steps<C>,
+    ) -> Result<Rules, Status> {
         let lattice = self.policy.lattice();
         match Rules::read(alloc, bytes, lattice) {
             Ok(rules) => Ok(rules),

@@ -6,9 +6,9 @@ ghost use Rattle.ff_session.specs.Levels.{levels, machine};
 ghost use Rattle.ff_trace.specs.Lines.{IsInputOf};
 ghost use Rattle.ff_session.specs.Works.{IsAnswered};
 ghost use Rattle.ff_status.specs.Words.{error_line};
-ghost use Rattle.ff_run.specs.Words.{Asks, AsksBy, dash, multi};
+ghost use Rattle.ff_run.specs.Words.{Asks, AsksBy, NeedsFile, dash, multi};
 ghost use Rattle.ff_run.specs.Names.{FetchedOrFailed};
-ghost use Rattle.ff_run.specs.Status.{IsEarly};
+ghost use Rattle.ff_run.specs.Status.{IsEarly, IsUncopied};
 ghost use Rattle.ff_run.specs.Run.{Suits, Performs, ComesTo, Does, ClaimsUnder, ReleasedUnder, Reports, RunsNone};
 ghost use Rattle.ff_run.specs.declared.words.Command.{Command};
 
@@ -17,6 +17,7 @@ use crate::generate::generate;
 use crate::named::find;
 use crate::policies::PolicyFile;
 use crate::released::release_by;
+use crate::resumed::resume_by;
 use crate::upgrade::upgrade;
 use crate::words::{Command, asked_by};
 use ff_audit::audit;
@@ -43,9 +44,12 @@ use std::sync::ledger::Ledger;
 /// `check POLICY` reads no trace, and writes for each level which levels it sees; `upgrade POLICY`
 /// reads none either, and writes the policy as version 2. `gen START N` multi-executes N inputs, at most
 /// 100,000, that are drawn from START, below 2^64, under the built-in policy, and writes how many
-/// lines and bytes each level has. `release POLICY RULES` does as `multi` does, but lets a stated
-/// number of inputs pass to lower levels. POLICY is the name of a file on the shelf, of which the
-/// first 65,537 bytes count, or `-` for the built-in policy; RULES likewise, and `-` stands for none.
+/// lines and bytes each level has. `resume POLICY FROM` does as `multi` does, from the saved state that
+/// FROM holds on, and writes after a good trace the saved state of where the copies then stand.
+/// `release POLICY RULES` does as `multi` does, but lets a stated number of inputs pass to lower levels.
+/// POLICY is the name of a file on the shelf, of which the first 65,537 bytes count, or `-` for the
+/// built-in policy; RULES likewise, and `-` stands for none; of FROM the first 4,294,967,296 bytes
+/// count, and `-` stands for new copies.
 /// Numbers are in canonical decimal. Every other list of words is `Usage`.
 ///
 /// `words` doesn't hold the program's name. Each status but `Done` and `Leaks` puts its one line on the error
@@ -79,11 +83,11 @@ pub fn run<S: Shelf, P: Port, E: Sink, C: Ledger, L: Ledger>(
     ensures released { (name file : List ℕ) → AsksBy words.now Command.Release name file → IsAnswered result
         → ReleasedUnder (S.told shelf.old) name file (P.told port.old) (P.told port.new) }
 
-    // What isn't touched. Where no browser runs, no cell is copied.
+    // What isn't touched. Where no browser runs or is made of a saved text, no cell is copied.
     ensures untouched { IsEarly result → (port.new ≡ port.old) × (turns.new ≡ turns.old) }
     ensures no_shelf { result ≡ Status.Usage → shelf.new ≡ shelf.old }
     ensures no_fetch { (command : Command) → Asks words.now command dash → shelf.new ≡ shelf.old }
-    ensures no_copies { IsEarly result → copies.new ≡ copies.old }
+    ensures no_copies { IsUncopied result → copies.new ≡ copies.old }
     ensures uncopied { (command : Command) (name : List ℕ) → Asks words.now command name → RunsNone command → copies.new ≡ copies.old }
     ensures copies { copies.old ≤ copies.new }
 
@@ -111,7 +115,7 @@ fn answer<S: Shelf, P: Port, C: Ledger, L: Ledger>(
     ensures untouched { IsEarly result → (port.new ≡ port.old) × (turns.new ≡ turns.old) }
     ensures no_shelf { result ≡ Status.Usage → shelf.new ≡ shelf.old }
     ensures no_fetch { (command : Command) → Asks words.now command dash → shelf.new ≡ shelf.old }
-    ensures no_copies { IsEarly result → copies.new ≡ copies.old }
+    ensures no_copies { IsUncopied result → copies.new ≡ copies.old }
     ensures uncopied { (command : Command) (name : List ℕ) → Asks words.now command name → RunsNone command → copies.new ≡ copies.old }
     ensures copies { copies.old ≤ copies.new }
 {
@@ -148,11 +152,11 @@ fn obey<S: Shelf, P: Port, C: Ledger, L: Ledger>(
     ensures command { result ≢ Status.Usage }
     ensures untouched { IsEarly result → (port.new ≡ port.old) × (turns.new ≡ turns.old) }
     ensures no_fetch { name.now ≡ dash → file.now ≡ dash → shelf.new ≡ shelf.old }
-    ensures no_copies { IsEarly result → copies.new ≡ copies.old }
+    ensures no_copies { IsUncopied result → copies.new ≡ copies.old }
     ensures uncopied { RunsNone command → copies.new ≡ copies.old }
     ensures copies { copies.old ≤ copies.new }
 {
-    match find(alloc, &PolicyFile, shelf, name) {
+    match find(alloc, &PolicyFile, shelf, name, copies) {
         Ok(policy) => obey_under(
             alloc, command, &policy, file, slice, shelf, port, copies, turns,
         ),
@@ -178,11 +182,12 @@ fn obey_under<S: Shelf, P: Port, C: Ledger, L: Ledger>(
     ensures valid { IsAssignment policy.now }
     ensures untouched { IsEarly result → (port.new ≡ port.old) × (turns.new ≡ turns.old) }
     ensures no_fetch { file.now ≡ dash → shelf.new ≡ shelf.old }
-    ensures no_copies { IsEarly result → copies.new ≡ copies.old }
+    ensures no_copies { IsUncopied result → copies.new ≡ copies.old }
     ensures uncopied { RunsNone command → copies.new ≡ copies.old }
     ensures copies { copies.old ≤ copies.new }
 {
     match command {
+        Command::Resume => resume_by(alloc, policy, file, slice, shelf, port, copies, turns),
         Command::Release => release_by(alloc, policy, file, slice, shelf, port, copies, turns),
         _ => perform(alloc, command, policy, slice, port, copies, turns),
     }
@@ -199,7 +204,7 @@ fn perform<P: Port, C: Ledger, L: Ledger>(
     turns: &mut Steps<L>,
 ) -> Status
     requires slice { 0 < slice }
-    requires command { command ≢ Command.Release }
+    requires command { ¬ NeedsFile command }
     ensures performs { (shelf : ShelfTold) (file : List ℕ) → Performs command policy.now shelf file (P.told port.old) (P.told port.new) turns.old turns.new result }
     ensures valid { IsAssignment policy.now }
     ensures uncopied { RunsNone command → copies.new ≡ copies.old }
@@ -215,6 +220,7 @@ fn perform<P: Port, C: Ledger, L: Ledger>(
         Command::Generate(start, inputs) => {
             generate(alloc, policy, slice, start, inputs, port, copies, turns)
         }
+        Command::Resume => unreachable!(),
         Command::Release => unreachable!(),
     }
 }

@@ -191,6 +191,7 @@ module _ {X : Type 0} {Given : List ℕ → Result (Option X) TraceFault → Typ
   finished status.WriteFault is held = absurd is
   finished status.ShelfFault is held = absurd is
   finished status.NoMemory is held = absurd is
+  finished (status.Saved fault) is held = absurd is
   finished (status.Release fault) is held = absurd is
 
   written_closed : (e : End TraceFault) → IsEnded e → IsStreamed Given owed.entry turns IsAt e (got_of streams.pieces) (put_of streams.pieces) (has_end streams.pieces) turns_before turns_now

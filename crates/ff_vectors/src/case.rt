@@ -20,6 +20,7 @@ pub struct Case {
     pub words: Vec<String>,
     file: Vec<u8>,
     rules: Vec<u8>,
+    state: Vec<u8>,
     pub trace: Vec<u8>,
     pub calm: Vec<u8>,
     grain: usize,
@@ -39,6 +40,7 @@ impl Case {
             words: Vec::new(alloc),
             file: Vec::new(alloc),
             rules: Vec::new(alloc),
+            state: Vec::new(alloc),
             trace: Vec::new(alloc),
             calm: Vec::new(alloc),
             grain: GRAIN,
@@ -59,6 +61,7 @@ impl Case {
             "rule" => add_line(&mut self.rules, text)?,
             "rules" => self.add_rules(text)?,
             "fill-rules" => fill(&mut self.rules, text.parse::<u32>()? as usize)?,
+            "state" => add_line(&mut self.state, text)?,
             "in" => self.add_line(text)?,
             "only" => add_line(&mut self.trace, text)?,
             "times" => self.add_lines(text)?,
@@ -113,7 +116,26 @@ impl Case {
         };
     }
 
-    /// The shelf, with the files `p.json` and `r.rules`.
+    /// Has the run go on from a saved text: the third word names it.
+    pub fn go_on_from(&mut self, alloc: Global, saved: &[u8]) -> Result<(), AllocError> {
+        self.state = Vec::from_slice(alloc, saved)?;
+        self.name_state(alloc, "s.saved")
+    }
+
+    /// Has the run begin with new copies again.
+    pub fn begin_anew(&mut self, alloc: Global) -> Result<(), AllocError> {
+        self.name_state(alloc, "-")
+    }
+
+    fn name_state(&mut self, alloc: Global, name: &str) -> Result<(), AllocError> {
+        let name = String::from_str(alloc, name)?;
+        if let Some(word) = self.words.get_mut(2) {
+            *word = name;
+        }
+        Ok(())
+    }
+
+    /// The shelf, with the files `p.json`, `r.rules` and `s.saved`.
     pub fn shelf(&self, alloc: Global) -> Result<MemShelf, AllocError> {
         let mut files = BTreeMap::new(alloc);
         files.insert(
@@ -123,6 +145,10 @@ impl Case {
         files.insert(
             String::from_str(alloc, "r.rules")?,
             Vec::from_slice(alloc, self.rules.as_slice())?,
+        )?;
+        files.insert(
+            String::from_str(alloc, "s.saved")?,
+            Vec::from_slice(alloc, self.state.as_slice())?,
         )?;
         let bad_fetches = Vec::from_slice(alloc, self.bad_fetches.as_slice())?;
         Ok(MemShelf::new(files, bad_fetches))

@@ -8,9 +8,10 @@
 //! | `words W W ..` | the words, with one blank between two; `EMPTY` is the empty word |
 //! | `file BYTES` | what the file `p.json` holds |
 //! | `fill N` | that file is filled with blanks at its end up to N bytes |
-//! | `rule LINE` | the next line of the file `r.rules`; there is no further file |
+//! | `rule LINE` | the next line of the file `r.rules` |
 //! | `rules N LINE` | that line of it, N times |
 //! | `fill-rules N` | that file is filled with blanks at its end up to N bytes |
+//! | `state LINE` | the next line of the file `s.saved`; there is no further file |
 //! | `in LINE` | the next line of the trace |
 //! | `only LINE` | the same, but of the attack: the trace without the attack lacks it |
 //! | `times N LINE` | that line of the trace, N times |
@@ -27,6 +28,7 @@
 //! | `each fetch` | the same for its fetches of files |
 //! | `each report` | whether all else stays where each write of its report fails in turn |
 //! | `each cut` | how it ends where the trace is cut after each of its bytes |
+//! | `each stop` | whether a resumed run is the unbroken one where it stops after each of its lines, is saved and goes on |
 //!
 //! What is said of a case holds for all that is shown after it, up to the next heading. Blank lines
 //! are passed over.
@@ -34,6 +36,7 @@
 
 mod case;
 mod ended;
+mod stops;
 mod sweeps;
 
 use anyhow::{Context, Result};
@@ -66,6 +69,7 @@ fn take(rt: &HostRuntime, case: &mut Case, line: &str) -> Result<()> {
         "each fetch" => sweeps::show_each(rt, case, Part::Fetch, "fetches", "nothing got or put"),
         "each report" => sweeps::show_each_report(rt, case),
         "each cut" => sweeps::show_each_cut(rt, case),
+        "each stop" => stops::show_each_stop(rt, case),
         _ => {
             let (sort, text) = line.split_once(' ').context("a sort and a text")?;
             say(rt, case, sort, text)

@@ -6,6 +6,7 @@ use ff_io::MemSink;
 use ff_lattice::LatticeFault;
 use ff_name::Text;
 use ff_policy::PolicyFault;
+use ff_saved::SavedFault;
 use ff_status::{Status, TraceFault};
 use ff_text::TextFault;
 use ff_trace::LineFault;
@@ -32,6 +33,8 @@ fn show_statuses(rt: &HostRuntime) -> io::Result<()> {
         Status::WriteFault,
         Status::ShelfFault,
         Status::NoMemory,
+        Status::Saved(SavedFault::OtherPolicy),
+        Status::Saved(SavedFault::NotSaved),
     ] {
         show(rt, &status)?;
     }

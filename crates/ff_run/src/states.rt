@@ -1,0 +1,65 @@
+//! The copies that a resumed run begins with, by the name of their saved text.
+ghost use Rattle.std.specs.Prelude.{◌≤◌};
+ghost use Rattle.ff_run.specs.States.{IsBadState, new_copies};
+ghost use Rattle.ff_save.specs.Whole.{IsSaved};
+
+use crate::named::Named;
+use ff_policy::Policy;
+use ff_pool::Pool;
+use ff_save::{MOST_SAVED_BYTES, SavedFail, read_saved};
+use ff_status::Status;
+use ff_steps::Steps;
+use std::alloc::{AllocError, Global};
+use std::sync::ledger::Ledger;
+
+/// How many bytes of a saved state's file count: one more than a saved text may have.
+const MOST_FETCHED: usize = MOST_SAVED_BYTES as usize + 1;
+
+/// The copies of a name, for the levels of a policy: new ones where it is `-`, and else those whose
+/// saved text the file is.
+#[derive(Clone, Copy)]
+pub(crate) struct StateFile<'a> {
+    pub(crate) policy: &'a Policy,
+}
+
+impl Named for StateFile<'_> {
+    ghost use Rattle.std.specs.Prelude.{◌≤◌};
+    ghost use Rattle.ff_run.specs.States.{IsBadState, new_copies};
+    ghost use Rattle.ff_run.specs.declared.states.TheConstants.{MOST_FETCHED};
+    ghost use Rattle.ff_save.specs.Whole.{IsSaved};
+
+    type Found = Pool;
+
+    ghost at_dash = { λ file. new_copies file.policy.now };
+
+    ghost most = { λ _. MOST_FETCHED };
+
+    ghost gives = { λ file. IsSaved file.policy.now };
+
+    ghost is_bad = { λ file. IsBadState file.policy.now };
+
+    ghost copied = { λ _ before now. before ≤ now };
+
+    fn most(&self) -> usize {
+        MOST_FETCHED
+    }
+
+    fn at_dash(&self, alloc: Global) -> Result<Pool, AllocError> {
+        let lattice = self.policy.lattice();
+        Pool::new(alloc, lattice.size(), self.policy.fuel())
+    }
+
+    /// The copies of the bytes. Else the run ends with `Saved` and their fault, or for want of memory.
+    fn read<C: Ledger>(
+        &self,
+        alloc: Global,
+        bytes: &[u8],
+        copies: &mut Steps<C>,
+    ) -> Result<Pool, Status> {
+        match read_saved(alloc, self.policy, bytes, copies) {
+            Ok(pool) => Ok(pool),
+            Err(SavedFail::Fault(fault)) => Err(Status::Saved(fault)),
+            Err(SavedFail::NoMemory) => Err(Status::NoMemory),
+        }
+    }
+}
