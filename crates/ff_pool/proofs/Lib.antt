@@ -5,6 +5,7 @@ pub mod Giving
 pub mod Forking
 pub mod Offering
 pub mod Gathering
+pub mod OneBrowser
 pub mod Reading
 pub mod Waiting
 pub mod Onward

@@ -27,6 +27,6 @@ mod restoring;
 mod steps;
 
 pub use event::Event;
-pub use ff_core::NoMemory;
+pub use ff_core::{Browser, NoMemory};
 pub use pool::Pool;
 pub use restoring::Browsers;

@@ -63,7 +63,7 @@ module _ (p : Assignment) (pool : Pooled) where
     }
 
     -- its copies stand where the inputs have brought them
-    stands_there : StandAlike (size p.order) (stand_of pool) (stands_after p from is)
+    pub stands_there : StandAlike (size p.order) (stand_of pool) (stands_after p from is)
     stands_there = record {
       states = λ l inside. subst (λ f. (copy_at (reactor f) pool.world l).state ≡ (stands_after p from is).states l) (sym at.pool_of.fuel) (at.rested.states l (omega (arith, inside, at.rested.count)));
       classes = λ k l in_k in_l. at.rested.classes k l (omega (arith, in_k, at.rested.count)) (omega (arith, in_l, at.rested.count));

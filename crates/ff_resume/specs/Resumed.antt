@@ -1,5 +1,5 @@
 -- What is saved of where copies stand, and what a run owes that goes on from there.
-use Rattle.std.specs.Prelude.{ℕ, Bool, cond, not, nat_lt, ◌&&◌, List, [], ◌++◌, map, filter}
+use Rattle.std.specs.Prelude.{ℕ, Bool, cond, not, nat_lt, ◌&&◌, All, List, [], ◌++◌, map, filter}
 use Rattle.std.specs.List.{list_all}
 use Rattle.ff_lattice.specs.LevelSet.{levels_where}
 use Rattle.ff_lattice.specs.Order.{size}
@@ -7,15 +7,17 @@ use Rattle.ff_machine.specs.State.{State}
 use Rattle.ff_machine.specs.Machine.{reactor}
 use Rattle.ff_policy.specs.Assignment.{Assignment}
 use Rattle.ff_pool.specs.Pooled.{Pooled}
+use Rattle.ff_pool.specs.Restored.{IsResting}
 use Rattle.ff_reactive.specs.Copies.{below}
 use Rattle.ff_reactive.specs.Rested as rested
 use Rattle.ff_reactive.specs.Standings.{Standing, StandAlike}
 use Rattle.ff_saved.specs.Recs.{stores_recs}
 use Rattle.ff_save.specs.Saved.{SavedRecs, saved_text}
-use Rattle.ff_save.specs.Whole.{IsSaved, IsWhole}
+use Rattle.ff_save.specs.Whole.{IsSaved}
 use Rattle.ff_session.specs.Multi.{seen_by, run_text, run_turns, copies_entry, stands_after}
 use Rattle.ff_session.specs.Works.{Duty}
 use Rattle.ff_status.specs.declared.status.Status.TheVariants.{Done}
+use Rattle.ff_trace.specs.Lines.{IsInputOf}
 use Rattle.ff_value.specs.declared.input.Input.{Input}
 
 -- Of n levels those that are one copy with a level.
@@ -56,10 +58,15 @@ resume_duty p from = record {
   good = λ is. Done;
 }
 
--- A pool was read from what a run over inputs was saved as: at its end the copies stood as those of a
--- pool whose saved text can be read, and the text is that of the pool that was read.
-pub record WasSaved (p : Assignment) (from : Standing State) (is : List Input) (read : Pooled) : Type 0 where
+-- Where inputs have brought the copies of a pool at rest, those of a pool at rest stand.
+pub record EndsAtRest (p : Assignment) (from : Pooled) (is : List Input) : Type 0 where
   pub there : Pooled
-  pub whole : IsWhole p there
-  pub stands : StandAlike (size p.order) (stand_of there) (stands_after p from is)
-  pub saved : IsSaved p (standing_text p (stands_after p from is)) read
+  pub rests : IsResting (size p.order) p.fuel there
+  pub stands : StandAlike (size p.order) (stand_of there) (stands_after p (stand_of from) is)
+
+-- A pool was read from what a run was saved as: the run went from where the copies of a pool at rest
+-- stand, over inputs that lines give.
+pub record WasSaved (p : Assignment) (from : Pooled) (is : List Input) (read : Pooled) : Type 0 where
+  pub rests : IsResting (size p.order) p.fuel from
+  pub inputs : All (IsInputOf p.order) is
+  pub saved : IsSaved p (standing_text p (stands_after p (stand_of from) is)) read

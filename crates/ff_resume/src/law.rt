@@ -1,15 +1,17 @@
 //! What a run in parts tells.
-ghost use Rattle.std.specs.Prelude.{◌≡◌, ◌++◌, List};
+ghost use Rattle.std.specs.Prelude.{◌≡◌, ◌++◌, All, List};
 ghost use Rattle.ff_lattice.specs.Order.{size};
 ghost use Rattle.ff_machine.specs.State.{State};
 ghost use Rattle.ff_policy.specs.Assignment.{Assignment, IsAssignment};
 ghost use Rattle.ff_pool.specs.Pooled.{Pooled};
+ghost use Rattle.ff_pool.specs.Restored.{IsResting};
 ghost use Rattle.ff_reactive.specs.Copies.{multi};
 ghost use Rattle.ff_reactive.specs.Standings.{Standing, StandAlike, fresh};
 ghost use Rattle.ff_reactive.specs.Text.{text_out};
-ghost use Rattle.ff_resume.specs.Resumed.{WasSaved, stand_of, standing_text};
+ghost use Rattle.ff_resume.specs.Resumed.{EndsAtRest, WasSaved, stand_of, standing_text};
 ghost use Rattle.ff_session.specs.Levels.{levels, machine};
 ghost use Rattle.ff_session.specs.Multi.{run_text, run_turns, seen_by, stands_after};
+ghost use Rattle.ff_trace.specs.Lines.{IsInputOf};
 ghost use Rattle.ff_value.specs.declared.input.Input.{Input};
 
 /// The text of a run over some inputs and then others is that of the run over the first ones and then,
@@ -23,16 +25,23 @@ pub fn parts_of_a_run_are_the_whole_run()
     ensures multi { (p : Assignment) (is : List Input) → run_text p (seen_by p) (fresh (machine p)) is ≡ text_out (levels p) (multi (machine p) (levels p) is) }
 {}
 
+/// A run over inputs that lines may give, from where the copies of a pool at rest stand, ends where
+/// those of a pool at rest stand.
+pub fn a_run_ends_at_rest()
+    ensures { (p : Assignment) (from : Pooled) (is : List Input) → IsResting (size p.order) p.fuel from → All (IsInputOf p.order) is → EndsAtRest p from is }
+{}
+
 /// The pool that is read from what a run over some inputs was saved as goes on over others as the
-/// unbroken run does: its text is the rest of that run's, in as many turns as from where the first
-/// inputs have brought the copies, and in the end it is saved as the same text.
+/// unbroken run does: the text before the save and the text after it, joined, are that run's, in as
+/// many turns as from where the first inputs have brought the copies, and in the end it is saved as the
+/// same text.
 pub fn what_was_saved_goes_on()
-    ensures text { (p : Assignment) (from : Standing State) (is js : List Input) (read : Pooled) → IsAssignment p → WasSaved p from is read
-        → run_text p (seen_by p) from (is ++ js) ≡ run_text p (seen_by p) from is ++ run_text p (seen_by p) (stand_of read) js }
-    ensures turns { (p : Assignment) (from : Standing State) (is js : List Input) (read : Pooled) → IsAssignment p → WasSaved p from is read
-        → run_turns p (seen_by p) (stand_of read) js ≡ run_turns p (seen_by p) (stands_after p from is) js }
-    ensures saved { (p : Assignment) (from : Standing State) (is js : List Input) (read : Pooled) → IsAssignment p → WasSaved p from is read
-        → standing_text p (stands_after p (stand_of read) js) ≡ standing_text p (stands_after p from (is ++ js)) }
+    ensures text { (p : Assignment) (from : Pooled) (is js : List Input) (read : Pooled) → IsAssignment p → WasSaved p from is read
+        → run_text p (seen_by p) (stand_of from) (is ++ js) ≡ run_text p (seen_by p) (stand_of from) is ++ run_text p (seen_by p) (stand_of read) js }
+    ensures turns { (p : Assignment) (from : Pooled) (is js : List Input) (read : Pooled) → IsAssignment p → WasSaved p from is read
+        → run_turns p (seen_by p) (stand_of read) js ≡ run_turns p (seen_by p) (stands_after p (stand_of from) is) js }
+    ensures saved { (p : Assignment) (from : Pooled) (is js : List Input) (read : Pooled) → IsAssignment p → WasSaved p from is read
+        → standing_text p (stands_after p (stand_of read) js) ≡ standing_text p (stands_after p (stand_of from) (is ++ js)) }
 {}
 
 /// Copies that stand alike are saved as the same text.

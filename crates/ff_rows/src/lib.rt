@@ -22,4 +22,5 @@ mod readers;
 mod windows;
 mod words;
 
+pub use ff_stores::Stores;
 pub use operating::operate;

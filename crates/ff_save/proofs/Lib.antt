@@ -9,6 +9,7 @@ pub mod RowByRow
 pub mod LevelRows
 pub mod Grown
 pub mod Texts
+pub mod SameText
 pub mod Finished
 pub mod Saving
 pub mod OtherPolicy

@@ -66,10 +66,7 @@ module _ (policy : Assignment) (order_is : IsOrder policy.order) (utf8 : IsUtf8 
 
   -- a pool at rest
   module _ (p : Pooled) (rests : IsResting (size policy.order) policy.fuel p) where
-    rows : List Row
-    rows = saved_rows policy (saved_recs p)
-
-    good : All (IsRow policy.order) (saved_rows policy (saved_recs p))
+    pub good : All (IsRow policy.order) (saved_rows policy (saved_recs p))
     good =
         all_rows_are (IsRow policy.order) policy (saved_recs p) tt utf8 tt
         (All-map (λ class. IsRow policy.order (row.Class class)) (class_of p.world.leaders) (tops p.world.leaders)

@@ -44,7 +44,7 @@ first_line order one rows nested = ap content (text_is order one rows) ∙ conte
 pub later_lines : (order : Order) (one : Row) (rows : List Row) → AreWellSpelled (row_items order one) → after_line (rows_text order (one ∷ rows)) ≡ rows_text order rows
 later_lines order one rows nested = ap after_line (text_is order one rows) ∙ after_of (row_text order one) (rows_text order rows) (row_one_line order one nested)
 
-some_text : (order : Order) (one : Row) (rows : List Row) → 0 < length (rows_text order (one ∷ rows))
+pub some_text : (order : Order) (one : Row) (rows : List Row) → 0 < length (rows_text order (one ∷ rows))
 some_text order one rows = omega (arith, ap length (text_is order one rows) ∙ length-append (row_text order one) (10 ∷ rows_text order rows))
 
 -- a text that is that of rows, cut after its first line

@@ -20,12 +20,13 @@ use Rattle.ff_saved.specs.declared.row.Row.{Row}
 use Rattle.ff_saved.specs.declared.row.Row.TheVariants as row
 use Rattle.ff_save.specs.Gathered.{Gathered, saved_of}
 use Rattle.ff_save.specs.Holding.{Holds, HasText, Gathers}
-use Rattle.ff_save.specs.Saved.{classes_rows, saved_recs, saved_text}
+use Rattle.ff_save.specs.Saved.{classes_rows, saved_recs, saved_rows, saved_text}
 use Rattle.ff_save.specs.Whole.{IsSaved, IsOnly, IsOfOther}
 use Rattle.ff_save.specs.declared.gathering.Gathering.{Gathering}
 use Rattle.ff_save.specs.declared.read.TheConstants.{MOST_SAVED_BYTES}
 use Rattle.ff_save.proofs.OtherPolicy.{policies_once}
-use Rattle.ff_save.proofs.Saving.{no_pool, one_pool, none_restored, another, the_pool}
+use Rattle.ff_save.proofs.Saving.{good, no_pool, one_pool, none_restored, another, the_pool}
+use Rattle.ff_save.proofs.SameText.{all_fit}
 use Rattle.ff_save.proofs.Texts.{first_line, later_lines}
 
 -- too many bytes
@@ -82,9 +83,20 @@ printed_utf8 p bytes pool saved =
     let last = and_parts (fits_at (string (printed p)) 0) true parts.1 in
     IsUtf8-from_is_utf8 (printed p) (sym (ap (λ f. f 0) (fits_at-Str (span 0 0) (printed p))) ∙ last.0)
 
--- bytes are the saved text of at most one pool
-pub one_saved : (p : Assignment) (bytes : List ℕ) (a b : Pooled) → IsAssignment p → IsSaved p bytes a → IsSaved p bytes b → a ≡ b
-one_saved p bytes a b valid first second = one_pool p valid.draft.order_is (printed_utf8 p bytes a first) bytes a b first second
+-- a pool at rest whose text is a saved text can be read as that text can
+whole_too : (p : Assignment) (bytes : List ℕ) (pool other : Pooled) → IsAssignment p → IsSaved p bytes pool → IsResting (size p.order) p.fuel other → bytes ≡ saved_text p (saved_recs other) → IsSaved p bytes other
+whole_too p bytes pool other valid saved rests same = record {
+  whole = record {
+    rests = rests;
+    lines = all_fit p.order (saved_rows p (saved_recs other)) (saved_rows p (saved_recs pool)) (sym same ∙ saved.text) (good p valid.draft.order_is (printed_utf8 p bytes pool saved) other rests) saved.whole.lines;
+    fits = subst (λ bs. length bs ≤ MOST_SAVED_BYTES) (sym saved.text ∙ same) saved.whole.fits;
+  };
+  text = same;
+}
+
+-- and is the pool of that text: bytes are the saved text of at most one pool
+pub one_saved : (p : Assignment) (bytes : List ℕ) (a b : Pooled) → IsAssignment p → IsSaved p bytes a → IsResting (size p.order) p.fuel b → bytes ≡ saved_text p (saved_recs b) → a ≡ b
+one_saved p bytes a b valid saved rests same = one_pool p valid.draft.order_is (printed_utf8 p bytes a saved) bytes a b saved (whole_too p bytes a b valid saved rests same)
 
 -- a saved text isn't that of another policy
 pub saved_own : (p : Assignment) (bytes : List ℕ) (pool : Pooled) → IsUtf8 (printed p) → IsSaved p bytes pool → ¬ IsOfOther p bytes

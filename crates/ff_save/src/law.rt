@@ -1,7 +1,7 @@
 //! Nothing is lost in what is saved.
 ghost use Rattle.std.specs.Prelude.{◌≡◌, ◌≤◌, ℕ, All, List, Some};
 ghost use Rattle.ff_lattice.specs.declared.names.TheConstants.{MOST_LEVELS};
-ghost use Rattle.ff_lattice.specs.Order.{Order};
+ghost use Rattle.ff_lattice.specs.Order.{Order, size};
 ghost use Rattle.ff_machine.specs.Alone.{AreNodes, AreRequests};
 ghost use Rattle.ff_machine.specs.Net.{Jar, Requests};
 ghost use Rattle.ff_machine.specs.Nodes.{Node};
@@ -15,7 +15,7 @@ ghost use Rattle.ff_saved.specs.Drafting.{no_recs, added_all};
 ghost use Rattle.ff_saved.specs.Recs.{stores_recs};
 ghost use Rattle.ff_saved.specs.Rows.{IsRow, stores_rows};
 ghost use Rattle.ff_policy.specs.Assignment.{Assignment, IsAssignment};
-ghost use Rattle.ff_save.specs.Saved.{saved_recs};
+ghost use Rattle.ff_save.specs.Saved.{saved_recs, saved_text};
 ghost use Rattle.ff_save.specs.Whole.{IsSaved};
 
 /// Valid stores of a browser that have the same records are the same, each by itself and all
@@ -34,9 +34,10 @@ pub fn equal_records_are_of_equal_pools()
     ensures { (n fuel : ℕ) (p q : Pooled) → n ≤ MOST_LEVELS → IsResting n fuel p → IsResting n fuel q → saved_recs p ≡ saved_recs q → p ≡ q }
 {}
 
-/// Bytes are the saved text of at most one pool.
+/// Bytes are the saved text of at most one pool: a pool at rest that would be saved as them is the one
+/// that is read from them, whether or not anything else is known of its lines.
 pub fn a_saved_text_is_of_one_pool()
-    ensures { (policy : Assignment) (bytes : List ℕ) (a b : Pooled) → IsAssignment policy → IsSaved policy bytes a → IsSaved policy bytes b → a ≡ b }
+    ensures { (policy : Assignment) (bytes : List ℕ) (a b : Pooled) → IsAssignment policy → IsSaved policy bytes a → IsResting (size policy.order) policy.fuel b → bytes ≡ saved_text policy (saved_recs b) → a ≡ b }
 {}
 
 /// The rows of the records of valid stores are well spelled, with numbers of 32 bits, and give these

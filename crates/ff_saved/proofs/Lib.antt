@@ -11,4 +11,5 @@ pub mod Gathering
 pub mod Adding
 pub mod Shallow
 pub mod Nested
+pub mod Formed
 pub mod Kept

@@ -8,7 +8,7 @@ use Rattle.ff_lattice.specs.Order.{Order}
 use Rattle.ff_value.specs.Spelled.{IsWellSpelledOut}
 use Rattle.ff_machine.specs.Valid.{IsState}
 use Rattle.ff_machine.specs.Machine.{reactor}
-use Rattle.ff_core.proofs.Keeping as core
+use Rattle.ff_pool.proofs.OneBrowser.Keeping as core
 use Rattle.ff_policy.specs.Assignment.{Assignment, IsAssignment}
 use Rattle.ff_route.proofs.Fits.{sees_below, level_ok, name_ok, names_differ}
 use Rattle.ff_trace.proofs.Fitting.{out_one_line}

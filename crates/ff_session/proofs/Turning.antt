@@ -11,7 +11,7 @@ use Rattle.ff_machine.specs.Valid.{IsState}
 use Rattle.ff_machine.specs.Machine.{reactor, browser}
 use Rattle.ff_machine.specs.Inputs.{begin}
 use Rattle.ff_machine.specs.Turns.{turn}
-use Rattle.ff_core.proofs.Keeping.{keeps, fuelled}
+use Rattle.ff_pool.proofs.OneBrowser.Keeping.{keeps, fuelled}
 use Rattle.ff_policy.specs.Assignment.{Assignment}
 use Rattle.ff_session.specs.Levels.{machine}
 use Rattle.ff_session.specs.Handling.{IsReady, handled}

@@ -2,7 +2,7 @@ ghost use Rattle.std.specs.Prelude.{◌≡◌, ◌≤◌, ◌+◌, true, IfOk, O
 ghost use Rattle.ff_value.specs.Spelled.{IsWellSpelledInput};
 ghost use Rattle.ff_session.specs.Handling.{IsReady, handled};
 
-use ff_core::Browser;
+use ff_pool::Browser;
 use ff_steps::Steps;
 use ff_value::{Input, Out};
 use std::alloc::{AllocError, Global};

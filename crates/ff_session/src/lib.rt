@@ -15,6 +15,7 @@ mod splitting;
 mod work;
 
 pub use ending::{close, status_of};
+pub use ff_pool::{Browser, Pool};
 pub use format::Formatting;
 pub use input_reader::InputReader;
 pub use law::{

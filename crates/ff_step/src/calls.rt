@@ -11,8 +11,8 @@ ghost use Rattle.ff_step.specs.Copies.{called};
 
 use ff_frames::Control;
 use ff_operators::Fail;
+use ff_rows::Stores;
 use ff_steps::Steps;
-use ff_stores::Stores;
 use ff_term::MOST_CALLS;
 use ff_value::{ActId, Body, Code, Fault, Val};
 use std::alloc::Global;

@@ -12,8 +12,8 @@ ghost use Rattle.ff_machine.specs.Windows as w;
 
 use ff_name::Name;
 use ff_operators::Fail;
+use ff_rows::Stores;
 use ff_steps::Steps;
-use ff_stores::Stores;
 use ff_value::{ActId, Body, Code, Doc, Fault, Names, Val};
 use std::sync::ledger::Ledger;
 

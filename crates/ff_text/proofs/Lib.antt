@@ -6,6 +6,7 @@ pub mod Escapes
 pub mod ClassLemmas
 pub mod Layers
 pub mod Meeting
+pub mod Nesting
 pub mod NoEscape
 pub mod Room
 pub mod Runs
