@@ -9,5 +9,6 @@ pub mod OneBrowser
 pub mod Reading
 pub mod Waiting
 pub mod Onward
+pub mod Slicing
 pub mod Playing
 pub mod AtRest

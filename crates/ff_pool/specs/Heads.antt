@@ -1,8 +1,8 @@
 -- The parts of a pool: a browser and an inbox for each class, the outputs of each level, and which
 -- level leads which class; and the world of copies that these are.
-use Rattle.std.specs.Prelude.{◌≡◌, ◌<◌, ◌≤◌, ℕ, Option, List, [], length, slice_index_or, refl}
+use Rattle.std.specs.Prelude.{◌≡◌, ◌<◌, ◌≤◌, ℕ, Option, List, [], length, slice_index_or, slice_set, refl}
 use Rattle.std.specs.List.{cons_option}
-use Rattle.std.specs.Prelude.{◌++◌, ◌+◌, ◌==◌, ◌&&◌, nat_lt, Bool, cond}
+use Rattle.std.specs.Prelude.{◌++◌, ◌+◌, ◌==◌, ◌&&◌, nat_lt, Bool, true, cond}
 use Rattle.std.specs.Coded.{Coded, code_by, coded×, coded_list}
 use Rattle.ff_value.specs.Same.{same_input}
 use Rattle.ff_lattice.specs.LevelSet.{levels_where}
@@ -54,6 +54,18 @@ head_works h = works (reactor h.state.budget) h.state h.inbox
 abbrev pub head_turns : Head → ℕ
 head_turns h = step_turns (reactor h.state.budget) h.state
 
+-- A head is what one or more steps made of the head g, which had work before each, with the outputs
+-- and turns so far.
+pub data IsStepped (g : Head) (before : List Out) (turns : ℕ) : Head → List Out → ℕ → Type 0 where
+  once : (h : Head) (outs : List Out) (now : ℕ) → h ≡ step_head g → outs ≡ before ++ (step_of g).outputs → now ≡ turns + head_turns g → IsStepped g before turns h outs now
+  again : (mid h : Head) (between outs : List Out) (since now : ℕ) → IsStepped g before turns mid between since → head_works mid ≡ true
+      → h ≡ step_head mid → outs ≡ between ++ (step_of mid).outputs → now ≡ since + head_turns mid → IsStepped g before turns h outs now
+
+-- Where a step of g found no memory, no more turns were counted than with this one.
+pub data MayCount (g : Head) (before : List Out) (turns now : ℕ) : Type 0 where
+  at_once : now ≤ turns + head_turns g → MayCount g before turns now
+  later : (mid : Head) (between : List Out) (since : ℕ) → IsStepped g before turns mid between since → now ≤ since + head_turns mid → MayCount g before turns now
+
 -- the outputs of all levels, with these behind those of one class
 unfoldable pub given : List (List Out) → List ℕ → ℕ → List Out → List (List Out)
 given puts leaders top outs = each (λ k. cond (leader leaders k == top) (outputs_at puts k ++ outs) (outputs_at puts k)) (length leaders)
@@ -86,6 +98,14 @@ HasArrived leaders offers old new d = (l : ℕ) → l < length leaders → leade
 -- the levels of a level's class
 unfoldable pub class_of : List ℕ → ℕ → List ℕ
 class_of leaders l = levels_where (λ k. nat_lt k (length leaders) && leader leaders k == leader leaders l)
+
+-- the parts of a pool where a level's class has made one or more steps
+pub record IsClassStepped (heads : List Head) (puts : List (List Out)) (leaders : List ℕ) (l turns : ℕ) (heads' : List Head) (puts' : List (List Out)) (now : ℕ) : Type 0 where
+  pub head : Head
+  pub outs : List Out
+  pub stepped : (d : Head) → IsStepped (slice_index_or heads (leader leaders l) d) [] turns head outs now
+  pub heads_are : heads' ≡ slice_set heads (leader leaders l) head
+  pub puts_are : puts' ≡ given puts leaders (leader leaders l) outs
 
 -- the parts of a pool that isn't spent
 pub record IsKept (fuel : ℕ) (heads : List Head) (puts : List (List Out)) (leaders : List ℕ) : Type 0 where

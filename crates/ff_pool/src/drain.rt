@@ -1,9 +1,8 @@
 //! Draining: class after class makes steps until no level has work.
-ghost use Rattle.std.specs.Prelude.{◌≡◌, ◌+◌, ◌<◌, ◌≤◌, ◌↔◌, ℕ, true, false, None, IsTrue, IfSome, OnOk, OnErr};
+ghost use Rattle.std.specs.Prelude.{◌≡◌, ◌+◌, ◌<◌, ◌≤◌, ℕ, true, false, None, IfSome, OnOk, OnErr};
 ghost use Rattle.ff_reactive.specs.Worlds.{leader};
 ghost use Rattle.ff_pool.specs.Pooled as pooled;
-ghost use Rattle.ff_pool.specs.Pooled.{size, drained, left, IsPool};
-ghost use Rattle.ff_pool.specs.Draining.{IsOnward, steps_left};
+ghost use Rattle.ff_pool.specs.Pooled.{size, drained, left};
 
 use crate::pool::Pool;
 use ff_core::NoMemory;
@@ -38,38 +37,8 @@ impl Pool {
         }
         let mut next = 0;
         while let Some(l) = self.next_work(next) {
-            self.visit(l, slice, copies, turns)?;
+            self.visit(l, slice - 1, copies, turns)?;
             next = l.0 + 1;
-        }
-        Ok(())
-    }
-
-    /// Up to `slice` steps of a level's class that has work.
-    fn visit<C: Ledger, L: Ledger>(
-        &mut self,
-        l: Level,
-        slice: u32,
-        copies: &mut Steps<C>,
-        turns: &mut Steps<L>,
-    ) -> Result<(), NoMemory>
-        requires unspent { self.old.spent ≡ false }
-        requires valid { IsPool self.old }
-        requires level { l.0 < size self.old }
-        requires work { pooled.has_work self.old l.0 ≡ true }
-        ensures on { OnOk result (IsOnward self.old turns.old self.new turns.new) }
-        ensures fewer { OnOk result (steps_left self.new < steps_left self.old) }
-        ensures spent { OnErr result (self.new.spent ≡ true) }
-        ensures levels { size self.new ≡ size self.old }
-        ensures most { turns.new ≤ turns.old + left self.old }
-        ensures turns_later { turns.old ≤ turns.new }
-        ensures later { copies.old ≤ copies.new }
-    {
-        self.turn(l, copies, turns)?;
-        for _step in 1..slice {
-            if !self.has_work(l) {
-                return Ok(());
-            }
-            self.turn(l, copies, turns)?;
         }
         Ok(())
     }

@@ -1,10 +1,10 @@
 //! The copy of one class: a browser, and the inputs that wait for it.
-ghost use Rattle.std.specs.Prelude.{◌≡◌, ◌+◌, ◌≤◌, ◌++◌, ◌∷◌, [], false, All, IfOk, OnOk, Some};
+ghost use Rattle.std.specs.Prelude.{◌≡◌, ◌+◌, ◌≤◌, ◌++◌, ◌∷◌, [], false, All, IfOk, OnOk, OnErr, Some};
 ghost use Rattle.ff_value.specs.Spelled.{IsWellSpelledInput};
 ghost use Rattle.ff_core.specs.Copies.{turning};
 ghost use Rattle.ff_machine.specs.Valid.{IsState};
 ghost use Rattle.ff_core.specs.declared.browser.TheConstants.{MOST_BUDGET};
-ghost use Rattle.ff_pool.specs.Heads.{new_head, step_of, step_head, offer_head, head_works, head_turns};
+ghost use Rattle.ff_pool.specs.Heads.{IsStepped, MayCount, new_head, step_of, step_head, offer_head, head_works, head_turns};
 
 use crate::inbox::Inbox;
 use ff_core::{Browser, NoMemory};
@@ -114,5 +114,29 @@ impl Group {
             Some(input) => self.browser.accept(&input, outs, copies),
             None => Ok(()),
         }
+    }
+
+    /// One step, and up to `more` further ones as long as there is work.
+    pub(crate) fn steps<C: Ledger, L: Ledger>(
+        &mut self,
+        more: u32,
+        outs: &mut Vec<Out>,
+        copies: &mut Steps<C>,
+        turns: &mut Steps<L>,
+    ) -> Result<(), NoMemory>
+        requires { All IsWellSpelledInput self.old.inbox }
+        ensures done { OnOk result (IsStepped self.old outs.old.items turns.old self.new outs.new.items turns.new) }
+        ensures most { OnErr result (MayCount self.old outs.old.items turns.old turns.new) }
+        ensures turns_later { turns.old ≤ turns.new }
+        ensures later { copies.old ≤ copies.new }
+    {
+        self.step(outs, copies, turns)?;
+        for _step in 0..more {
+            if !self.has_work() {
+                return Ok(());
+            }
+            self.step(outs, copies, turns)?;
+        }
+        Ok(())
     }
 }

@@ -4,9 +4,10 @@ ghost use Rattle.ff_core.specs.Copies.{turning};
 ghost use Rattle.ff_core.specs.declared.browser.TheConstants.{MOST_BUDGET};
 ghost use Rattle.ff_lattice.specs.declared.names.TheConstants.{MOST_LEVELS};
 ghost use Rattle.ff_reactive.specs.Worlds.{leader};
+ghost use Rattle.ff_pool.specs.Draining.{IsOnward, steps_left};
 ghost use Rattle.ff_pool.specs.Heads.{class_of};
 ghost use Rattle.ff_pool.specs.Pooled as pooled;
-ghost use Rattle.ff_pool.specs.Pooled.{size, copy_of, new_pool, arrived, turned, taken, step_turns, AreOffersTo, IsPool};
+ghost use Rattle.ff_pool.specs.Pooled.{size, copy_of, new_pool, arrived, turned, taken, step_turns, left, AreOffersTo, IsPool};
 ghost use Rattle.ff_pool.specs.Restored.{pool_recs, IsReady, IsResting};
 ghost use Rattle.ff_records.specs.Restored.{Restores};
 
@@ -15,7 +16,9 @@ use crate::group::Group;
 use crate::leading::leaders_of;
 use crate::outs::Outs;
 use crate::restoring::{Browsers, led_heads, no_outs};
-use crate::steps::{arrive_heads, browser_of, forked_heads, forked_outs, has_work, step_class};
+use crate::steps::{
+    arrive_heads, browser_of, forked_heads, forked_outs, has_work, step_class, steps_class,
+};
 use ff_core::{Browser, NoMemory};
 use ff_lattice::LevelSet;
 use ff_name::Level;
@@ -250,6 +253,41 @@ impl Pool {
             self.puts.as_mut_slice(),
             self.leaders.as_slice(),
             usize::from(l.0),
+            copies,
+            turns,
+        )?;
+        self.spent = false;
+        Ok(())
+    }
+
+    /// One step of the class of a level that has work, and up to `more` further ones as long as it has
+    /// some. After want of memory the pool is spent.
+    pub(crate) fn visit<C: Ledger, L: Ledger>(
+        &mut self,
+        l: Level,
+        more: u32,
+        copies: &mut Steps<C>,
+        turns: &mut Steps<L>,
+    ) -> Result<(), NoMemory>
+        requires unspent { self.old.spent ≡ false }
+        requires level { l.0 < size self.old }
+        requires work { pooled.has_work self.old l.0 ≡ true }
+        ensures on { OnOk result (IsOnward self.old turns.old self.new turns.new) }
+        ensures fewer { OnOk result (steps_left self.new < steps_left self.old) }
+        ensures spent { OnErr result (self.new.spent ≡ true) }
+        ensures levels { size self.new ≡ size self.old }
+        ensures most { turns.new ≤ turns.old + left self.old }
+        ensures turns_later { turns.old ≤ turns.new }
+        ensures later { copies.old ≤ copies.new }
+    {
+        self.spent = true;
+        steps_class(
+            self.alloc,
+            self.heads.as_mut_slice(),
+            self.puts.as_mut_slice(),
+            self.leaders.as_slice(),
+            usize::from(l.0),
+            more,
             copies,
             turns,
         )?;

@@ -1,10 +1,10 @@
 //! Steps of classes over the parts of a pool.
-ghost use Rattle.std.specs.Prelude.{◌≡◌, ◌+◌, ◌<◌, ◌≤◌, ℕ, false, length, slice_index_or, slice_set, All, IfOk, OnOk};
+ghost use Rattle.std.specs.Prelude.{◌≡◌, ◌+◌, ◌<◌, ◌≤◌, ℕ, [], false, length, slice_index_or, slice_set, All, IfOk, OnOk, OnErr};
 ghost use Rattle.ff_value.specs.Spelled.{IsWellSpelledInput};
 ghost use Rattle.ff_core.specs.Copies.{turning};
 ghost use Rattle.ff_reactive.specs.Worlds.{leader, offer, split, AreLeaders};
 ghost use Rattle.ff_value.specs.Same.{same_input};
-ghost use Rattle.ff_pool.specs.Heads.{Head, HasArrived, step_of, step_head, offer_head, head_works, head_turns, given};
+ghost use Rattle.ff_pool.specs.Heads.{Head, HasArrived, IsClassStepped, MayCount, step_of, step_head, offer_head, head_works, head_turns, given};
 
 use crate::classes::split;
 use crate::group::Group;
@@ -41,6 +41,32 @@ pub(crate) fn step_class<C: Ledger, L: Ledger>(
     let top = leaders[l];
     let mut outs = Vec::new(alloc);
     heads[top].step(&mut outs, copies, turns)?;
+    give_class(puts, leaders, top, outs.as_slice())
+}
+
+/// One step of a level's class, and up to `more` further ones as long as it has work.
+pub(crate) fn steps_class<C: Ledger, L: Ledger>(
+    alloc: Global,
+    heads: &mut [Group],
+    puts: &mut [Outs],
+    leaders: &[usize],
+    l: usize,
+    more: u32,
+    copies: &mut Steps<C>,
+    turns: &mut Steps<L>,
+) -> Result<(), NoMemory>
+    requires level { l < length leaders.now }
+    requires led { leader leaders.now l < length heads.old }
+    requires count { length puts.old ≡ length leaders.now }
+    requires spelled { (d : Head) → All IsWellSpelledInput (slice_index_or heads.old (leader leaders.now l) d).inbox }
+    ensures done { OnOk result (IsClassStepped heads.old puts.old leaders.now l turns.old heads.new puts.new turns.new) }
+    ensures most { OnErr result ((d : Head) → MayCount (slice_index_or heads.old (leader leaders.now l) d) [] turns.old turns.new) }
+    ensures turns_later { turns.old ≤ turns.new }
+    ensures later { copies.old ≤ copies.new }
+{
+    let top = leaders[l];
+    let mut outs = Vec::new(alloc);
+    heads[top].steps(more, &mut outs, copies, turns)?;
     give_class(puts, leaders, top, outs.as_slice())
 }
 

@@ -1,51 +1,56 @@
-use Rattle.std.proofs.Common.{◌≡◌, ◌∙◌, ◌<◌, sym, true, arith}
-use Rattle.ff_pool.specs.Pooled.{size, has_work}
-use Rattle.ff_pool.proofs.Onward.{onward_start, onward_turn, onward_within, counts_within, steps_fall}
+use Rattle.std.proofs.Common.{◌≡◌, ◌∙◌, ap, false, length, arith}
+use Rattle.std.proofs.lemmas.List.{with_items_is}
+use Rattle.ff_pool.proofs.Reading.{read_spelled}
+use Rattle.ff_pool.proofs.Slicing.{visit_fewer, visit_kept, visit_most, visit_on, visit_within}
 use Rattle.ff_pool.proofs.pool.Pool.visit.Goals as goal
 
-pub returns-in_err-turn-clause-most : goal.returns-in_err-turn-clause-most
-returns-in_err-turn-clause-most g c =
-    let few = counts_within c.args.self.now c.args.l.0 c.requires.valid c.requires.level in
-    let made = c.in_err-turn.ensures.most in
-    omega (arith, few, made)
+pub steps_class-requires-clause-spelled : goal.steps_class-requires-clause-spelled
+steps_class-requires-clause-spelled g c = λ d.
+    let unspent : c.self.inside.spent ≡ false = ap (λ p. p.spent) c.self.view_is ∙ c.requires.unspent in
+    read_spelled c.self.invariant unspent c.self.view_is (λ again. c.requires.level) c.as_mut_slice.ensures.value c.as_slice.ensures.value c.from.ensures d
 
-pub loop-step-init : goal.loop-step-init
-loop-step-init g c =
-    let p = c.args.self.now in
-    let turns = c.args.turns.now in
-    let made = c.in_ok-turn.ensures in
-    record {
-      on = onward_turn p p c.turn.new.self turns turns c.turn.new.turns c.args.l.0 (onward_start p turns c.requires.unspent c.requires.valid) c.requires.level made.done made.count;
-      fewer = steps_fall p c.turn.new.self c.args.l.0 c.requires.valid c.requires.level c.requires.work made.done;
-      turns_later = made.turns_later;
-      later = made.later;
-    }
+pub returns-in_err-steps_class-clause-most : goal.returns-in_err-steps_class-clause-most
+returns-in_err-steps_class-clause-most g c =
+    let unspent : c.self.inside.spent ≡ false = ap (λ p. p.spent) c.self.view_is ∙ c.requires.unspent in
+    visit_within c.self.invariant unspent c.self.view_is c.requires.level c.requires.work
+    c.as_mut_slice.ensures.value c.as_mut_slice-2.ensures.value c.as_slice.ensures.value c.from.ensures c.args.turns.now c.steps_class.new.turns c.in_err-steps_class.ensures.most
 
-pub returns-in_err-turn-2-clause-most : goal.returns-in_err-turn-2-clause-most
-returns-in_err-turn-2-clause-most g c =
-    let q = c.loop-step.self in
-    let on = c.loop-step.invariant.on in
-    let same = on.levels in
-    let in_levels = c.requires.level in
-    let level : c.args.l.0 < size q = omega (arith, same, in_levels) in
-    onward_within c.args.self.now q c.args.turns.now c.loop-step.turns c.turn-in-loop-step.new.turns _ on c.in_err-turn-2.ensures.most (counts_within q c.args.l.0 on.valid level)
+pub invariant_of-self-2 : goal.invariant_of-self-2
+invariant_of-self-2 g c = λ still.
+    let s = c.self.inside in
+    let unspent : s.spent ≡ false = ap (λ p. p.spent) c.self.view_is ∙ c.requires.unspent in
+    let heads_long : length c.steps_class.new.heads ≡ s.heads.len = c.steps_class.auto.heads ∙ ap length c.as_mut_slice.ensures.value ∙ (omega (arith, s.heads.ok)) in
+    let puts_long : length c.steps_class.new.puts ≡ s.puts.len = c.steps_class.auto.puts ∙ ap length c.as_mut_slice-2.ensures.value ∙ (omega (arith, s.puts.ok)) in
+    visit_kept c.self.invariant unspent c.self.view_is c.requires.level c.requires.work
+    c.as_mut_slice.ensures.value c.as_mut_slice-2.ensures.value c.as_slice.ensures.value c.from.ensures
+    (with_items_is s.heads c.steps_class.new.heads heads_long) (with_items_is s.puts c.steps_class.new.puts puts_long) c.in_ok-steps_class.ensures.done
 
-pub loop-step-preserved : goal.loop-step-preserved
-loop-step-preserved g c =
-    let q = c.loop-step.self in
-    let r = c.turn-in-loop-step.new.self in
-    let on = c.loop-step.invariant.on in
-    let same = on.levels in
-    let in_levels = c.requires.level in
-    let level : c.args.l.0 < size q = omega (arith, same, in_levels) in
-    let works : c.has_work.result ≡ true = c.if-not-has_work.false in
-    let work : has_work q c.args.l.0 ≡ true = sym c.has_work.ensures ∙ works in
-    let made = c.in_ok-turn-2.ensures in
-    let falls = steps_fall q r c.args.l.0 on.valid level work made.done in
-    let fewer = c.loop-step.invariant.fewer in
-    record {
-      on = onward_turn c.args.self.now q r c.args.turns.now c.loop-step.turns c.turn-in-loop-step.new.turns c.args.l.0 on level made.done made.count;
-      fewer = omega (arith, falls, fewer);
-      turns_later = omega (arith, made.turns_later, c.loop-step.invariant.turns_later);
-      later = omega (arith, made.later, c.loop-step.invariant.later);
-    }
+pub returns-clause-on : goal.returns-clause-on
+returns-clause-on g c =
+    let s = c.self.inside in
+    let unspent : s.spent ≡ false = ap (λ p. p.spent) c.self.view_is ∙ c.requires.unspent in
+    let heads_long : length c.steps_class.new.heads ≡ s.heads.len = c.steps_class.auto.heads ∙ ap length c.as_mut_slice.ensures.value ∙ (omega (arith, s.heads.ok)) in
+    let puts_long : length c.steps_class.new.puts ≡ s.puts.len = c.steps_class.auto.puts ∙ ap length c.as_mut_slice-2.ensures.value ∙ (omega (arith, s.puts.ok)) in
+    visit_on c.self.invariant unspent c.self.view_is c.requires.level c.requires.work
+    c.as_mut_slice.ensures.value c.as_mut_slice-2.ensures.value c.as_slice.ensures.value c.from.ensures
+    (with_items_is s.heads c.steps_class.new.heads heads_long) (with_items_is s.puts c.steps_class.new.puts puts_long) c.in_ok-steps_class.ensures.done
+
+pub returns-clause-fewer : goal.returns-clause-fewer
+returns-clause-fewer g c =
+    let s = c.self.inside in
+    let unspent : s.spent ≡ false = ap (λ p. p.spent) c.self.view_is ∙ c.requires.unspent in
+    let heads_long : length c.steps_class.new.heads ≡ s.heads.len = c.steps_class.auto.heads ∙ ap length c.as_mut_slice.ensures.value ∙ (omega (arith, s.heads.ok)) in
+    let puts_long : length c.steps_class.new.puts ≡ s.puts.len = c.steps_class.auto.puts ∙ ap length c.as_mut_slice-2.ensures.value ∙ (omega (arith, s.puts.ok)) in
+    visit_fewer c.self.invariant unspent c.self.view_is c.requires.level c.requires.work
+    c.as_mut_slice.ensures.value c.as_mut_slice-2.ensures.value c.as_slice.ensures.value c.from.ensures
+    (with_items_is s.heads c.steps_class.new.heads heads_long) (with_items_is s.puts c.steps_class.new.puts puts_long) c.in_ok-steps_class.ensures.done
+
+pub returns-clause-most : goal.returns-clause-most
+returns-clause-most g c =
+    let s = c.self.inside in
+    let unspent : s.spent ≡ false = ap (λ p. p.spent) c.self.view_is ∙ c.requires.unspent in
+    let heads_long : length c.steps_class.new.heads ≡ s.heads.len = c.steps_class.auto.heads ∙ ap length c.as_mut_slice.ensures.value ∙ (omega (arith, s.heads.ok)) in
+    let puts_long : length c.steps_class.new.puts ≡ s.puts.len = c.steps_class.auto.puts ∙ ap length c.as_mut_slice-2.ensures.value ∙ (omega (arith, s.puts.ok)) in
+    visit_most c.self.invariant unspent c.self.view_is c.requires.level c.requires.work
+    c.as_mut_slice.ensures.value c.as_mut_slice-2.ensures.value c.as_slice.ensures.value c.from.ensures
+    (with_items_is s.heads c.steps_class.new.heads heads_long) (with_items_is s.puts c.steps_class.new.puts puts_long) c.in_ok-steps_class.ensures.done
