@@ -6,7 +6,7 @@ use Rattle.ff_lattice.specs.Order.{size}
 use Rattle.ff_machine.specs.State.{State}
 use Rattle.ff_machine.specs.Machine.{reactor}
 use Rattle.ff_policy.specs.Assignment.{Assignment}
-use Rattle.ff_pool.specs.Pooled.{Pooled}
+use Rattle.ff_pool.specs.Pooled.{Pooled, new_pool}
 use Rattle.ff_pool.specs.Restored.{IsResting}
 use Rattle.ff_reactive.specs.Copies.{below}
 use Rattle.ff_reactive.specs.Rested as rested
@@ -43,6 +43,10 @@ standing_text p from = saved_text p (standing_recs (size p.order) from)
 -- Where the copies of a pool stand.
 abbrev pub stand_of : Pooled → Standing State
 stand_of pool = rested.standing_of (reactor pool.fuel) pool.world
+
+-- New copies of the levels of a policy.
+abbrev pub new_copies : Assignment → Pooled
+new_copies p = new_pool (size p.order) p.fuel
 
 -- What is put once a trace was read: where it was read to its end and has no bad line, the saved text
 -- of where its inputs have brought the copies.

@@ -1,5 +1,5 @@
 //! What a run in parts tells.
-ghost use Rattle.std.specs.Prelude.{◌≡◌, ◌++◌, All, List};
+ghost use Rattle.std.specs.Prelude.{◌≡◌, ◌+◌, ◌++◌, All, List};
 ghost use Rattle.ff_lattice.specs.Order.{size};
 ghost use Rattle.ff_machine.specs.State.{State};
 ghost use Rattle.ff_policy.specs.Assignment.{Assignment, IsAssignment};
@@ -8,21 +8,31 @@ ghost use Rattle.ff_pool.specs.Restored.{IsResting};
 ghost use Rattle.ff_reactive.specs.Copies.{multi};
 ghost use Rattle.ff_reactive.specs.Standings.{Standing, StandAlike, fresh};
 ghost use Rattle.ff_reactive.specs.Text.{text_out};
-ghost use Rattle.ff_resume.specs.Resumed.{EndsAtRest, WasSaved, stand_of, standing_text};
+ghost use Rattle.ff_resume.specs.Resumed.{EndsAtRest, WasSaved, new_copies, stand_of, standing_text};
 ghost use Rattle.ff_session.specs.Levels.{levels, machine};
-ghost use Rattle.ff_session.specs.Multi.{run_text, run_turns, seen_by, stands_after};
+ghost use Rattle.ff_session.specs.Multi.{multi_text, multi_turns, run_text, run_turns, seen_by, stands_after};
 ghost use Rattle.ff_trace.specs.Lines.{IsInputOf};
 ghost use Rattle.ff_value.specs.declared.input.Input.{Input};
 
 /// The text of a run over some inputs and then others is that of the run over the first ones and then,
-/// from where the copies then stand, over the others; in the end the copies stand where they stand
-/// after the whole run, and so are saved as the same text. From new copies on, it is the
-/// multi-executed run.
+/// from where the copies then stand, over the others, and so are its turns; in the end the copies stand
+/// where they stand after the whole run, and so are saved as the same text. From new copies on, it is
+/// the multi-executed run.
 pub fn parts_of_a_run_are_the_whole_run()
     ensures text { (p : Assignment) (from : Standing State) (is js : List Input)
         → run_text p (seen_by p) from (is ++ js) ≡ run_text p (seen_by p) from is ++ run_text p (seen_by p) (stands_after p from is) js }
+    ensures turns { (p : Assignment) (from : Standing State) (is js : List Input)
+        → run_turns p (seen_by p) from (is ++ js) ≡ run_turns p (seen_by p) from is + run_turns p (seen_by p) (stands_after p from is) js }
     ensures saved { (p : Assignment) (from : Standing State) (is js : List Input) → standing_text p (stands_after p (stands_after p from is) js) ≡ standing_text p (stands_after p from (is ++ js)) }
     ensures multi { (p : Assignment) (is : List Input) → run_text p (seen_by p) (fresh (machine p)) is ≡ text_out (levels p) (multi (machine p) (levels p) is) }
+{}
+
+/// New copies are those of a pool at rest, and the run from where they stand is the multi-executed one,
+/// in as many turns.
+pub fn new_copies_are_at_rest()
+    ensures rests { (p : Assignment) → IsResting (size p.order) p.fuel (new_copies p) }
+    ensures text { (p : Assignment) (is : List Input) → run_text p (seen_by p) (stand_of (new_copies p)) is ≡ multi_text p is }
+    ensures turns { (p : Assignment) (is : List Input) → run_turns p (seen_by p) (stand_of (new_copies p)) is ≡ multi_turns p is }
 {}
 
 /// A run over inputs that lines may give, from where the copies of a pool at rest stand, ends where

@@ -11,11 +11,11 @@ use Rattle.ff_save.specs.Whole.{IsSaved}
 use Rattle.ff_session.specs.Giving.{Gives}
 use Rattle.ff_session.specs.Works.{Exchanged}
 use Rattle.ff_release.specs.Releasing.{release_duty}
-use Rattle.ff_resume.specs.Resumed.{resume_duty, stand_of}
+use Rattle.ff_resume.specs.Resumed.{new_copies, resume_duty, stand_of}
 use Rattle.ff_run.specs.Names.{IsFetchedOrFails, FetchedOrFailed, IsKnown, IsLater, IsOutside, NamesBad}
 use Rattle.ff_run.specs.Policies.{IsBadPolicy, NamesPolicy, RefusesPolicy, Under}
 use Rattle.ff_run.specs.Rules.{AreBadRules, AreRulesOf, NamesRules, RefusesRules}
-use Rattle.ff_run.specs.States.{IsBadState, NamesState, RefusesState, new_copies}
+use Rattle.ff_run.specs.States.{IsBadState, NamesState, RefusesState}
 use Rattle.ff_run.specs.declared.policies.TheConstants.{MOST_FETCHED}
 use Rattle.ff_run.specs.declared.rules.TheConstants as rules_file
 use Rattle.ff_run.specs.declared.states.TheConstants as states

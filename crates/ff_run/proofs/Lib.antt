@@ -9,6 +9,7 @@ pub mod Finding
 pub mod PolicyFaults
 pub mod RulesFaults
 pub mod StateFaults
+pub mod InARow
 pub mod Obeying
 pub mod Headline
 pub mod Counting

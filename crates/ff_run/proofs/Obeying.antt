@@ -7,7 +7,7 @@ use Rattle.ff_io.specs.Shelf.{ShelfTold}
 use Rattle.ff_lattice.specs.Order.{Order}
 use Rattle.ff_policy.specs.Assignment.{Assignment, builtin}
 use Rattle.ff_policy.specs.Reading.{IsPolicyOf}
-use Rattle.ff_resume.specs.Resumed.{resume_duty, stand_of}
+use Rattle.ff_resume.specs.Resumed.{new_copies, resume_duty, stand_of}
 use Rattle.ff_save.specs.Whole.{IsSaved}
 use Rattle.ff_saved.specs.declared.fault.SavedFault.TheVariants as saved
 use Rattle.ff_session.specs.Giving.{Gives}
@@ -17,7 +17,7 @@ use Rattle.ff_run.specs.Words.{AreCommand}
 use Rattle.ff_run.specs.Names.{NamesBad, Refuses, IsLater, FetchedOrFailed, IsFetchedOrFails}
 use Rattle.ff_run.specs.Policies.{IsBadPolicy, RefusesPolicy, Under}
 use Rattle.ff_run.specs.Rules.{AreBadRules, AreRulesOf, NamesRulesFault, RefusesRules}
-use Rattle.ff_run.specs.States.{IsBadState, NamesStateFault, RefusesState, new_copies}
+use Rattle.ff_run.specs.States.{IsBadState, NamesStateFault, RefusesState}
 use Rattle.ff_run.specs.Checked.{IsPut, check_text}
 use Rattle.ff_run.specs.Upgraded.{upgrade_text}
 use Rattle.ff_run.specs.declared.policies.TheConstants as policies

@@ -1,24 +1,20 @@
 -- What the bytes of a saved state's file give, and how a run ends where they give nothing.
-use Rattle.std.proofs.Common.{◌≡◌, inl, inr, ℕ, Result, Ok, Err, List, [], refl}
+use Rattle.std.proofs.Common.{◌≡◌, inl, inr, ℕ, Result, Ok, Err, List}
 use Rattle.ff_contract.specs.Answering.{Answers}
 use Rattle.ff_io.specs.Shelf.{ShelfTold}
 use Rattle.ff_lattice.specs.Order.{size}
 use Rattle.ff_policy.specs.Assignment.{Assignment}
 use Rattle.ff_pool.specs.Pooled.{Pooled}
 use Rattle.ff_pool.specs.Restored.{IsResting}
-use Rattle.ff_reactive.specs.Standings.{fresh}
-use Rattle.ff_resume.proofs.Resting.{rests_again}
+use Rattle.ff_resume.proofs.New.{new_rests}
 use Rattle.ff_save.specs.Whole.{HasFault, IsSaved}
 use Rattle.ff_save.specs.declared.fail.SavedFail.{SavedFail}
 use Rattle.ff_save.specs.declared.fail.SavedFail.TheVariants.{Fault, NoMemory}
 use Rattle.ff_saved.specs.declared.fault.SavedFault.{SavedFault}
-use Rattle.ff_session.specs.Levels.{machine}
-use Rattle.ff_session.specs.Multi.{seen_by}
-use Rattle.ff_session.proofs.Feeding.{fresh_copies}
 use Rattle.ff_status.specs.declared.status.Status.{Status}
 use Rattle.ff_status.specs.declared.status.Status.TheVariants.{Saved}
 use Rattle.ff_run.specs.Names.{Names}
-use Rattle.ff_run.specs.States.{IsBadState, NamesState, new_copies}
+use Rattle.ff_run.specs.States.{IsBadState, NamesState}
 
 module _ (p : Assignment) (bytes : List ℕ) (read : Result Pooled SavedFail)
     (exact : (fault : SavedFault) → HasFault p bytes fault → Answers read (Err (Fault fault)) (Err NoMemory)) where
@@ -46,5 +42,5 @@ module _ (p : Assignment) (bytes : List ℕ) (read : Result Pooled SavedFail)
 
 -- the copies of a name are at rest
 pub named_rests : (p : Assignment) (shelf : ShelfTold) (name : List ℕ) (pool : Pooled) → NamesState p shelf name pool → IsResting (size p.order) p.fuel pool
-named_rests p shelf _ _ (Names.at_dash name is_dash) = rests_again p (new_copies p) (fresh (machine p)) [] (fresh_copies p (seen_by p) (new_copies p) (size p.order) p.fuel refl refl refl)
+named_rests p shelf _ _ (Names.at_dash name is_dash) = new_rests p
 named_rests p shelf _ _ (Names.in_file name bytes pool no_dash fetched saved) = saved.whole.rests

@@ -4,6 +4,7 @@ pub mod Names
 pub mod Policies
 pub mod Rules
 pub mod States
+pub mod InARow
 pub mod Checked
 pub mod Upgraded
 pub mod Generated

@@ -1,19 +1,15 @@
 -- Which copies a name stands for that a resumed run begins with, and what is wrong with its file.
 use Rattle.std.specs.Prelude.{ℕ, List}
 use Rattle.ff_io.specs.Shelf.{ShelfTold}
-use Rattle.ff_lattice.specs.Order.{size}
 use Rattle.ff_policy.specs.Assignment.{Assignment}
-use Rattle.ff_pool.specs.Pooled.{Pooled, new_pool}
+use Rattle.ff_pool.specs.Pooled.{Pooled}
+use Rattle.ff_resume.specs.Resumed.{new_copies}
 use Rattle.ff_save.specs.Whole.{HasFault, IsSaved}
 use Rattle.ff_saved.specs.declared.fault.SavedFault.{SavedFault}
 use Rattle.ff_status.specs.declared.status.Status.{Status}
 use Rattle.ff_status.specs.declared.status.Status.TheVariants.{Saved}
 use Rattle.ff_run.specs.Names.{Accepts, Names, NamesBad, Refuses, StandsFor}
 use Rattle.ff_run.specs.declared.states.TheConstants.{MOST_FETCHED}
-
--- new copies of the levels of a policy
-abbrev pub new_copies : Assignment → Pooled
-new_copies p = new_pool (size p.order) p.fuel
 
 -- bytes are no saved text under a policy, and a run ends so
 pub data IsBadState (p : Assignment) (bytes : List ℕ) : Status → Type 0 where

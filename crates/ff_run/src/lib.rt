@@ -22,6 +22,6 @@ mod words;
 
 pub use ff_session::Work;
 pub use ff_status::{Status, TraceFault};
-pub use law::drawn_lines_are_a_trace;
+pub use law::{drawn_lines_are_a_trace, two_runs_in_a_row_are_the_unbroken_one};
 pub use top::run;
 pub use words::Command;

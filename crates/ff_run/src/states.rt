@@ -1,6 +1,7 @@
 //! The copies that a resumed run begins with, by the name of their saved text.
 ghost use Rattle.std.specs.Prelude.{◌≤◌};
-ghost use Rattle.ff_run.specs.States.{IsBadState, new_copies};
+ghost use Rattle.ff_resume.specs.Resumed.{new_copies};
+ghost use Rattle.ff_run.specs.States.{IsBadState};
 ghost use Rattle.ff_save.specs.Whole.{IsSaved};
 
 use crate::named::Named;
@@ -24,7 +25,8 @@ pub(crate) struct StateFile<'a> {
 
 impl Named for StateFile<'_> {
     ghost use Rattle.std.specs.Prelude.{◌≤◌};
-    ghost use Rattle.ff_run.specs.States.{IsBadState, new_copies};
+    ghost use Rattle.ff_resume.specs.Resumed.{new_copies};
+    ghost use Rattle.ff_run.specs.States.{IsBadState};
     ghost use Rattle.ff_run.specs.declared.states.TheConstants.{MOST_FETCHED};
     ghost use Rattle.ff_save.specs.Whole.{IsSaved};
 
