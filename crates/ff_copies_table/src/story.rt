@@ -7,9 +7,11 @@
 //! | `all INPUT` | each level is offered what it sees of the input |
 //! | `high INPUT` | the higher level alone is offered the input |
 //! | `turn LEVEL COUNT` | so many steps of the level's class |
+//! | `drain COUNT` | the pool is drained, so many steps of a class at a time; in the one call each level makes so many |
 //! | `fork` | a fork of the pool is kept, in place of the one before |
 //! | `swap` | the story goes on with the fork, and the pool is kept in its place |
-ghost use Rattle.std.specs.Prelude.{◌≡◌, ◌<◌, All, IfOk, OnOk, false};
+ghost use Rattle.std.specs.Prelude.{◌≡◌, ◌<◌, ◌≤◌, All, IfOk, OnOk, false};
+ghost use Rattle.ff_core.specs.declared.browser.TheConstants.{MOST_BUDGET};
 ghost use Rattle.ff_lattice.specs.Order.{size as count_levels};
 ghost use Rattle.ff_value.specs.Spelled.{IsWellSpelledInput};
 ghost use Rattle.ff_reactive.specs.Worlds.{OfferOk, AreOffers};
@@ -28,13 +30,21 @@ use std::marker::Brand;
 use std::sync::ledger::{Blank, Ledger};
 use std::{io, mem, str};
 
-/// What is told of a pool in the end: what each level's copy has put, its class, and whether all is
-/// quiet.
+/// What is told of a pool in the end: what each level's copy has put, what of it the higher one has
+/// once that was taken, its class, and whether all is quiet.
 #[derive(Drop)]
 struct Ending {
     low: Vec<u8>,
     high: Vec<u8>,
+    left: Vec<u8>,
     classes: Classes,
+}
+
+/// The pool that a story is of, and the one that is kept.
+#[derive(Drop)]
+struct Pools {
+    pool: Pool,
+    kept: Pool,
 }
 
 /// What is told of a story: the classes after each line, the endings of the pool and of its fork,
@@ -87,38 +97,94 @@ fn steps_of(rest: &str) -> Result<(u8, u32), NoMemory>
     }
 }
 
+/// Two new pools of two levels.
+fn new_pools(alloc: Global, fuel: u32) -> Result<Pools, NoMemory>
+    requires some { 1 ≤ fuel }
+    requires most { fuel ≤ MOST_BUDGET }
+{
+    let pool = Pool::new(alloc, 2, fuel)?;
+    let kept = Pool::new(alloc, 2, fuel)?;
+    Ok(Pools { pool, kept })
+}
+
+/// How many steps of a class a drain makes at a time.
+fn slice_of(rest: &str) -> Result<u32, NoMemory>
+    ensures { IfOk result (λ slice. 0 < slice) }
+{
+    match rest.parse::<u32>() {
+        Ok(slice) if slice > 0 => Ok(slice),
+        _ => Err(AllocError),
+    }
+}
+
+/// Makes so many steps of a level's class.
+fn make_steps<C: Ledger, L: Ledger>(
+    rest: &str,
+    pool: &mut Pool,
+    copies: &mut Steps<C>,
+    turns: &mut Steps<L>,
+) -> Result<(), NoMemory> {
+    let (level, count) = steps_of(rest)?;
+    for _ in 0..count {
+        if !is_of_two(pool) {
+            return Err(AllocError);
+        }
+        pool.turn(Level(level), copies, turns)?;
+    }
+    Ok(())
+}
+
+/// Lets what a line offers arrive.
+fn arrive<C: Ledger>(
+    alloc: Global,
+    policy: &Policy,
+    word: &str,
+    rest: &str,
+    pool: &mut Pool,
+    copies: &mut Steps<C>,
+) -> Result<(), NoMemory> {
+    if !is_of_two(pool) {
+        return Err(AllocError);
+    }
+    let offers = offers_of(alloc, policy, word, rest)?;
+    pool.arrive(&offers, copies)
+}
+
 /// Does what a line says.
 fn follow<C: Ledger, L: Ledger>(
     alloc: Global,
     policy: &Policy,
     line: &str,
-    pool: &mut Pool,
-    kept: &mut Pool,
+    pools: &mut Pools,
     copies: &mut Steps<C>,
     turns: &mut Steps<L>,
 ) -> Result<(), NoMemory> {
     let (word, rest) = line.split_once(' ').unwrap_or((line, ""));
     match word {
-        "fork" => *kept = pool.fork(copies)?,
-        "swap" => mem::swap(pool, kept),
-        "turn" => {
-            let (level, count) = steps_of(rest)?;
-            for _ in 0..count {
-                if !is_of_two(pool) {
-                    return Err(AllocError);
-                }
-                pool.turn(Level(level), copies, turns)?;
-            }
-        }
-        _ => {
-            let offers = offers_of(alloc, policy, word, rest)?;
-            if !is_of_two(pool) {
-                return Err(AllocError);
-            }
-            pool.arrive(&offers, copies)?;
-        }
+        "fork" => pools.kept = pools.pool.fork(copies)?,
+        "swap" => mem::swap(&mut pools.pool, &mut pools.kept),
+        "turn" => make_steps(rest, &mut pools.pool, copies, turns)?,
+        "drain" => pools.pool.drain(slice_of(rest)?, copies, turns)?,
+        _ => arrive(alloc, policy, word, rest, &mut pools.pool, copies)?,
     }
     Ok(())
+}
+
+/// Does what each line says, and tells the classes after each.
+fn follow_all<C: Ledger, L: Ledger>(
+    alloc: Global,
+    policy: &Policy,
+    lines: &[String],
+    pools: &mut Pools,
+    copies: &mut Steps<C>,
+    turns: &mut Steps<L>,
+) -> Result<Vec<Classes>, NoMemory> {
+    let mut told = Vec::new(alloc);
+    for line in lines {
+        follow(alloc, policy, line.as_str(), pools, copies, turns)?;
+        told.push(classes(&pools.pool))?;
+    }
+    Ok(told)
 }
 
 /// Puts the events of a line behind the others. A fork is none.
@@ -137,6 +203,11 @@ fn add_events(
         "turn" => {
             let (level, count) = steps_of(rest)?;
             add_turns(level, count, events)
+        }
+        "drain" => {
+            let count = slice_of(rest)?;
+            add_turns(0, count, events)?;
+            add_turns(1, count, events)
         }
         _ => {
             let offers = offers_of(alloc, policy, word, rest)?;
@@ -189,8 +260,26 @@ fn end_of(alloc: Global, policy: &Policy, pool: &mut Pool) -> Result<Ending, NoM
     Ok(Ending {
         low: put_by(alloc, policy, pool, 0)?,
         high: put_by(alloc, policy, pool, 1)?,
+        left: put_by(alloc, policy, pool, 1)?,
         classes,
     })
+}
+
+/// What is told of a new pool in the end, where all that the lines say comes in one call.
+fn play<C: Ledger, L: Ledger>(
+    alloc: Global,
+    policy: &Policy,
+    lines: &[String],
+    copies: &mut Steps<C>,
+    turns: &mut Steps<L>,
+) -> Result<Ending, NoMemory> {
+    let events = events_of(alloc, policy, lines)?;
+    let mut pool = Pool::new(alloc, 2, policy.fuel())?;
+    if !is_of_two(&pool) {
+        return Err(AllocError);
+    }
+    pool.play(events.as_slice(), copies, turns)?;
+    end_of(alloc, policy, &mut pool)
 }
 
 /// Tells a story.
@@ -210,32 +299,13 @@ fn tell<C: Ledger, L: Ledger>(
     let mut copies = Steps::<C>::new(copies);
     let mut turns = Steps::<L>::new(turns);
     let policy = Policy::builtin(alloc)?;
-    let mut pool = Pool::new(alloc, 2, policy.fuel())?;
-    let mut kept = Pool::new(alloc, 2, policy.fuel())?;
-    let mut told = Vec::new(alloc);
-    for line in lines {
-        follow(
-            alloc,
-            &policy,
-            line.as_str(),
-            &mut pool,
-            &mut kept,
-            &mut copies,
-            &mut turns,
-        )?;
-        told.push(classes(&pool))?;
-    }
-    let events = events_of(alloc, &policy, lines)?;
-    let mut other = Pool::new(alloc, 2, policy.fuel())?;
-    if !is_of_two(&other) {
-        return Err(AllocError);
-    }
-    other.play(events.as_slice(), &mut copies, &mut turns)?;
+    let mut pools = new_pools(alloc, policy.fuel())?;
+    let told = follow_all(alloc, &policy, lines, &mut pools, &mut copies, &mut turns)?;
     Ok(Told {
         lines: told,
-        pool: end_of(alloc, &policy, &mut pool)?,
-        fork: end_of(alloc, &policy, &mut kept)?,
-        played: end_of(alloc, &policy, &mut other)?,
+        pool: end_of(alloc, &policy, &mut pools.pool)?,
+        fork: end_of(alloc, &policy, &mut pools.kept)?,
+        played: play(alloc, &policy, lines, &mut copies, &mut turns)?,
     })
 }
 
@@ -249,7 +319,7 @@ fn show_ending(rt: &HostRuntime, heading: &str, ending: &Ending) -> io::Result<(
             Err(_) => println!(rt; "no text")?,
         }
     }
-    Ok(())
+    println!(rt; "left {}", ending.left.len())
 }
 
 /// Prints a story.
