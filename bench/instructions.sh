@@ -1,6 +1,6 @@
 #!/bin/sh
 # Prints how many instructions a byte the built program takes, counted by callgrind, which counts alike on every machine: for
-# lines that open windows under `multi -`, and for replies with documents of 170 kB under `fmt -`. For the second it prints
+# lines that open windows under `multi -` and `plain -`, and for replies with documents of 170 kB under `fmt -`. For the second it prints
 # the most memory that the program held too. What an empty input takes is taken off.
 cd "$(dirname "$0")/.." || exit 1
 if [ ! -f crates/ffox/out/stamp ] || [ "$(scripts/stamp)" != "$(cat crates/ffox/out/stamp)" ]; then
@@ -35,5 +35,6 @@ report() {
 }
 
 report 'multi -, lines that open windows' "$work/lines" multi
+report 'plain -, the same               ' "$work/lines" plain
 report 'fmt -, documents of 170 kB      ' "$work/pages" fmt
 /usr/bin/time -f 'fmt -, the most memory held        %M kB' "$program" fmt - <"$work/pages" >/dev/null

@@ -1,7 +1,7 @@
 #!/bin/sh
-# Prints how long the built program takes, and how often as long as a copy of the same bytes by the same pieces: for 16 MiB of
-# lines that open windows, for sixteen lines of 1 MB, and for one line of 1 MB that comes byte by byte through a pipe. Of
-# three runs each the fastest counts.
+# Prints how long the built program takes, how many MB that is a second, and how often as long as a copy of the same bytes by
+# the same pieces: for 16 MiB of lines that open windows, for sixteen lines of 1 MB, and for one line of 1 MB that comes byte
+# by byte through a pipe. Of three runs each the fastest counts.
 cd "$(dirname "$0")/.." || exit 1
 if [ ! -f crates/ffox/out/stamp ] || [ "$(scripts/stamp)" != "$(cat crates/ffox/out/stamp)" ]; then
     echo "lines: ./build has not built these sources" >&2
@@ -35,14 +35,15 @@ fastest() {
     echo "$best"
 }
 
-# compare NAME COMMAND COPY
+# compare NAME FILE COMMAND COPY
 compare() {
-    ours=$(fastest "$2") || exit 1
-    copy=$(fastest "$3") || exit 1
-    echo "$1  $ours us, copy $copy us, ratio $((ours / copy))"
+    bytes=$(wc -c <"$work/$2")
+    ours=$(fastest "$3") || exit 1
+    copy=$(fastest "$4") || exit 1
+    echo "$1  $ours us, $((bytes / ours)) MB a second, copy $copy us, ratio $((ours / copy))"
 }
 
-compare "16 MiB of short lines, multi -" "'$program' multi - <'$work/short'" "dd bs=64k status=none <'$work/short'"
-compare "16 MiB of short lines, plain -" "'$program' plain - <'$work/short'" "dd bs=64k status=none <'$work/short'"
-compare "sixteen lines of 1 MB, fmt -  " "'$program' fmt - <'$work/long'" "dd bs=64k status=none <'$work/long'"
-compare "1 MB byte by byte, fmt -      " "dd bs=1 status=none <'$work/one' | '$program' fmt -" "dd bs=1 status=none <'$work/one' | dd bs=64k status=none"
+compare "16 MiB of short lines, multi -" short "'$program' multi - <'$work/short'" "dd bs=64k status=none <'$work/short'"
+compare "16 MiB of short lines, plain -" short "'$program' plain - <'$work/short'" "dd bs=64k status=none <'$work/short'"
+compare "sixteen lines of 1 MB, fmt -  " long "'$program' fmt - <'$work/long'" "dd bs=64k status=none <'$work/long'"
+compare "1 MB byte by byte, fmt -      " one "dd bs=1 status=none <'$work/one' | '$program' fmt -" "dd bs=1 status=none <'$work/one' | dd bs=64k status=none"

@@ -1,6 +1,7 @@
 // What bench/program times, in plain Rust: for each word the same names, with the nanoseconds that
 // one takes. For `script` and a name of `steps`, as `loop`, it times that script alone.
 mod frames;
+mod items;
 mod searches;
 mod steps;
 mod variables;
@@ -40,15 +41,19 @@ fn list() {
     });
 }
 
-// A loop over the same bytes that counts parentheses.
+// A loop over the same bytes that counts parentheses, and then a reader that makes the same tree.
 fn text() {
     let lists = [[b'('; 64], [b')'; 64]].concat().repeat(8192);
     let mut string = vec![b'a'; 1_048_576];
     (string[0], string[1_048_575]) = (b'"', b'"');
     for (name, bytes) in [("lists", lists), ("string", string)] {
-        timed(name, 1, || {
-            black_box(black_box(&bytes).iter().filter(|byte| matches!(byte, b'(' | b')')).count());
-        });
+        let start = Instant::now();
+        black_box(black_box(&bytes).iter().filter(|byte| matches!(byte, b'(' | b')')).count());
+        let counted = start.elapsed().as_secs_f64() * 1e9;
+        let start = Instant::now();
+        black_box(items::read_items(black_box(&bytes)).is_ok());
+        let read = start.elapsed().as_secs_f64() * 1e9;
+        println!("{name} {counted:.1} {read:.1}");
     }
 }
 
