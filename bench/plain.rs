@@ -1,5 +1,6 @@
 // What bench/program times, in plain Rust: for each word the same names, with the nanoseconds that
-// one takes. For `script` and a name of `steps`, as `loop`, it times that script alone.
+// one takes. For `script` and a name of `steps`, as `loop`, it times that script alone, and for
+// `inserts` and a number so many nodes that are put before others.
 mod frames;
 mod items;
 mod searches;
@@ -57,6 +58,17 @@ fn text() {
     }
 }
 
+// So many nodes, each put before all others in a vector of their numbers.
+fn inserts(count: u32) {
+    let (mut nodes, mut children) = (Vec::new(), Vec::new());
+    timed("inserts", 1, || {
+        for number in 0..count {
+            nodes.push(("t".to_string(), "x".to_string()));
+            children.insert(0, black_box(number));
+        }
+    });
+}
+
 enum Value {
     Bool(bool),
     Num(i64),
@@ -87,7 +99,8 @@ fn main() {
         Some("searches") => searches::measure(),
         Some("variables") => variables::measure(),
         Some("steps") => steps::measure(),
+        Some("inserts") => inserts(std::env::args().nth(2).and_then(|count| count.parse().ok()).unwrap_or(0)),
         Some("script") => steps::measure_one(&std::env::args().nth(2).unwrap_or_default()),
-        _ => eprintln!("usage: plain list | text | operators | frames | searches | variables | steps | script NAME"),
+        _ => eprintln!("usage: plain list | text | operators | frames | searches | variables | steps | script NAME | inserts N"),
     }
 }
