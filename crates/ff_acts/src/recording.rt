@@ -1,4 +1,8 @@
 //! Activations as records.
+//!
+//! Variables of all activations lie in one list in order of declaration, so one activation's record
+//! is read off all of it, and the records of all activations off it once: each variable is put into
+//! the map of its activation, from the last to the first, and a map's entries are in order.
 ghost use Rattle.std.specs.Prelude.{◌≡◌, ◌<◌, [], IfOk, OnOk, length, map};
 ghost use Rattle.std.specs.Ordering.{nat_cmp};
 ghost use Rattle.std.specs.Cmp.Lexicographic.{slice_cmp};

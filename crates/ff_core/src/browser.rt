@@ -64,7 +64,7 @@ impl Browser {
         requires untouched { stores.touched ≡ finset.empty }
         ensures { result ≡ resting fuel stores }
     {
-        let _valid = stores.nodes();
+        let _known = stores.nodes();
         Browser {
             parts: Parts::resting(alloc, fuel, stores),
         }

@@ -1,4 +1,8 @@
 //! What a browser holds, whether that is a valid state or not.
+//!
+//! Nothing is said of it but that its stores are valid; that all of it is, is the invariant of
+//! `Browser`. So the steps of an input change the parts one after another, and validity is owed
+//! once, at the return, by the law that steps keep states valid.
 ghost use Rattle.std.specs.Prelude.{◌≡◌, IfOk};
 ghost use Rattle.ff_machine.specs.State as state;
 ghost use Rattle.ff_core.specs.Resting.{resting};

@@ -52,7 +52,7 @@ impl Requests {
         }
         let mut requests = Requests::new(alloc);
         for rec in recs {
-            let _domain = rec.domain.as_bytes();
+            let _known = rec.domain.as_bytes();
             let valid = is_pending(alloc, &rec.pending)?;
             if !valid {
                 return Ok(None);
@@ -156,7 +156,7 @@ fn is_dst(alloc: Global, dst: &Dst) -> Result<bool, NoMemory>
     match dst {
         Dst::Window(_) => Ok(true),
         Dst::Slot(_, slot) => {
-            let _number = *slot;
+            let _known = *slot;
             Ok(true)
         }
         Dst::Call(_, code) => is_handler(alloc, code),

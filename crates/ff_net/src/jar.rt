@@ -92,9 +92,9 @@ impl Jar {
         if !has_cookie_size(key, value) {
             return Err(Fail::Fault(Fault::Range));
         }
-        let _domain = domain.as_bytes();
-        let _key = key.as_bytes();
-        let _value = value.as_bytes();
+        let _known = domain.as_bytes();
+        let _known = key.as_bytes();
+        let _known = value.as_bytes();
         let place = place_of(&self.cookies, domain, key.as_bytes());
         if place < self.cookies.len() {
             self.cookies

@@ -86,7 +86,7 @@ impl Requests {
         ensures later { copies.old ≤ copies.new }
         ensures copies { copies.new ≤ copies.old + 33 }
     {
-        let _domain = domain.as_bytes();
+        let _known = domain.as_bytes();
         let pending = Pending {
             uri: uri.copy()?,
             dst,

@@ -72,7 +72,7 @@ impl Nodes {
         ensures later { copies.old ≤ copies.new }
         ensures copies { copies.new ≤ copies.old + 16 }
     {
-        let _valid = self.alloc;
+        let _known = self.alloc;
         self.change(n, Started, copies)
     }
 }

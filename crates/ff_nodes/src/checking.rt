@@ -60,35 +60,35 @@ fn is_shape(alloc: Global, shape: &Shape) -> Result<bool, NoMemory>
     match shape {
         Shape::Page(_) => Ok(true),
         Shape::Text(name, text) => {
-            let _name = name.as_bytes();
-            let _utf8 = text.as_bytes();
+            let _known = name.as_bytes();
+            let _known = text.as_bytes();
             Ok(true)
         }
         Shape::Link(name, url, label) => {
-            let _name = name.as_bytes();
-            let _utf8 = label.as_bytes();
+            let _known = name.as_bytes();
+            let _known = label.as_bytes();
             Ok(is_url(url))
         }
         Shape::TextBox(name, text) => {
-            let _name = name.as_bytes();
-            let _utf8 = text.as_bytes();
+            let _known = name.as_bytes();
+            let _known = text.as_bytes();
             Ok(true)
         }
         Shape::Button(name, label) => {
-            let _name = name.as_bytes();
-            let _utf8 = label.as_bytes();
+            let _known = name.as_bytes();
+            let _known = label.as_bytes();
             Ok(true)
         }
         Shape::Script(name, _, body) => {
-            let _name = name.as_bytes();
+            let _known = name.as_bytes();
             is_expr(alloc, body.get())
         }
         Shape::Src(name, _, url) => {
-            let _name = name.as_bytes();
+            let _known = name.as_bytes();
             Ok(is_url(url))
         }
         Shape::Div(name) => {
-            let _name = name.as_bytes();
+            let _known = name.as_bytes();
             Ok(true)
         }
     }

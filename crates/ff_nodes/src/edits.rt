@@ -36,7 +36,7 @@ impl NewText {
         ensures value { IfOk result (λ change. change ≡ record { text = text.now }) }
         ensures utf8 { IsUtf8 text.now }
     {
-        let _utf8 = text.as_bytes();
+        let _known = text.as_bytes();
         Ok(NewText { text: text.copy()? })
     }
 }

@@ -1,4 +1,5 @@
-//! Documents, laid as new nodes behind the ones that there are.
+//! Documents, laid as new nodes behind the ones that there are. Room for all of a document is
+//! counted before anything is laid; a division is written twice, at first without its children.
 ghost use Rattle.std.specs.Prelude.{◌≡◌, ◌+◌, ◌*◌, ◌≤◌, [], Some, length, map, IfOk, OnOk};
 ghost use Rattle.ff_machine.specs.Documents as documents;
 ghost use Rattle.ff_machine.specs.Documents.{laid, size_of, numbers, lay_all, handler_code};

@@ -1,4 +1,5 @@
-//! Marks: which names and kinds may stand at and below a node, as bits.
+//! Marks: which names and kinds may stand at and below a node, as 64 bits each. What must hold of
+//! them is local: a node's own bits are set, and a cell's marks lie within its parent's.
 ghost use Rattle.std.specs.Prelude.{◌≡◌, ◌↔◌, ◌<◌, IsTrue};
 ghost use Rattle.std.specs.Int.{bit_at};
 ghost use Rattle.ff_nodes.specs.Marked.{name_bit, kind_bit, IsOwn, AreWithin};

@@ -36,3 +36,34 @@ impl From<NoMemory> for Fail {
         Fail::NoMemory
     }
 }
+
+/// Hands on what a call on a part answered, which may have been refused by a fault. Where it lacked
+/// memory, the part may be half changed: then `emptying`, which puts an empty whole in the place of
+/// the whole, is done first.
+#[macro_export]
+macro_rules! fault_or_emptied {
+    ($answer:expr, $emptying:expr) => {
+        match $answer {
+            Ok(done) => Ok(done),
+            Err($crate::Fail::Fault(fault)) => Err($crate::Fail::Fault(fault)),
+            Err($crate::Fail::NoMemory) => {
+                $emptying;
+                Err($crate::Fail::NoMemory)
+            }
+        }
+    };
+}
+
+/// The same of a call that is refused only for want of memory.
+#[macro_export]
+macro_rules! or_emptied {
+    ($answer:expr, $emptying:expr) => {
+        match $answer {
+            Ok(done) => Ok(done),
+            Err(refused) => {
+                $emptying;
+                Err(refused)
+            }
+        }
+    };
+}

@@ -50,7 +50,7 @@ impl Group {
         ensures made { result ≡ record { state = browser; inbox = [] } }
         ensures valid { IsState browser.budget browser }
     {
-        let _valid = browser.quiet();
+        let _known = browser.quiet();
         Group {
             browser,
             inbox: Inbox::new(alloc),

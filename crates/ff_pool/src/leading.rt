@@ -121,8 +121,8 @@ fn same_classes(these: &[LevelSet], those: &[LevelSet]) -> bool
 fn same_class(this: LevelSet, that: LevelSet) -> bool
     ensures { IsTrue result ↔ (this ≡ that) }
 {
-    let _this_valid = this.len();
-    let _that_valid = that.len();
+    let _known = this.len();
+    let _known = that.len();
     for l in 0..MOST_LEVELS as u8 {
         if this.has(Level(l)) != that.has(Level(l)) {
             return false;

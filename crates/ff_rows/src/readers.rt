@@ -15,7 +15,7 @@ pub(crate) fn made_live(stores: &Stores, page: PageId)
     requires { IsTrue (w.is_live stores.now.windows page) }
     ensures { page.0 < length stores.now.windows.pages }
 {
-    let _windows = stores.windows();
+    let _known = stores.windows();
 }
 
 /// Whether a window is open.

@@ -362,7 +362,7 @@ fn print_levels(levels: LevelSet, lattice: &Lattice, out: &mut Printer)
     requires { All (λ l. l < size lattice.now) levels }
     ensures { Prints out.old out.new (each_after_blank (λ l. word (name lattice.now l)) levels) }
 {
-    let _count = levels.len();
+    let _known = levels.len();
     for number in 0..lattice.size() {
         print_member(levels, Level(number), lattice, out);
     }

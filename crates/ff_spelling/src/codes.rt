@@ -35,11 +35,11 @@ pub fn is_value(alloc: Global, value: &Val) -> Result<bool, NoMemory>
         Val::Null => Ok(true),
         Val::Bool(_) => Ok(true),
         Val::Num(n) => {
-            let _fits = *n;
+            let _known = *n;
             Ok(true)
         }
         Val::Str(text) => {
-            let _utf8 = text.as_bytes();
+            let _known = text.as_bytes();
             Ok(true)
         }
         Val::Win(_) => Ok(true),

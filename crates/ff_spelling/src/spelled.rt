@@ -82,11 +82,11 @@ fn is_lit(lit: &Lit) -> bool
         Lit::Null => true,
         Lit::Bool(_) => true,
         Lit::Num(n) => {
-            let _fits = *n;
+            let _known = *n;
             true
         }
         Lit::Str(text) => {
-            let _utf8 = text.as_bytes();
+            let _known = text.as_bytes();
             true
         }
     }
@@ -247,7 +247,7 @@ fn fits_handler(alloc: Global, handler: &Handler, room: usize) -> Result<bool, N
 fn is_name(name: &Name) -> bool
     ensures { IsTrue result ↔ IsName name.now }
 {
-    let _spelled = name.as_bytes();
+    let _known = name.as_bytes();
     true
 }
 
@@ -255,7 +255,7 @@ fn is_name(name: &Name) -> bool
 fn is_named(name: &Name, text: &Text) -> bool
     ensures { IsTrue result ↔ (IsName name.now × IsUtf8 text.now) }
 {
-    let _spelled = name.as_bytes();
-    let _utf8 = text.as_bytes();
+    let _known = name.as_bytes();
+    let _known = text.as_bytes();
     true
 }

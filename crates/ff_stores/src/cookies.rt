@@ -9,7 +9,7 @@ ghost use Rattle.ff_machine.specs.Stores as s;
 use crate::stores::Stores;
 use ff_name::{Domain, NoMemory, Text};
 use ff_net::Jar;
-use ff_operators::Fail;
+use ff_operators::{Fail, fault_or_emptied, or_emptied};
 use ff_steps::Steps;
 use ff_value::{CookieOp, Cookies};
 use std::alloc::AllocError;
@@ -32,17 +32,13 @@ impl Stores {
         ensures later { copies.old ≤ copies.new }
         ensures copies { copies.new ≤ copies.old + 16 }
     {
-        let _domain = domain.text();
-        let _key = key.as_bytes();
-        let _value = value.as_bytes();
-        match self.jar.put(domain, key, value, copies) {
-            Ok(()) => Ok(()),
-            Err(Fail::Fault(fault)) => Err(Fail::Fault(fault)),
-            Err(Fail::NoMemory) => {
-                *self = Stores::new(self.alloc);
-                Err(Fail::NoMemory)
-            }
-        }
+        let _known = domain.text();
+        let _known = key.as_bytes();
+        let _known = value.as_bytes();
+        fault_or_emptied!(
+            self.jar.put(domain, key, value, copies),
+            *self = Stores::new(self.alloc)
+        )
     }
 
     /// Takes out a domain's cookie, where there is one.
@@ -56,14 +52,11 @@ impl Stores {
         ensures later { copies.old ≤ copies.new }
         ensures copies { copies.new ≤ copies.old + 17 }
     {
-        let _domain = domain.text();
-        match self.jar.delete(domain, key.as_bytes(), copies) {
-            Ok(()) => Ok(()),
-            Err(refused) => {
-                *self = Stores::new(self.alloc);
-                Err(refused)
-            }
-        }
+        let _known = domain.text();
+        or_emptied!(
+            self.jar.delete(domain, key.as_bytes(), copies),
+            *self = Stores::new(self.alloc)
+        )
     }
 
     /// Puts the cookies of a reply, one after another, at its domain. One that can't be put is
@@ -79,14 +72,11 @@ impl Stores {
         ensures later { copies.old ≤ copies.new }
         ensures copies { copies.new ≤ copies.old + 17 * length entries.now }
     {
-        let _domain = domain.text();
-        match put_each(&mut self.jar, domain, entries, copies) {
-            Ok(()) => Ok(()),
-            Err(refused) => {
-                *self = Stores::new(self.alloc);
-                Err(refused)
-            }
-        }
+        let _known = domain.text();
+        or_emptied!(
+            put_each(&mut self.jar, domain, entries, copies),
+            *self = Stores::new(self.alloc)
+        )
     }
 }
 

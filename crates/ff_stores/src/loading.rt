@@ -306,6 +306,6 @@ fn read_name(name: Option<&Text>)
     ensures { ForSome (option_copied name.entry) IsUtf8 }
 {
     if let Some(text) = name {
-        let _bytes = text.as_bytes();
+        let _known = text.as_bytes();
     }
 }

@@ -9,7 +9,7 @@ ghost use Rattle.ff_operators.specs.declared.limits.TheConstants.{MOST_MASS};
 use crate::stores::Stores;
 use ff_machine::Pending;
 use ff_name::{Domain, NoMemory};
-use ff_operators::MOST_MASS;
+use ff_operators::{MOST_MASS, or_emptied};
 use ff_steps::Steps;
 use ff_value::{Body, PageId};
 use std::sync::ledger::Ledger;
@@ -27,13 +27,10 @@ impl Stores {
         ensures later { copies.old ≤ copies.new }
         ensures copies { copies.new ≤ copies.old + 17 * length (net.asked self.old.requests domain.now) }
     {
-        match self.requests.answer(domain, k, copies) {
-            Ok(answer) => Ok(answer),
-            Err(refused) => {
-                *self = Stores::new(self.alloc);
-                Err(refused)
-            }
-        }
+        or_emptied!(
+            self.requests.answer(domain, k, copies),
+            *self = Stores::new(self.alloc)
+        )
     }
 
     /// The mass grows by so much, in bytes, where its limit allows it; answers whether it does.
@@ -78,12 +75,9 @@ impl Stores {
         ensures later { copies.old ≤ copies.new }
         ensures copies { copies.new ≤ copies.old + 33 }
     {
-        match self.windows.fill(page, slot, body, copies) {
-            Ok(waited) => Ok(waited),
-            Err(refused) => {
-                *self = Stores::new(self.alloc);
-                Err(refused)
-            }
-        }
+        or_emptied!(
+            self.windows.fill(page, slot, body, copies),
+            *self = Stores::new(self.alloc)
+        )
     }
 }

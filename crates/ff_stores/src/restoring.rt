@@ -53,7 +53,7 @@ impl Stores {
 fn fit(nodes: &Nodes, windows: &Windows, jar: &Jar, requests: &Requests, mass: u64) -> bool
     ensures { IsTrue result ↔ IsStores (untouched (record { nodes = nodes.now; windows = windows.now; jar = jar.now; requests = requests.now; mass = mass })) }
 {
-    let _cookies = jar.len();
+    let _known = jar.len();
     if !refer(nodes, windows, requests) {
         return false;
     }

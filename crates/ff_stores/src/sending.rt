@@ -44,7 +44,7 @@ impl Stores {
         if !self.requests.room(domain) {
             return Ok(false);
         }
-        let _domain = domain.text();
+        let _known = domain.text();
         let request = Out::Send(
             domain.copy()?,
             uri.copy()?,

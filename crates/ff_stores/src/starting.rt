@@ -13,6 +13,7 @@ ghost use Rattle.ff_stores.specs.Copied.{starting};
 use crate::stores::Stores;
 use ff_machine::Dst;
 use ff_name::{Domain, NoMemory, Text, Url};
+use ff_operators::or_emptied;
 use ff_steps::Steps;
 use ff_value::{Body, Expr, Lit, NodeId, Out, PageId, Shared};
 use std::sync::ledger::Ledger;
@@ -123,13 +124,7 @@ impl Stores {
         ensures later { copies.old ≤ copies.new }
         ensures copies { copies.new ≤ copies.old + 16 }
     {
-        match self.nodes.start(n, copies) {
-            Ok(()) => Ok(()),
-            Err(refused) => {
-                *self = Stores::new(self.alloc);
-                Err(refused)
-            }
-        }
+        or_emptied!(self.nodes.start(n, copies), *self = Stores::new(self.alloc))
     }
 
     // The script at an address is asked for, and a slot waits for it. Where there is no room for
@@ -196,13 +191,10 @@ impl Stores {
         ensures later { copies.old ≤ copies.new }
         ensures copies { copies.new ≤ copies.old + 32 }
     {
-        match self.windows.push_ready(page, body, copies) {
-            Ok(()) => Ok(()),
-            Err(refused) => {
-                *self = Stores::new(self.alloc);
-                Err(refused)
-            }
-        }
+        or_emptied!(
+            self.windows.push_ready(page, body, copies),
+            *self = Stores::new(self.alloc)
+        )
     }
 
     // Puts a waiting slot into the page's queue.

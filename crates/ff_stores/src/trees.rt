@@ -15,7 +15,7 @@ ghost use Rattle.ff_stores.specs.Copied.{starting};
 use crate::stores::Stores;
 use crate::touched::Touched;
 use ff_name::{NoMemory, Text};
-use ff_operators::{Fail, MOST_MASS};
+use ff_operators::{Fail, MOST_MASS, fault_or_emptied};
 use ff_steps::Steps;
 use ff_value::{ActId, Code, Doc, Fault, NodeId, Out, PageId, weight_doc};
 use std::alloc::AllocError;
@@ -156,14 +156,10 @@ impl Stores {
         ensures later { copies.old ≤ copies.new }
         ensures copies { copies.new ≤ copies.old + 16 }
     {
-        match self.nodes.add_handler(n, code, copies) {
-            Ok(()) => Ok(()),
-            Err(Fail::Fault(fault)) => Err(Fail::Fault(fault)),
-            Err(Fail::NoMemory) => {
-                *self = Stores::new(self.alloc);
-                Err(Fail::NoMemory)
-            }
-        }
+        fault_or_emptied!(
+            self.nodes.add_handler(n, code, copies),
+            *self = Stores::new(self.alloc)
+        )
     }
 
     /// Puts a child under a parent at a place, and starts its scripts where the parent is in a live

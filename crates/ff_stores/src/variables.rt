@@ -9,7 +9,7 @@ ghost use Rattle.ff_machine.specs.Valid.{IsVal};
 
 use crate::stores::Stores;
 use ff_name::Name;
-use ff_operators::Fail;
+use ff_operators::{Fail, fault_or_emptied};
 use ff_steps::Steps;
 use ff_value::{ActId, Names, Val};
 use std::sync::ledger::Ledger;
@@ -33,14 +33,10 @@ impl Stores {
         ensures later { copies.old ≤ copies.new }
         ensures copies { copies.new ≤ copies.old + 64 }
     {
-        match self.windows.declare(a, x, v, copies) {
-            Ok(()) => Ok(()),
-            Err(Fail::Fault(fault)) => Err(Fail::Fault(fault)),
-            Err(Fail::NoMemory) => {
-                *self = Stores::new(self.alloc);
-                Err(Fail::NoMemory)
-            }
-        }
+        fault_or_emptied!(
+            self.windows.declare(a, x, v, copies),
+            *self = Stores::new(self.alloc)
+        )
     }
 
     /// Assigns the nearest variable of that name. It is refused with `Name` exactly where there is
@@ -60,14 +56,10 @@ impl Stores {
         ensures later { copies.old ≤ copies.new }
         ensures copies { copies.new ≤ copies.old + 64 }
     {
-        match self.windows.assign(a, x, v, copies) {
-            Ok(()) => Ok(()),
-            Err(Fail::Fault(fault)) => Err(Fail::Fault(fault)),
-            Err(Fail::NoMemory) => {
-                *self = Stores::new(self.alloc);
-                Err(Fail::NoMemory)
-            }
-        }
+        fault_or_emptied!(
+            self.windows.assign(a, x, v, copies),
+            *self = Stores::new(self.alloc)
+        )
     }
 
     /// Makes an activation in which a function runs, with a variable for each parameter. It is
@@ -90,13 +82,9 @@ impl Stores {
         ensures later { copies.old ≤ copies.new }
         ensures copies { copies.new ≤ copies.old + 64 * (length params.now + 1) }
     {
-        match self.windows.new_act(parent, params, args, copies) {
-            Ok(n) => Ok(n),
-            Err(Fail::Fault(fault)) => Err(Fail::Fault(fault)),
-            Err(Fail::NoMemory) => {
-                *self = Stores::new(self.alloc);
-                Err(Fail::NoMemory)
-            }
-        }
+        fault_or_emptied!(
+            self.windows.new_act(parent, params, args, copies),
+            *self = Stores::new(self.alloc)
+        )
     }
 }

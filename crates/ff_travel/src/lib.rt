@@ -2,8 +2,13 @@
 //!
 //! A trace of commands takes the place of one of inputs. [`read_command`] says what a line of it
 //! is, and a [`Travel`] keeps the pool as it was before each command that is in force, so that
-//! `back` is as exact as it is quick. What `show` writes is read off the definitions alone: it is
-//! what a fresh replay of the commands still in force would show.
+//! `back` is as exact as it is quick. It is kept as a fork of which all outputs were taken, and the
+//! number of each level's outputs until then; the outputs lie beside the pool once for each level,
+//! and stepping back cuts them. Inputs that wait are shared by forks but for the last sixteen. So a
+//! travel is as long as its commands and its outputs.
+//!
+//! What `show` writes is read off the definitions alone: it is what a fresh replay of the commands
+//! still in force would show.
 //!
 //! What `show` writes is for whoever may see every level: the line of a class tells a level that
 //! others were offered something else.

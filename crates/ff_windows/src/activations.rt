@@ -8,7 +8,7 @@ ghost use Rattle.ff_value.specs.Spelled.{IsWellSpelledVal};
 
 use crate::windows::Windows;
 use ff_name::Name;
-use ff_operators::Fail;
+use ff_operators::{Fail, fault_or_emptied};
 use ff_steps::Steps;
 use ff_value::{ActId, Names, Val};
 use std::sync::ledger::Ledger;
@@ -41,14 +41,10 @@ impl Windows {
         ensures later { copies.old ≤ copies.new }
         ensures copies { copies.new ≤ copies.old + 64 }
     {
-        match self.acts.declare(a, x, v, copies) {
-            Ok(()) => Ok(()),
-            Err(Fail::Fault(fault)) => Err(Fail::Fault(fault)),
-            Err(Fail::NoMemory) => {
-                *self = Windows::new(self.alloc);
-                Err(Fail::NoMemory)
-            }
-        }
+        fault_or_emptied!(
+            self.acts.declare(a, x, v, copies),
+            *self = Windows::new(self.alloc)
+        )
     }
 
     /// Gives the nearest variable of a name another well spelled value, from an activation that
@@ -69,14 +65,10 @@ impl Windows {
         ensures later { copies.old ≤ copies.new }
         ensures copies { copies.new ≤ copies.old + 64 }
     {
-        match self.acts.assign(a, x, v, copies) {
-            Ok(()) => Ok(()),
-            Err(Fail::Fault(fault)) => Err(Fail::Fault(fault)),
-            Err(Fail::NoMemory) => {
-                *self = Windows::new(self.alloc);
-                Err(Fail::NoMemory)
-            }
-        }
+        fault_or_emptied!(
+            self.acts.assign(a, x, v, copies),
+            *self = Windows::new(self.alloc)
+        )
     }
 
     /// Makes an activation under one that there is, in which parameters that differ are declared
@@ -100,13 +92,9 @@ impl Windows {
         ensures later { copies.old ≤ copies.new }
         ensures copies { copies.new ≤ copies.old + 64 * (length params.now + 1) }
     {
-        match self.acts.new_act(parent, params, args, copies) {
-            Ok(a) => Ok(a),
-            Err(Fail::Fault(fault)) => Err(Fail::Fault(fault)),
-            Err(Fail::NoMemory) => {
-                *self = Windows::new(self.alloc);
-                Err(Fail::NoMemory)
-            }
-        }
+        fault_or_emptied!(
+            self.acts.new_act(parent, params, args, copies),
+            *self = Windows::new(self.alloc)
+        )
     }
 }

@@ -89,7 +89,7 @@ impl Windows {
         ensures later { copies.old ≤ copies.new }
         ensures copies { copies.new ≤ copies.old + 17 }
     {
-        let _opened = self.opened();
+        let _known = self.opened();
         let mut cell = self.window(n).copy(copies)?;
         cell.show(page);
         self.set_window(n, cell, copies)
@@ -103,7 +103,7 @@ impl Windows {
         ensures copies { copies.new ≡ copies.old }
     {
         let was = self.is_open(n);
-        let _opened = self.opened();
+        let _known = self.opened();
         self.remove_opened(n);
         Ok(was)
     }

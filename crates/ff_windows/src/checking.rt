@@ -94,7 +94,7 @@ fn is_window(win: &WinRec, wins: usize, pages: usize) -> bool
     ensures { IsTrue result ↔ IsWindow wins pages (window_of win.now) }
 {
     if let Some(name) = &win.name {
-        let _utf8 = name.as_bytes();
+        let _known = name.as_bytes();
     }
     has_opener(win.opener, wins) && (win.page.0 as usize) < pages
 }

@@ -79,7 +79,7 @@ impl Pages {
         ensures later { copies.old ≤ copies.new }
         ensures copies { copies.new ≤ copies.old + 15 }
     {
-        let _count = self.cells.len();
+        let _known = self.cells.len();
         let ready = counted(self.ready, false, cell.is_ready());
         let Ok(()) = self.cells.push(cell, copies) else {
             return Err(AllocError);
@@ -101,7 +101,7 @@ impl Pages {
         ensures later { copies.old ≤ copies.new }
         ensures copies { copies.new ≤ copies.old + 16 }
     {
-        let _count = self.cells.len();
+        let _known = self.cells.len();
         let ready = counted(self.ready, is_ready_at(&self.cells, i), cell.is_ready());
         let Ok(()) = self.cells.set(i, cell, copies) else {
             return Err(AllocError);
@@ -124,7 +124,7 @@ impl Pages {
         ensures later { copies.old ≤ copies.new }
         ensures copies { copies.new ≤ copies.old + 16 }
     {
-        let _count = self.cells.len();
+        let _known = self.cells.len();
         let was = is_ready_at(&self.cells, i);
         let Ok(()) = self.cells.edit(i, edit, copies) else {
             return Err(AllocError);

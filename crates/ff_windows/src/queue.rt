@@ -1,4 +1,8 @@
 //! The queue of a page's scripts.
+//!
+//! It is two shared lists: the first is read from a place on, and the second takes what comes once
+//! the first is full. Taking an entry out moves none, and no list is ever built anew, so a change
+//! copies a bounded number of cells.
 ghost use Rattle.std.specs.Prelude.{◌≡◌, ◌+◌, ◌<◌, ◌≤◌, Some, [], ◌∷◌, ◌++◌, map, drop, length, filter_map, nat_eq, slice_get, slice_set, IfOk, OnOk};
 ghost use Rattle.std.specs.List.{IsDistinct, list_any, position_or_len};
 ghost use Rattle.std.specs.Option.{option_copied};

@@ -44,7 +44,7 @@ impl WinCell {
     {
         let name = match name {
             Some(text) => {
-                let _bytes = text.as_bytes();
+                let _known = text.as_bytes();
                 Some(text.copy()?)
             }
             None => None,
