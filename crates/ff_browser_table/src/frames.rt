@@ -2,10 +2,10 @@
 //! one.
 //!
 //! The expression is printed again. A line follows for each of its reductions: how many calls stand
-//! around the redex, and the redex, in which values stand for evaluated parts; a redex that no store
-//! decides is `local`. Then comes the value. After the tenth reduction a fork is made, and once the
-//! expression has its value the fork goes on by itself, in the same way. On a line that begins with
-//! `!` stands the body of a function, which is called with the number 6.
+//! around the redex, and the redex, in which values stand for evaluated parts; a redex that no
+//! store decides is `local`. Then comes the value. After the tenth reduction a fork is made, and
+//! once the expression has its value the fork goes on by itself, in the same way. On a line that
+//! begins with `!` stands the body of a function, which is called with the number 6.
 
 use crate::redexes;
 use anyhow::Result;

@@ -9,8 +9,8 @@
 //! - `fork` keeps a fork of the trees in place of the one before, and `swap` goes on with the fork,
 //!   and keeps the trees in its place.
 //! - `tree NODE` prints what is read off the tree of a node: what is shown of it, its scripts that
-//!   weren't started, the nodes of each kind by their numbers, the first of each name that is one of
-//!   the letters from a to h, and the page in whose tree it stands.
+//!   weren't started, the nodes of each kind by their numbers, the first of each name that is one
+//!   of the letters from a to h, and the page in whose tree it stands.
 //! - `node NODE` prints what is read off the node itself, and `len` how many nodes were made.
 
 use crate::tree_words::{live, parted};

@@ -1,6 +1,6 @@
 //! How many turns the inputs of a trace take under the built-in policy, counted call by call: each
-//! class with work makes steps until it has none, and the step in which a class takes an input is no
-//! turn.
+//! class with work makes steps until it has none, and the step in which a class takes an input is
+//! no turn.
 ghost use Rattle.std.specs.Prelude.{◌≡◌, ◌<◌, false, IfOk, IfSome};
 ghost use Rattle.ff_lattice.specs.Order.{size as count_levels};
 ghost use Rattle.ff_reactive.specs.Worlds.{OfferOk, AreOffers};

@@ -1,7 +1,7 @@
-//! Prints what a browser by itself and its fork do. Then, for each trace of its input, which a heading
-//! begins, how many turns each of its inputs takes; or, where the heading says so, the story of a pool
-//! of two levels that its lines tell, what an audit of them finds, or which pools are made of the
-//! classes that they name.
+//! Prints what a browser by itself and its fork do. Then, for each trace of its input, which a
+//! heading begins, how many turns each of its inputs takes; or, where the heading says so, the
+//! story of a pool of two levels that its lines tell, what an audit of them finds, or which pools
+//! are made of the classes that they name.
 #![tactic(auto)]
 
 mod alone;

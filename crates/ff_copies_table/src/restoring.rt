@@ -1,5 +1,5 @@
-//! Pools that are made of classes, with a new browser for each: what is printed is how many levels are
-//! one copy with each level, or that no pool has these classes.
+//! Pools that are made of classes, with a new browser for each: what is printed is how many levels
+//! are one copy with each level, or that no pool has these classes.
 ghost use Rattle.std.specs.Prelude.{◌<◌, ◌≤◌, All, IfOk};
 ghost use Rattle.ff_pool.specs.Restored.{IsReady};
 

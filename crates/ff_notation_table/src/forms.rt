@@ -1,5 +1,5 @@
-//! Documents, expressions and responses: what each is, what it weighs, and its canonical spelling, where
-//! it equals its copy.
+//! Documents, expressions and responses: what each is, what it weighs, and its canonical spelling,
+//! where it equals its copy.
 
 use crate::spelling::{address, text_of};
 use anyhow::{Result, bail};

@@ -32,8 +32,8 @@ impl Model for Group {
 }
 
 impl Group {
-    /// A browser to which each input brings so much fuel, from 1 to `MOST_BUDGET`. Nothing waits for
-    /// it.
+    /// A browser to which each input brings so much fuel, from 1 to `MOST_BUDGET`. Nothing waits
+    /// for it.
     pub(crate) fn new(alloc: Global, fuel: u32) -> Group
         requires some { 1 ≤ fuel }
         requires few { fuel ≤ MOST_BUDGET }

@@ -9,9 +9,9 @@
 //! The pool knows what a level is offered and not why: it knows no policy.
 //!
 //! It holds a slot for each level and an array of leaders, the least level of each class. Classes
-//! only part, so a slot that leads no class is the empty browser. In a drain a class is visited once
-//! for each slice: its browser makes the steps one after another, and then each level is given what
-//! they put. A slice counts steps, those that take an input too.
+//! only part, so a slot that leads no class is the empty browser. In a drain a class is visited
+//! once for each slice: its browser makes the steps one after another, and then each level is given
+//! what they put. A slice counts steps, those that take an input too.
 //!
 //! # Want of memory
 //!

@@ -13,8 +13,8 @@ use std::alloc::AllocError;
 use std::sync::ledger::Ledger;
 
 impl Pool {
-    /// The events in order, where a step of a level without work changes nothing. `turns` counts the
-    /// turns of each class once, as single steps do. After want of memory the pool is spent.
+    /// The events in order, where a step of a level without work changes nothing. `turns` counts
+    /// the turns of each class once, as single steps do. After want of memory the pool is spent.
     ///
     /// From a new pool, whatever the events are: the outputs of each level begin what one browser
     /// puts that takes what the level was offered, and are all of that where the level is quiet;

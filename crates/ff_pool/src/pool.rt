@@ -58,8 +58,8 @@ impl Model for Pool {
 }
 
 impl Pool {
-    /// A pool of `n` levels, from 1 to `MOST_LEVELS`, all in one class, to whose browsers each input
-    /// brings so much fuel, from 1 to `MOST_BUDGET`. Its one refusal is want of memory.
+    /// A pool of `n` levels, from 1 to `MOST_LEVELS`, all in one class, to whose browsers each
+    /// input brings so much fuel, from 1 to `MOST_BUDGET`. Its one refusal is want of memory.
     #[tactic(auto, using(crate::proofs::Making::made_more))]
     pub fn new(alloc: Global, n: u8, fuel: u32) -> Result<Pool, NoMemory>
         requires some { 1 ≤ n }
@@ -260,8 +260,8 @@ impl Pool {
         Ok(())
     }
 
-    /// One step of the class of a level that has work, and up to `more` further ones as long as it has
-    /// some. After want of memory the pool is spent.
+    /// One step of the class of a level that has work, and up to `more` further ones as long as it
+    /// has some. After want of memory the pool is spent.
     pub(crate) fn visit<C: Ledger, L: Ledger>(
         &mut self,
         l: Level,

@@ -18,10 +18,10 @@ use ff_stream::stream;
 use std::alloc::Global;
 use std::sync::ledger::Ledger;
 
-/// Multi-executes the trace that the port gives, line by line, where these rules let a stated number
-/// of inputs pass to lower levels. A class makes up to `slice` steps before the next one has its
-/// turn, from 1 on. `turns` counts the turns of each class once, and `copies` the cells that are
-/// copied.
+/// Multi-executes the trace that the port gives, line by line, where these rules let a stated
+/// number of inputs pass to lower levels. A class makes up to `slice` steps before the next one has
+/// its turn, from 1 on. `turns` counts the turns of each class once, and `copies` the cells that
+/// are copied.
 pub fn release<P: Port, C: Ledger, L: Ledger>(
     alloc: Global,
     policy: &Policy,

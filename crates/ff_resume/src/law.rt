@@ -14,10 +14,10 @@ ghost use Rattle.ff_session.specs.Multi.{multi_text, multi_turns, run_text, run_
 ghost use Rattle.ff_trace.specs.Lines.{IsInputOf};
 ghost use Rattle.ff_value.specs.declared.input.Input.{Input};
 
-/// The text of a run over some inputs and then others is that of the run over the first ones and then,
-/// from where the copies then stand, over the others, and so are its turns; in the end the copies stand
-/// where they stand after the whole run, and so are saved as the same text. From new copies on, it is
-/// the multi-executed run.
+/// The text of a run over some inputs and then others is that of the run over the first ones and
+/// then, from where the copies then stand, over the others, and so are its turns; in the end the
+/// copies stand where they stand after the whole run, and so are saved as the same text. From new
+/// copies on, it is the multi-executed run.
 pub fn parts_of_a_run_are_the_whole_run()
     ensures text { (p : Assignment) (from : Standing State) (is js : List Input)
         → run_text p (seen_by p) from (is ++ js) ≡ run_text p (seen_by p) from is ++ run_text p (seen_by p) (stands_after p from is) js }
@@ -27,8 +27,8 @@ pub fn parts_of_a_run_are_the_whole_run()
     ensures multi { (p : Assignment) (is : List Input) → run_text p (seen_by p) (fresh (machine p)) is ≡ text_out (levels p) (multi (machine p) (levels p) is) }
 {}
 
-/// New copies are those of a pool at rest, and the run from where they stand is the multi-executed one,
-/// in as many turns.
+/// New copies are those of a pool at rest, and the run from where they stand is the multi-executed
+/// one, in as many turns.
 pub fn new_copies_are_at_rest()
     ensures rests { (p : Assignment) → IsResting (size p.order) p.fuel (new_copies p) }
     ensures text { (p : Assignment) (is : List Input) → run_text p (seen_by p) (stand_of (new_copies p)) is ≡ multi_text p is }
@@ -43,8 +43,8 @@ pub fn a_run_ends_at_rest()
 
 /// The pool that is read from what a run over some inputs was saved as goes on over others as the
 /// unbroken run does: the text before the save and the text after it, joined, are that run's, in as
-/// many turns as from where the first inputs have brought the copies, and in the end it is saved as the
-/// same text.
+/// many turns as from where the first inputs have brought the copies, and in the end it is saved as
+/// the same text.
 pub fn what_was_saved_goes_on()
     ensures text { (p : Assignment) (from : Pooled) (is js : List Input) (read : Pooled) → IsAssignment p → WasSaved p from is read
         → run_text p (seen_by p) (stand_of from) (is ++ js) ≡ run_text p (seen_by p) (stand_of from) is ++ run_text p (seen_by p) (stand_of read) js }

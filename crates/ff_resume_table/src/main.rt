@@ -1,5 +1,5 @@
-//! Cuts the traces of its input after each line, saves the copies there, resumes, and says whether the
-//! lines and the saved text at the end are those of the unbroken run.
+//! Cuts the traces of its input after each line, saves the copies there, resumes, and says whether
+//! the lines and the saved text at the end are those of the unbroken run.
 //!
 //! - `# TEXT` begins a new case, and is printed.
 //! - `policy JSON` is the policy; where there is none, it is the one that is built in.

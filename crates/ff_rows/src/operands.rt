@@ -1,5 +1,5 @@
-//! Readers of operands: one for each list of kinds that an operator over the stores takes. Texts and
-//! functions are lent. What the operands refer to was made where the operands' values were.
+//! Readers of operands: one for each list of kinds that an operator over the stores takes. Texts
+//! and functions are lent. What the operands refer to was made where the operands' values were.
 ghost use Rattle.std.specs.Prelude.{◌≡◌, ◌<◌, All, IfSome};
 ghost use Rattle.ff_operators.specs.Operands as operands;
 ghost use Rattle.ff_machine.specs.References.{Made};

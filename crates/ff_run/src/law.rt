@@ -20,9 +20,10 @@ pub fn drawn_lines_are_a_trace()
     ensures trace { (start n : ℕ) → n ≤ MOST_LINES → (is : List Input) × AreDrawn builtin.order start n is × IsTraceFor builtin true (workload start n) is None }
 {}
 
-/// Two runs with `resume` in a row are the unbroken one, where the second begins with the file in which
-/// the saved text of the first was kept. What the unbroken run puts, its saved text included, is what
-/// the first put before its saved text, and then all that the second puts; its turns are those of both.
+/// Two runs with `resume` in a row are the unbroken one, where the second begins with the file in
+/// which the saved text of the first was kept. What the unbroken run puts, its saved text included,
+/// is what the first put before its saved text, and then all that the second puts; its turns are
+/// those of both.
 pub fn two_runs_in_a_row_are_the_unbroken_one()
     ensures text { (p : Assignment) (before now : ShelfTold) (name file : List ℕ) (from read : Pooled) (is js : List Input) → IsAssignment p → AreInARow p before name from is now file read
         → (resume_duty p (stand_of from)).text true (is ++ js) ≡ run_text p (seen_by p) (stand_of from) is ++ (resume_duty p (stand_of read)).text true js }

@@ -1,8 +1,8 @@
 //! The top call: `run` obeys a command. It reads a trace from a port and multi-executes it with one
 //! copy of the browser for each level (secure multi-execution: Devriese and Piessens 2010; in the
 //! form for reactive machines: Bielova and others 2011), runs one browser over it, or formats it;
-//! or it writes what the levels of a policy see, or the policy itself, or how much each level has of
-//! a run over inputs that are drawn from a number.
+//! or it writes what the levels of a policy see, or the policy itself, or how much each level has
+//! of a run over inputs that are drawn from a number.
 #![tactic(auto)]
 
 mod check;

@@ -17,8 +17,8 @@ use ff_steps::Steps;
 use std::alloc::Global;
 use std::sync::ledger::Ledger;
 
-/// Multi-executes the trace under a policy, from where the copies of this name stand, and saves where
-/// they then stand.
+/// Multi-executes the trace under a policy, from where the copies of this name stand, and saves
+/// where they then stand.
 #[tactic(auto, using(crate::proofs::StateFaults::named_rests))]
 pub(crate) fn resume_by<S: Shelf, P: Port, C: Ledger, L: Ledger>(
     alloc: Global,

@@ -51,7 +51,8 @@ impl Named for StateFile<'_> {
         Pool::new(alloc, lattice.size(), self.policy.fuel())
     }
 
-    /// The copies of the bytes. Else the run ends with `Saved` and their fault, or for want of memory.
+    /// The copies of the bytes. Else the run ends with `Saved` and their fault, or for want of
+    /// memory.
     fn read<C: Ledger>(
         &self,
         alloc: Global,

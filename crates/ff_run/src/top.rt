@@ -37,24 +37,24 @@ use std::sync::ledger::Ledger;
 /// copy. `multi POLICY SLICE` writes the same: copies with work make up to SLICE steps at a time,
 /// from 1 to 4,294,967,295, and 1,000 where no number is given. `plain POLICY` runs one browser
 /// over the trace, and writes all its lines. `fmt POLICY` writes each input of it in its canonical
-/// form. These three write the text of the lines that were got before they read further. `audit
-/// POLICY` runs both programs over the trace, and writes once reading has ended where their lines
-/// first differ, for each level: `Leaks` where some level's lines do. `travel POLICY` carries out
-/// commands in place of inputs, and writes what each `show` asks for before it reads further.
+/// form. These three write the text of the lines that were got before they read further.
+/// `audit POLICY` runs both programs over the trace, and writes once reading has ended where their
+/// lines first differ, for each level: `Leaks` where some level's lines do. `travel POLICY` carries
+/// out commands in place of inputs, and writes what each `show` asks for before it reads further.
 /// `check POLICY` reads no trace, and writes for each level which levels it sees; `upgrade POLICY`
-/// reads none either, and writes the policy as version 2. `gen START N` multi-executes N inputs, at most
-/// 100,000, that are drawn from START, below 2^64, under the built-in policy, and writes how many
-/// lines and bytes each level has. `resume POLICY FROM` does as `multi` does, from the saved state that
-/// FROM holds on, and writes after a good trace the saved state of where the copies then stand.
-/// `release POLICY RULES` does as `multi` does, but lets a stated number of inputs pass to lower levels.
-/// POLICY is the name of a file on the shelf, of which the first 65,537 bytes count, or `-` for the
-/// built-in policy; RULES likewise, and `-` stands for none; of FROM the first 4,294,967,296 bytes
-/// count, and `-` stands for new copies.
-/// Numbers are in canonical decimal. Every other list of words is `Usage`.
+/// reads none either, and writes the policy as version 2. `gen START N` multi-executes N inputs, at
+/// most 100,000, that are drawn from START, below 2^64, under the built-in policy, and writes how
+/// many lines and bytes each level has. `resume POLICY FROM` does as `multi` does, from the saved
+/// state that FROM holds on, and writes after a good trace the saved state of where the copies then
+/// stand. `release POLICY RULES` does as `multi` does, but lets a stated number of inputs pass to
+/// lower levels. POLICY is the name of a file on the shelf, of which the first 65,537 bytes count,
+/// or `-` for the built-in policy; RULES likewise, and `-` stands for none; of FROM the first
+/// 4,294,967,296 bytes count, and `-` stands for new copies. Numbers are in canonical decimal.
+/// Every other list of words is `Usage`.
 ///
-/// `words` doesn't hold the program's name. Each status but `Done` and `Leaks` puts its one line on the error
-/// sink; a fault of that sink changes no status. `turns` counts the turns of all browsers, those of
-/// copies that are shared once, and `copies` the cells that they copy.
+/// `words` doesn't hold the program's name. Each status but `Done` and `Leaks` puts its one line on
+/// the error sink; a fault of that sink changes no status. `turns` counts the turns of all
+/// browsers, those of copies that are shared once, and `copies` the cells that they copy.
 pub fn run<S: Shelf, P: Port, E: Sink, C: Ledger, L: Ledger>(
     alloc: Global,
     words: &[String],
@@ -78,8 +78,8 @@ pub fn run<S: Shelf, P: Port, E: Sink, C: Ledger, L: Ledger>(
     ensures precise { (name : List ℕ) → Asks words.now multi name → IsAnswered result
         → ClaimsUnder (S.told shelf.old) name (P.told port.old) (P.told port.new) (λ p is put. IsPrecise (machine p) (levels p) is put) }
 
-    // The claim of `release`: each level is told no more than is offered at or below it, no rule makes
-    // more offers than its quota, and where none makes any, the text is that of `multi`.
+    // The claim of `release`: each level is told no more than is offered at or below it, no rule
+    // makes more offers than its quota, and where none makes any, the text is that of `multi`.
     ensures released { (name file : List ℕ) → AsksBy words.now Command.Release name file → IsAnswered result
         → ReleasedUnder (S.told shelf.old) name file (P.told port.old) (P.told port.new) }
 

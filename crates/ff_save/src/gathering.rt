@@ -104,7 +104,8 @@ impl Gathering {
         Ok(true)
     }
 
-    /// Makes the browser of the last class, if there is one. False where no stores have its records.
+    /// Makes the browser of the last class, if there is one. False where no stores have its
+    /// records.
     fn end_class<C: Ledger>(&mut self, copies: &mut Steps<C>) -> Result<bool, NoMemory>
         requires some { 1 ≤ self.old.fuel }
         requires few { self.old.fuel ≤ MOST_BUDGET }
@@ -126,7 +127,8 @@ impl Gathering {
         }
     }
 
-    /// The pool of `n` levels at rest with these classes and browsers, or `None` where there is none.
+    /// The pool of `n` levels at rest with these classes and browsers, or `None` where there is
+    /// none.
     pub(crate) fn finish<C: Ledger>(
         self,
         n: u8,
@@ -160,7 +162,8 @@ impl Gathering {
     }
 }
 
-/// What is answered for a line that says no row: it is none of a saved text, or there was no memory.
+/// What is answered for a line that says no row: it is none of a saved text, or there was no
+/// memory.
 fn no_row(fault: LineFault) -> Result<bool, NoMemory>
     ensures { IfOk result (λ found. (found ≡ false) × (fault ≢ LineFault.NoMemory)) }
 {

@@ -34,14 +34,14 @@ pub fn equal_records_are_of_equal_pools()
     ensures { (n fuel : ℕ) (p q : Pooled) → n ≤ MOST_LEVELS → IsResting n fuel p → IsResting n fuel q → saved_recs p ≡ saved_recs q → p ≡ q }
 {}
 
-/// Bytes are the saved text of at most one pool: a pool at rest that would be saved as them is the one
-/// that is read from them, whether or not anything else is known of its lines.
+/// Bytes are the saved text of at most one pool: a pool at rest that would be saved as them is the
+/// one that is read from them, whether or not anything else is known of its lines.
 pub fn a_saved_text_is_of_one_pool()
     ensures { (policy : Assignment) (bytes : List ℕ) (a b : Pooled) → IsAssignment policy → IsSaved policy bytes a → IsResting (size policy.order) policy.fuel b → bytes ≡ saved_text policy (saved_recs b) → a ≡ b }
 {}
 
-/// The rows of the records of valid stores are well spelled, with numbers of 32 bits, and give these
-/// records where they are gathered one after another.
+/// The rows of the records of valid stores are well spelled, with numbers of 32 bits, and give
+/// these records where they are gathered one after another.
 pub fn rows_of_valid_stores_are_rows()
     ensures rows { (order : Order) (s : Stores) → IsStores s → All (IsRow order) (stores_rows (stores_recs s)) }
     ensures again { (s : Stores) → IsStores s → added_all no_recs (stores_rows (stores_recs s)) ≡ Some (stores_recs s) }

@@ -1,11 +1,11 @@
 //! What copies of the browser are saved as.
 //!
-//! `specs/Saved` says which records a pool at rest has, its classes and the records of one browser for
-//! each, and the text of their rows. [`write_saved`] appends this text, and [`read_saved`] gives the
-//! pool whose text some bytes are: it reads their lines in whatever spelling, makes the pool of their
-//! records, writes it again, and compares the bytes. [`put_stores`] appends the rows of the stores of
-//! one browser, and [`restore_stores`] makes stores of their records. Nothing is lost in records: equal
-//! ones are of equal stores, browsers and pools.
+//! `specs/Saved` says which records a pool at rest has, its classes and the records of one browser
+//! for each, and the text of their rows. [`write_saved`] appends this text, and [`read_saved`]
+//! gives the pool whose text some bytes are: it reads their lines in whatever spelling, makes the
+//! pool of their records, writes it again, and compares the bytes. [`put_stores`] appends the rows
+//! of the stores of one browser, and [`restore_stores`] makes stores of their records. Nothing is
+//! lost in records: equal ones are of equal stores, browsers and pools.
 #![tactic(auto)]
 
 mod fail;

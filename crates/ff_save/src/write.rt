@@ -22,8 +22,8 @@ use ff_saved::{put_class, put_end, put_head, put_policy};
 use std::alloc::Global;
 
 /// Appends the saved text of a pool at rest that has a copy for each level of the policy, with the
-/// policy's fuel. Its one refusal is want of memory, after which a front of the text was appended. It
-/// writes texts too that are too long to be read.
+/// policy's fuel. Its one refusal is want of memory, after which a front of the text was appended.
+/// It writes texts too that are too long to be read.
 #[tactic(auto, using(ff_contract::proofs::Sequence::front_none))]
 pub fn write_saved(
     alloc: Global,

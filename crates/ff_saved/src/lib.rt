@@ -2,8 +2,8 @@
 //! copies, one line for each row, as items of the notation.
 //!
 //! `Rows` says how each row is spelled, and which rows the records of one browser's stores are, in
-//! which order. The printers append the lines of records. [`read_row`] reads a line that is spelled so;
-//! it reads other spellings of the row too, so who needs the very bytes prints the rows again.
+//! which order. The printers append the lines of records. [`read_row`] reads a line that is spelled
+//! so; it reads other spellings of the row too, so who needs the very bytes prints the rows again.
 //! [`Draft`] gathers the rows of one browser's stores as records.
 #![tactic(auto)]
 

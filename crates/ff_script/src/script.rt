@@ -25,7 +25,8 @@ impl Script {
         Ok(Script { control, store })
     }
 
-    /// Begins to call a function without parameters, whose body is an expression, with the number 6.
+    /// Begins to call a function without parameters, whose body is an expression, with the number
+    /// 6.
     pub fn start_call(alloc: Global, body: &Body) -> Result<Script, NoMemory> {
         let params = Names::from_vec(alloc, Vec::new(alloc))?;
         let code = code(&params, body, ActId(0))?;

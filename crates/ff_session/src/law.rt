@@ -16,8 +16,8 @@ ghost use Rattle.ff_status.specs.declared.status.TraceFault.{TraceFault};
 ghost use Rattle.ff_stream.specs.declared.end.BadLine.{BadLine};
 ghost use Rattle.ff_session.specs.Works.{IsTraceFor};
 
-/// A trace is read, and in one way: the bytes, and whether they are all, determine the inputs before
-/// the first bad line, and that line with its fault.
+/// A trace is read, and in one way: the bytes, and whether they are all, determine the inputs
+/// before the first bad line, and that line with its fault.
 pub fn a_trace_is_read_in_one_way()
     ensures some { (p : Assignment) (ended : Bool) (bytes : List ℕ) → (is : List Input) × (bad : Option (BadLine TraceFault)) × IsTraceFor p ended bytes is bad }
     ensures one { (p : Assignment) (ended : Bool) (bytes : List ℕ) (is js : List Input) (bad other : Option (BadLine TraceFault)) → IsTraceFor p ended bytes is bad → IsTraceFor p ended bytes js other → (is ≡ js) × (bad ≡ other) }
@@ -32,9 +32,9 @@ pub fn a_run_goes_on_from_where_its_copies_stand()
     ensures turns { (p : Assignment) (is : List Input) → work_of (machine p) (levels p) (seen_by p) (fresh (machine p)) same_input is ≡ work (machine p) (levels p) same_input is }
 {}
 
-/// Whatever the copies of the levels are offered of well spelled inputs, and wherever they stand: the
-/// view of each level is the same on all inputs of which the levels at or below it are offered the
-/// same.
+/// Whatever the copies of the levels are offered of well spelled inputs, and wherever they stand:
+/// the view of each level is the same on all inputs of which the levels at or below it are offered
+/// the same.
 pub fn a_view_depends_on_what_is_offered_at_or_below()
     ensures { (p : Assignment) (offers : Offering Input) (from : Standing State) → IsAssignment p
         → ((before : List Input) (l : ℕ) (i x : Input) → IsInputOf p.order i → offers before l i ≡ Some x → IsInputOf p.order x)

@@ -20,8 +20,8 @@ use std::sync::ledger::Ledger;
 
 /// Lets each level's offer of an input come to its copy, lets all copies do what then waits, and
 /// appends the lines of what they put, level by level. `turns` counts the turns of each class once.
-/// A class makes up to `slice` steps before the next one has its turn, from 1 on. Its one refusal is
-/// want of memory, and then the pool isn't used any more.
+/// A class makes up to `slice` steps before the next one has its turn, from 1 on. Its one refusal
+/// is want of memory, and then the pool isn't used any more.
 pub fn take_offers<C: Ledger, L: Ledger>(
     policy: &Policy,
     slice: u32,

@@ -19,9 +19,10 @@ use std::alloc::{AllocError, Global};
 use std::sync::ledger::Ledger;
 
 impl Task {
-    /// What one fuel makes of the task: one reduction, where its page is live; answers whether it goes
-    /// on. It is gone where its page isn't live, where it is a value, and where it failed: then its
-    /// error is put, at the place of the page's window. After want of memory it runs `null`.
+    /// What one fuel makes of the task: one reduction, where its page is live; answers whether it
+    /// goes on. It is gone where its page isn't live, where it is a value, and where it failed:
+    /// then its error is put, at the place of the page's window. After want of memory it runs
+    /// `null`.
     pub fn work<C: Ledger>(
         &mut self,
         alloc: Global,

@@ -106,8 +106,8 @@ impl Stores {
         put(outs, Out::Loaded(place, url.copy()?, shown))
     }
 
-    /// An open window goes to an address, where there is room; answers whether there is. It shows an
-    /// empty page, or a request is sent for it.
+    /// An open window goes to an address, where there is room; answers whether there is. It shows
+    /// an empty page, or a request is sent for it.
     pub fn go<C: Ledger>(
         &mut self,
         window: WinId,
@@ -192,8 +192,8 @@ impl Stores {
         }
     }
 
-    /// The user opens a window at an address, where there is room for it; then a request is sent for
-    /// it, where there is room for that.
+    /// The user opens a window at an address, where there is room for it; then a request is sent
+    /// for it, where there is room for that.
     pub fn opens<C: Ledger>(
         &mut self,
         url: &Url,

@@ -56,8 +56,8 @@ impl Stores {
         }
     }
 
-    /// A script sets the text of a node. It is refused with `Kind` exactly where the node's kind has
-    /// none, and then with `Limit` exactly where the mass would pass its limit.
+    /// A script sets the text of a node. It is refused with `Kind` exactly where the node's kind
+    /// has none, and then with `Limit` exactly where the mass would pass its limit.
     pub fn set_text<C: Ledger>(
         &mut self,
         n: NodeId,
@@ -164,8 +164,8 @@ impl Stores {
 
     /// Puts a child under a parent at a place, and starts its scripts where the parent is in a live
     /// page. The refusals, in order: `Kind` where the parent's kind has no children or the child is
-    /// a root; `Range` where the child has a parent, the parent is in the child's tree, or the place
-    /// is none; `Limit` where a node would stand too deep.
+    /// a root; `Range` where the child has a parent, the parent is in the child's tree, or the
+    /// place is none; `Limit` where a node would stand too deep.
     pub fn insert<C: Ledger>(
         &mut self,
         parent: NodeId,
@@ -185,7 +185,8 @@ impl Stores {
         Ok(())
     }
 
-    // Puts a child under a parent, whose page, if it is in one, counts as changed; answers the page.
+    // Puts a child under a parent, whose page, if it is in one, counts as changed; answers the
+    // page.
     fn join<C: Ledger>(
         &mut self,
         parent: NodeId,

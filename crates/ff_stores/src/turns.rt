@@ -16,8 +16,8 @@ use ff_value::{Body, Out, PageId, WinId};
 use std::sync::ledger::Ledger;
 
 impl Stores {
-    /// Takes the first script that may run out of its queue; answers its page and it. `None` exactly
-    /// where there is none, and then nothing has changed.
+    /// Takes the first script that may run out of its queue; answers its page and it. `None`
+    /// exactly where there is none, and then nothing has changed.
     pub fn take_ready<C: Ledger>(
         &mut self,
         copies: &mut Steps<C>,

@@ -15,8 +15,9 @@
 //!   cookie, give its value and take it out; `cookie all DOMAIN` gives those of a domain.
 //! - `request room DOMAIN` says whether there is room, and `request count DOMAIN` counts.
 //!   `request ask DOMAIN TEXT FOR` asks where there is room; `request answer DOMAIN PLACE` takes
-//!   one out. FOR is `window WINDOW`, `slot PAGE SLOT`, `call PAGE ACTIVATION BODY` for a
-//!   function without parameters, or `hear PAGE ACTIVATION LETTERS BODY` for one with parameters. `request copy TEXT FOR` copies such a request.
+//!   one out. FOR is `window WINDOW`, `slot PAGE SLOT`, `call PAGE ACTIVATION BODY` for a function
+//!   without parameters, or `hear PAGE ACTIVATION LETTERS BODY` for one with parameters.
+//!   `request copy TEXT FOR` copies such a request.
 //!
 //! Windows:
 //!

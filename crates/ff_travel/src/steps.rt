@@ -94,8 +94,8 @@ pub(crate) fn gather(pool: &mut Pool, puts: &mut Vec<Outputs>) -> Result<(), NoM
     Ok(())
 }
 
-/// The last step that is kept is taken back, where there is one: its pool is the pool again, and the
-/// outputs that lay beside it are those that stay.
+/// The last step that is kept is taken back, where there is one: its pool is the pool again, and
+/// the outputs that lay beside it are those that stay.
 pub(crate) fn go_back(kept: &mut Vec<Kept>, puts: &mut Vec<Outputs>, pool: &mut Pool)
     requires { (p : Assignment) × ArePartsFor p kept.old.items puts.old.items pool.old }
     ensures done { history_of kept.new.items puts.new.items pool.new ≡ taken_back (history_of kept.old.items puts.old.items pool.old) }

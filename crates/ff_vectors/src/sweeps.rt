@@ -108,8 +108,8 @@ fn is_same_but_report(run: &Ended, whole: &Ended) -> bool {
         && run.reported.len() < whole.reported.len()
 }
 
-/// Prints how many calls of a part the case makes, by the word for them, and after how many of their
-/// faults it ends as it should: with that fault, and with what is then to stand written.
+/// Prints how many calls of a part the case makes, by the word for them, and after how many of
+/// their faults it ends as it should: with that fault, and with what is then to stand written.
 pub fn show_each(
     rt: &HostRuntime,
     case: &mut Case,

@@ -1,7 +1,7 @@
 //! Policies, each read from a line and printed, or its first fault.
 //!
-//! What is printed for a policy is its text of version 2, and for a fault its words, and the name at
-//! fault where there is one.
+//! What is printed for a policy is its text of version 2, and for a fault its words, and the name
+//! at fault where there is one.
 use anyhow::Result;
 use ff_name::Text;
 use ff_policy::{Policy, PolicyFault};

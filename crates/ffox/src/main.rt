@@ -1,7 +1,7 @@
 //! The program `ffox`: it obeys the command that its words are, as `ff_run::run` says. A trace is
 //! read from standard input, what is written goes to standard output, what is wrong to standard
-//! error, and policies and rules are files of the working folder. How it ended is its exit status, as
-//! `Status` says.
+//! error, and policies and rules are files of the working folder. How it ended is its exit status,
+//! as `Status` says.
 #![tactic(auto)]
 
 ghost use Rattle.std.specs.Prelude.{◌≡◌, ◌<◌};
