@@ -16,6 +16,7 @@ use ff_operators::Fail;
 use ff_steps::Steps;
 use ff_value::{Fault, Ids, NoMemory, NodeId};
 use std::alloc::{AllocError, Global};
+use std::mem;
 use std::sync::ledger::Ledger;
 
 impl Nodes {
@@ -108,7 +109,7 @@ impl Nodes {
     {
         let under = with_parent(self.at(child), parent)?;
         let over = with_child(self.at(parent), place, child, self.alloc)?;
-        let mut next = self.cells.fork(copies)?;
+        let mut next = mem::replace(&mut self.cells, CowVec::new(self.alloc));
         write_node(&mut next, child, under, copies)?;
         write_node(&mut next, parent, over, copies)?;
         raise_above(&mut next, child, copies)?;
@@ -146,7 +147,9 @@ fn with_child(node: &Node, place: usize, child: NodeId, alloc: Global) -> Result
     requires { place ≤ length node.now.children }
     ensures { IfOk result (λ over. over ≡ record node.now { children = lists.insert node.now.children place child }) }
 {
-    let mut children = Vec::from_slice(alloc, node.children().as_slice())?;
+    let others = node.children().as_slice();
+    let mut children = Vec::with_capacity(alloc, others.len() + 1)?;
+    children.extend_from_slice(others)?;
     children.insert(place, child)?;
     Ok(Node::of(
         node.shape().copy()?,

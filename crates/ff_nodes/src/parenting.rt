@@ -39,8 +39,8 @@ fn no_parents(alloc: Global, recs: &[NodeRec]) -> Result<Vec<Option<NodeId>>, No
     Ok(parents)
 }
 
-/// Puts each node as the parent of its children, and answers whether that can be done. After `false`
-/// the parents are not stated.
+/// Puts each node as the parent of its children, and answers whether that can be done. After
+/// `false` the parents are not stated.
 fn adopt_all(parents: &mut [Option<NodeId>], recs: &[NodeRec]) -> bool
     requires few { length recs.now ≤ MOST_NODES }
     requires none { AreParents recs.now 0 parents.old }
@@ -56,8 +56,8 @@ fn adopt_all(parents: &mut [Option<NodeId>], recs: &[NodeRec]) -> bool
     true
 }
 
-/// Puts a node as the parent of its children, and answers whether each of them is a node that may be
-/// a child and had no parent. After `false` the parents are not stated.
+/// Puts a node as the parent of its children, and answers whether each of them is a node that may
+/// be a child and had no parent. After `false` the parents are not stated.
 fn adopt(parents: &mut [Option<NodeId>], n: NodeId, recs: &[NodeRec], kids: &[NodeId]) -> bool
     requires so_far { AreParents recs.now n.0 parents.old }
     requires kids { kids.now ≡ recorded.kids recs.now n }

@@ -1,9 +1,9 @@
 //! Nodes that are made of records.
 //!
-//! Records have lists of children alone. One pass finds each node's parent and refuses a second one,
-//! one finds how deep each node stands, at most 257 steps up from each, and marks are raised level
-//! by level, the deepest first. A node that was put back has exactly the marks of what stands at and
-//! below it.
+//! Records have lists of children alone. One pass finds each node's parent and refuses a second
+//! one, one finds how deep each node stands, at most 257 steps up from each, and marks are raised
+//! level by level, the deepest first. A node that was put back has exactly the marks of what stands
+//! at and below it.
 ghost use Rattle.std.specs.Prelude.{◌≡◌, ◌<◌, ◌≤◌, All, IfOk, OnOk, length};
 ghost use Rattle.ff_machine.specs.Alone.{AreNodes, AreTrees};
 ghost use Rattle.ff_records.specs.Records.{node_recs};
