@@ -2,4 +2,4 @@ use Rattle.ff_rows.proofs.Lives.{live_lives}
 use Rattle.ff_rows.proofs.readers.made_live.Goals as goal
 
 pub returns : goal.returns
-returns c = live_lives c.args.stores.now c.windows-windows.ensures.valid c.args.page c.requires
+returns c = live_lives c.args.stores.now c.windows-known.ensures.valid c.args.page c.requires

@@ -24,5 +24,5 @@ returns c =
     let all : c.loop-number.number ≡ size c.args.lattice.now = omega arith in
     let few = c.size-number-end.ensures.valid.few in
     prints_as (each_after_blank (λ k. word (name c.args.lattice.now k)) c.args.levels)
-    (ap (each_after_blank (λ k. word (name c.args.lattice.now k))) (sym (all_levels c.args.levels (size c.args.lattice.now) c.len-count.ensures.valid few c.requires) ∙ ap (λ n. filter (has c.args.levels) (below n)) (sym all)))
+    (ap (each_after_blank (λ k. word (name c.args.lattice.now k))) (sym (all_levels c.args.levels (size c.args.lattice.now) c.len-known.ensures.valid few c.requires) ∙ ap (λ n. filter (has c.args.levels) (below n)) (sym all)))
     c.loop-number.invariant

@@ -14,7 +14,7 @@ returns c =
       λ light. record {
         nodes = c.refer.ensures.nodes;
         windows = c.refer.ensures.windows;
-        jar = c.len-cookies.ensures.valid;
+        jar = c.len-known.ensures.valid;
         requests = c.refer.ensures.requests;
         refer = stores_refer p (c.refer.ensures.value.0 c.if-not-refer.false);
         rooted = c.are_rooted.ensures.0 c.if-not-are_rooted.false;

@@ -16,7 +16,7 @@ invariant_of-self-in_ok-set g c =
     (apart_over cookie_total cookie_exact _ _ _ place c.self.invariant.apart (([], []), []) (omega arith) c.args.value.now)
     (put_over cookie_total cookie_exact _ _ _ place c.self.invariant.apart (([], []), []) (omega arith) c.args.value.now)
     (no_fault (finmap.from_entries c.self.inside.cookies) c.args.domain.now c.args.key.now c.args.value.now _ size there)
-    (rw c.as_bytes-domain.ensures.value at c.as_bytes-domain.ensures.domain) (rw c.as_bytes-key.ensures.value at c.as_bytes-key.ensures.utf8) (rw c.as_bytes-value.ensures.value at c.as_bytes-value.ensures.utf8))
+    (rw c.as_bytes-known.ensures.value at c.as_bytes-known.ensures.domain) (rw c.as_bytes-known-2.ensures.value at c.as_bytes-known-2.ensures.utf8) (rw c.as_bytes-known-3.ensures.value at c.as_bytes-known-3.ensures.utf8))
 
 pub returns-in_ok-set-clause-done : goal.returns-in_ok-set-clause-done
 returns-in_ok-set-clause-done g c =
@@ -51,7 +51,7 @@ invariant_of-self-in_ok-push g c =
     (apart_more cookie_total cookie_exact _ _ _ place c.self.invariant.apart (omega arith) c.args.value.now)
     (put_more cookie_total cookie_exact _ _ _ place c.self.invariant.apart (omega arith) c.args.value.now)
     (room_left (finmap.from_entries c.self.inside.cookies) c.args.domain.now c.args.key.now c.args.value.now size none room)
-    (rw c.as_bytes-domain.ensures.value at c.as_bytes-domain.ensures.domain) (rw c.as_bytes-key.ensures.value at c.as_bytes-key.ensures.utf8) (rw c.as_bytes-value.ensures.value at c.as_bytes-value.ensures.utf8))
+    (rw c.as_bytes-known.ensures.value at c.as_bytes-known.ensures.domain) (rw c.as_bytes-known-2.ensures.value at c.as_bytes-known-2.ensures.utf8) (rw c.as_bytes-known-3.ensures.value at c.as_bytes-known-3.ensures.utf8))
 
 pub returns-in_ok-push-clause-done : goal.returns-in_ok-push-clause-done
 returns-in_ok-push-clause-done g c =

@@ -38,9 +38,9 @@ loop-rec-preserved g c =
     record {
       valid = subst IsJar (sym c.in-Ok.ensures.done) (
           put_valid c.loop-rec.jar c.rec-item.result.domain c.rec-item.result.key c.rec-item.result.value c.loop-rec.invariant.valid
-          (subst IsDomain c.as_bytes-domain.ensures.value c.as_bytes-domain.ensures.domain)
-          (subst IsUtf8 c.as_bytes-key.ensures.value c.as_bytes-key.ensures.utf8)
-          (subst IsUtf8 c.as_bytes-value.ensures.value c.as_bytes-value.ensures.utf8)
+          (subst IsDomain c.as_bytes-known.ensures.value c.as_bytes-known.ensures.domain)
+          (subst IsUtf8 c.as_bytes-known-in-loop-rec.ensures.value c.as_bytes-known-in-loop-rec.ensures.utf8)
+          (subst IsUtf8 c.as_bytes-known-in-loop-rec-2.ensures.value c.as_bytes-known-in-loop-rec-2.ensures.utf8)
           c.in-Ok.ensures.answer);
       entries = one_more c.as_slice-recs.result.now c.loop-rec.rec-index c.rec-item.result c.loop-rec-test.true c.rec-item.is (c.rise.ensures.0 yes) c.loop-rec.jar c.put.new.self c.loop-rec.invariant.entries c.in-Ok.ensures.done;
       later = omega (arith, c.loop-rec.invariant.later, c.in-Ok.ensures.later);

@@ -16,5 +16,5 @@ invariant_of-self-2 g c =
       counted = omega (arith, c.self.invariant.counted, c.in_ok-put_ask.ensures.count);
       few = omega (arith, below);
       valid = subst AreRequests (sym c.in_ok-put_ask.ensures.done)
-          (asked_alone rows c.args.domain.now _ c.self.invariant.valid (rw c.as_bytes-domain.ensures.value at c.as_bytes-domain.ensures.domain) (record { uri = rw (sym c.in_ok-copy.ensures) at c.requires.uri; dst = c.requires.dst }) room);
+          (asked_alone rows c.args.domain.now _ c.self.invariant.valid (rw c.as_bytes-known.ensures.value at c.as_bytes-known.ensures.domain) (record { uri = rw (sym c.in_ok-copy.ensures) at c.requires.uri; dst = c.requires.dst }) room);
     }

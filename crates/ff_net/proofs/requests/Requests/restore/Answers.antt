@@ -43,7 +43,7 @@ loop-rec-preserved g c =
     record {
       valid = subst AreRequests (sym done) (
           ask_valid c.loop-rec.requests x.domain x.pending c.loop-rec.invariant.valid
-          (subst IsDomain c.as_bytes-domain.ensures.value c.as_bytes-domain.ensures.domain)
+          (subst IsDomain c.as_bytes-known.ensures.value c.as_bytes-known.ensures.domain)
           (c.in_ok-valid.ensures.0 c.if-not-valid.false)
           (sym c.room.ensures ∙ c.if-not-room.false));
       recs = one_ask_more c.as_slice-recs.result.now c.loop-rec.rec-index x c.loop-rec-test.true c.rec-item.is c.loop-rec.requests c.ask.new.self c.loop-rec.invariant.valid climb c.loop-rec.invariant.recs done;

@@ -7,7 +7,7 @@ use Rattle.ff_stores.proofs.stores.Stores.put_cookie.Goals as goal
 
 pub invariant_of-self : goal.invariant_of-self
 invariant_of-self g c =
-    let domain = subst IsDomain c.text-domain.ensures.value c.text-domain.ensures.domain in
-    let key = subst IsUtf8 c.as_bytes-key.ensures.value c.as_bytes-key.ensures.utf8 in
-    let value = subst IsUtf8 c.as_bytes-value.ensures.value c.as_bytes-value.ensures.utf8 in
+    let domain = subst IsDomain c.text-known.ensures.value c.text-known.ensures.domain in
+    let key = subst IsUtf8 c.as_bytes-known.ensures.value c.as_bytes-known.ensures.utf8 in
+    let value = subst IsUtf8 c.as_bytes-known-2.ensures.value c.as_bytes-known-2.ensures.utf8 in
     rw c.in-Ok.ensures.done (cookie_put_valid (stores_of c.self.inside) c.args.domain.now c.args.key.now c.args.value.now c.self.invariant domain key value c.in-Ok.ensures.answer)

@@ -12,7 +12,7 @@ use Rattle.ff_stores.proofs.stores.Stores.send.Goals as goal
 pub invariant_of-self : goal.invariant_of-self
 invariant_of-self g c =
     let refers = subst (λ (t : s.Stores). DstRefers (made t) c.args.to) (sym c.self.view_is) c.requires.refers in
-    let domain = subst IsDomain c.text-domain.ensures.value c.text-domain.ensures.domain in
+    let domain = subst IsDomain c.text-known.ensures.value c.text-known.ensures.domain in
     let room : net.has_ask_room c.self.inside.requests c.args.domain.now ≡ true = search rules in
     rw c.in-Ok.ensures.done ((sent_valid (stores_of c.self.inside) c.args.domain.now c.args.uri.now c.args.body.now c.args.to c.self.invariant domain c.requires.uri c.requires.to refers room).stores)
 

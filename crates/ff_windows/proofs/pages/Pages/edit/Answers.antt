@@ -13,7 +13,7 @@ is_ready_at-requires g c =
     subst (λ (l : List Page). c.args.i < length l) (sym new) (omega (arith, lives, length-set {A = Page}))
 
 pub counted-self-inside-requires-clause-few : goal.counted-self-inside-requires-clause-few
-counted-self-inside-requires-clause-few g c = one_more c.self.inside.cells c.self.inside.ready c.len-count.result c.self.invariant (omega (arith, c.len-count.ensures.value)) (omega (arith, c.len-count.ensures.bound))
+counted-self-inside-requires-clause-few g c = one_more c.self.inside.cells c.self.inside.ready c.len-known.result c.self.invariant (omega (arith, c.len-known.ensures.value)) (omega (arith, c.len-known.ensures.bound))
 
 pub invariant_of-self-2 : goal.invariant_of-self-2
 invariant_of-self-2 g c =

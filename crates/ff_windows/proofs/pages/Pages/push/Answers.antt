@@ -3,4 +3,4 @@ use Rattle.ff_windows.proofs.Counted.{one_more}
 use Rattle.ff_windows.proofs.pages.Pages.push.Goals as goal
 
 pub counted-ready-requires-clause-few : goal.counted-ready-requires-clause-few
-counted-ready-requires-clause-few g c = one_more c.self.inside.cells c.self.inside.ready c.len-count.result c.self.invariant (omega (arith, c.len-count.ensures.value)) (omega (arith, c.len-count.ensures.bound))
+counted-ready-requires-clause-few g c = one_more c.self.inside.cells c.self.inside.ready c.len-known.result c.self.invariant (omega (arith, c.len-known.ensures.value)) (omega (arith, c.len-known.ensures.bound))
