@@ -17,8 +17,8 @@ ghost use Rattle.ff_value.specs.Spelled.{IsCookieOp, IsWellSpelledResp};
 ghost use Rattle.ff_machine.specs.Nodes as t;
 ghost use Rattle.ff_machine.specs.Windows as w;
 
+use crate::answers::Answer;
 use crate::shown;
-use crate::tree_changes::failed;
 use crate::tree_words::{document, live, number, parted, response};
 use anyhow::{Result, bail};
 use ff_machine::{Dst, Pending};
@@ -27,7 +27,7 @@ use ff_operators::MOST_MASS;
 use ff_script::read_body;
 use ff_steps::Steps;
 use ff_stores::Stores;
-use ff_value::{ActId, Cookies, NoMemory, NodeId, Out, PageId, Resp, WinId};
+use ff_value::{ActId, Cookies, NodeId, Out, PageId, Resp, WinId};
 use std::alloc::Global;
 use std::sync::ledger::Ledger;
 
@@ -40,21 +40,33 @@ pub fn follow<C: Ledger>(
     copies: &mut Steps<C>,
 ) -> Result<()> {
     let (word, rest) = parted(line)?;
+    if word == "kept" {
+        return kept(rt, alloc, stores, rest);
+    }
     let mut outs = Vec::new(alloc);
-    let answer = match word {
-        "opens" | "go" | "close" | "type" | "make" => {
-            act(alloc, stores, word, rest, &mut outs, copies)?
-        }
-        "send" | "answer" => ask(alloc, stores, word, rest, &mut outs, copies)?,
-        "put" | "delete" | "entries" => change_jar(alloc, stores, word, rest, copies)?,
-        "fill" => fill(alloc, stores, rest, copies)?,
-        "weigh" | "mass" => weigh(alloc, stores, word, rest)?,
-        "kept" => kept(alloc, stores, rest)?,
-        _ => bail!("no call: {word}"),
-    };
+    let answer = change(alloc, stores, word, rest, &mut outs, copies)?;
     shown::outputs(rt, alloc, &outs)?;
-    println!(rt; "  {answer}")?;
+    answer.show(rt)?;
     Ok(())
+}
+
+/// What a call that may change the stores answers.
+fn change<C: Ledger>(
+    alloc: Global,
+    stores: &mut Stores,
+    word: &str,
+    rest: &str,
+    outs: &mut Vec<Out>,
+    copies: &mut Steps<C>,
+) -> Result<Answer> {
+    match word {
+        "opens" | "go" | "close" | "type" | "make" => act(alloc, stores, word, rest, outs, copies),
+        "send" | "answer" => ask(alloc, stores, word, rest, outs, copies),
+        "put" | "delete" | "entries" => change_jar(alloc, stores, word, rest, copies),
+        "fill" => fill(alloc, stores, rest, copies),
+        "weigh" | "mass" => weigh(stores, word, rest),
+        _ => bail!("no call: {word}"),
+    }
 }
 
 /// What a user does with windows, and a tree that is made.
@@ -65,17 +77,17 @@ fn act<C: Ledger>(
     rest: &str,
     outs: &mut Vec<Out>,
     copies: &mut Steps<C>,
-) -> Result<String> {
+) -> Result<Answer> {
     match word {
         "opens" => {
             let url = Url::read(alloc, rest.as_bytes())?;
             stores.opens(&url, outs, copies)?;
-            Ok(format!(in alloc; "done")?)
+            Ok(Answer::Done)
         }
         "go" => go(alloc, stores, rest, outs, copies),
         "close" => {
             stores.close_window(WinId(number(rest)?), outs, copies)?;
-            Ok(format!(in alloc; "done")?)
+            Ok(Answer::Done)
         }
         "type" => type_text(alloc, stores, rest, copies),
         _ => make(alloc, stores, rest, copies),
@@ -88,11 +100,11 @@ fn go<C: Ledger>(
     rest: &str,
     outs: &mut Vec<Out>,
     copies: &mut Steps<C>,
-) -> Result<String> {
+) -> Result<Answer> {
     let (window, address) = parted(rest)?;
     let window = open_window(stores, window)?;
     let url = Url::read(alloc, address.as_bytes())?;
-    Ok(said(alloc, stores.go(window, &url, outs, copies)?)?)
+    Ok(Answer::Said(stores.go(window, &url, outs, copies)?))
 }
 
 /// The open window whose number a word spells.
@@ -111,11 +123,11 @@ fn type_text<C: Ledger>(
     stores: &mut Stores,
     rest: &str,
     copies: &mut Steps<C>,
-) -> Result<String> {
+) -> Result<Answer> {
     let (n, text) = parted(rest)?;
     let n = with_text(stores, n)?;
     let text = Text::of_str(alloc, text)?;
-    Ok(said(alloc, stores.type_text(n, &text, copies)?)?)
+    Ok(Answer::Said(stores.type_text(n, &text, copies)?))
 }
 
 /// The node with a text whose number a word spells.
@@ -135,15 +147,12 @@ fn make<C: Ledger>(
     stores: &mut Stores,
     rest: &str,
     copies: &mut Steps<C>,
-) -> Result<String> {
+) -> Result<Answer> {
     let doc = document(alloc, rest)?;
     if stores.windows().next_act().0 == 0 {
         bail!("no activation");
     }
-    match stores.make_tree(ActId(0), &doc, copies) {
-        Ok(n) => Ok(format!(in alloc; "node {}", n.0)?),
-        Err(fail) => Ok(failed(alloc, &fail)?),
-    }
+    Ok(Answer::made(stores.make_tree(ActId(0), &doc, copies)))
 }
 
 /// A request is sent, or answered.
@@ -154,7 +163,7 @@ fn ask<C: Ledger>(
     rest: &str,
     outs: &mut Vec<Out>,
     copies: &mut Steps<C>,
-) -> Result<String> {
+) -> Result<Answer> {
     let (address, rest) = parted(rest)?;
     let url = Url::read(alloc, address.as_bytes())?;
     match &url {
@@ -167,7 +176,7 @@ fn ask<C: Ledger>(
                     bail!("no window");
                 }
                 let to = Dst::Window(WinId(0));
-                Ok(said(alloc, stores.send(domain, uri, &text, to, outs, copies)?)?)
+                Ok(Answer::Said(stores.send(domain, uri, &text, to, outs, copies)?))
             }
         }
         Url::Blank => bail!("no domain: {address}"),
@@ -180,18 +189,18 @@ fn answer<C: Ledger>(
     domain: &Domain,
     place: &str,
     copies: &mut Steps<C>,
-) -> Result<String> {
+) -> Result<Answer> {
     match stores.take_answer(domain, number(place)?, copies)? {
-        Some(pending) => Ok(pending_words(alloc, &pending)?),
-        None => Ok(format!(in alloc; "none")?),
+        Some(pending) => Ok(for_whom(&pending)),
+        None => Ok(Answer::Nothing),
     }
 }
 
-fn pending_words(alloc: Global, pending: &Pending) -> Result<String, NoMemory> {
+fn for_whom(pending: &Pending) -> Answer {
     match &pending.dst {
-        Dst::Window(window) => format!(in alloc; "for window {}", window.0),
-        Dst::Slot(page, slot) => format!(in alloc; "for slot {slot} of page {}", page.0),
-        Dst::Call(page, _) => format!(in alloc; "for a call of page {}", page.0),
+        Dst::Window(window) => Answer::ForWindow(*window),
+        Dst::Slot(page, slot) => Answer::ForSlot(*page, *slot),
+        Dst::Call(page, _) => Answer::ForCall(*page),
     }
 }
 
@@ -211,7 +220,7 @@ fn change_jar<C: Ledger>(
     word: &str,
     rest: &str,
     copies: &mut Steps<C>,
-) -> Result<String> {
+) -> Result<Answer> {
     let (address, rest) = parted(rest)?;
     let domain = domain_of(alloc, address)?;
     match word {
@@ -219,12 +228,12 @@ fn change_jar<C: Ledger>(
         "delete" => {
             let key = Text::of_str(alloc, rest)?;
             stores.delete_cookie(&domain, &key, copies)?;
-            Ok(format!(in alloc; "done")?)
+            Ok(Answer::Done)
         }
         _ => {
             let entries = cookies_of(&response(alloc, rest)?)?;
             stores.put_cookies(&domain, &entries, copies)?;
-            Ok(format!(in alloc; "done")?)
+            Ok(Answer::Done)
         }
     }
 }
@@ -235,14 +244,11 @@ fn put<C: Ledger>(
     domain: &Domain,
     rest: &str,
     copies: &mut Steps<C>,
-) -> Result<String> {
+) -> Result<Answer> {
     let (key, value) = parted(rest)?;
     let key = Text::of_str(alloc, key)?;
     let value = Text::of_str(alloc, value)?;
-    match stores.put_cookie(domain, &key, &value, copies) {
-        Ok(()) => Ok(format!(in alloc; "done")?),
-        Err(fail) => Ok(failed(alloc, &fail)?),
-    }
+    Ok(Answer::done(stores.put_cookie(domain, &key, &value, copies)))
 }
 
 fn cookies_of(response: &Resp) -> Result<Cookies>
@@ -260,7 +266,7 @@ fn fill<C: Ledger>(
     stores: &mut Stores,
     rest: &str,
     copies: &mut Steps<C>,
-) -> Result<String> {
+) -> Result<Answer> {
     let (page, rest) = parted(rest)?;
     let (slot, expression) = parted(rest)?;
     let page = PageId(number(page)?);
@@ -269,35 +275,32 @@ fn fill<C: Ledger>(
     if page.0 >= stores.windows().next_page().0 {
         bail!("no page");
     }
-    Ok(said(alloc, stores.fill_slot(page, slot, &body, copies)?)?)
+    Ok(Answer::Said(stores.fill_slot(page, slot, &body, copies)?))
 }
 
 /// The mass grows where it may, or is set.
-fn weigh(alloc: Global, stores: &mut Stores, word: &str, rest: &str) -> Result<String> {
+fn weigh(stores: &mut Stores, word: &str, rest: &str) -> Result<Answer> {
     let Ok(bytes) = rest.parse::<u64>() else {
         bail!("no number: {rest}");
     };
     if word == "weigh" {
         let may = stores.may_weigh(bytes);
         let did = stores.weigh(bytes);
-        return Ok(format!(in alloc; "{may}, {did}, {}", stores.mass())?);
+        return Ok(Answer::Weighed(may, did, stores.mass()));
     }
     if bytes > MOST_MASS {
         bail!("no mass: {bytes}");
     }
     stores.set_mass(bytes);
-    Ok(format!(in alloc; "{}", stores.mass())?)
+    Ok(Answer::Mass(stores.mass()))
 }
 
-/// What is read off the stores.
-fn kept(alloc: Global, stores: &Stores, address: &str) -> Result<String> {
+/// Prints what is read off the stores.
+fn kept<R: Print>(rt: &R, alloc: Global, stores: &Stores, address: &str) -> Result<()> {
     let domain = domain_of(alloc, address)?;
     let cookies = shown::pairs(alloc, &stores.jar().of(&domain)?)?;
     let pending = stores.requests().len(&domain);
     let nodes = stores.nodes().len();
-    Ok(format!(in alloc; "cookies {cookies}, pending {pending}, nodes {nodes}")?)
-}
-
-fn said(alloc: Global, yes: bool) -> Result<String, NoMemory> {
-    format!(in alloc; "{yes}")
+    println!(rt; "  cookies {cookies}, pending {pending}, nodes {nodes}")?;
+    Ok(())
 }

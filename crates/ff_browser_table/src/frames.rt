@@ -40,14 +40,14 @@ fn started(alloc: Global, line: &str) -> Result<Script> {
 /// Prints at most so many reductions.
 fn reduce<R: Print>(rt: &R, alloc: Global, script: &mut Script, most: u32) -> Result<()> {
     for _turn in 0..most {
-        let depth = script.depth();
-        match script.next() {
-            Some(redex) => {
-                let redex = redexes::redex(alloc, redex)?;
-                println!(rt; "  {depth} {redex}")?;
-            }
-            None => return Ok(()),
+        if script.done().is_some() {
+            return Ok(());
         }
+        print!(rt; "  {} ", script.depth())?;
+        if let Some(redex) = script.next() {
+            redexes::redex(rt, redex)?;
+        }
+        println!(rt; "")?;
         script.turn(alloc)?;
     }
     Ok(())
@@ -58,8 +58,9 @@ fn finish<R: Print>(rt: &R, alloc: Global, script: &mut Script) -> Result<()> {
     reduce(rt, alloc, script, MOST_PRINTED)?;
     match script.done() {
         Some(value) => {
-            let value = redexes::value(alloc, value)?;
-            println!(rt; "= {value}")?;
+            print!(rt; "= ")?;
+            redexes::value(rt, value)?;
+            println!(rt; "")?;
         }
         None => println!(rt; "and more")?,
     }

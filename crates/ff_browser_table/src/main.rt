@@ -10,6 +10,7 @@
 
 ghost use Rattle.std.specs.Prelude.{◌≡◌, ◌<◌};
 
+mod answers;
 mod calls;
 mod frames;
 mod redexes;

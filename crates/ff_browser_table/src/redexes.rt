@@ -1,53 +1,54 @@
-//! Redexes and values as words.
+//! Redexes and values as words, which are printed.
 
 use ff_frames::Redex;
-use ff_value::{Name, NoMemory, Val, Worded};
-use std::alloc::Global;
+use ff_value::{Name, Val, Worded};
+use std::io;
 
-/// The redex, with its values.
-pub fn redex(alloc: Global, redex: Redex<'_>) -> Result<String, NoMemory> {
+/// Prints the redex, with its values.
+pub fn redex<R: Print>(rt: &R, redex: Redex<'_>) -> io::Result<()> {
     match redex {
-        Redex::Local => format!(in alloc; "local"),
-        Redex::Test(test) => one(alloc, "if", test),
-        Redex::Var(name) => format!(in alloc; "{}", name.text().as_str()),
-        Redex::Let(name, value) => bound(alloc, "let", name, value),
-        Redex::Set(name, value) => bound(alloc, "set", name, value),
-        Redex::Make(_, _) => format!(in alloc; "(fn ..)"),
-        Redex::Apply(_, args) => list(alloc, "call fn", args),
-        Redex::Prim(op, args) => list(alloc, op.word(), args),
-        Redex::Tree(_) => format!(in alloc; "(new ..)"),
+        Redex::Local => print!(rt; "local"),
+        Redex::Test(test) => tested(rt, test),
+        Redex::Var(name) => print!(rt; "{}", name.text().as_str()),
+        Redex::Let(name, value) => bound(rt, "let", name, value),
+        Redex::Set(name, value) => bound(rt, "set", name, value),
+        Redex::Make(_, _) => print!(rt; "(fn ..)"),
+        Redex::Apply(_, args) => list(rt, "call fn", args),
+        Redex::Prim(op, args) => list(rt, op.word(), args),
+        Redex::Tree(_) => print!(rt; "(new ..)"),
     }
 }
 
-/// A value.
-pub fn value(alloc: Global, value: &Val) -> Result<String, NoMemory> {
+/// Prints a value.
+pub fn value<R: Print>(rt: &R, value: &Val) -> io::Result<()> {
     match value {
-        Val::Null => format!(in alloc; "null"),
-        Val::Bool(b) => format!(in alloc; "{b}"),
-        Val::Num(n) => format!(in alloc; "{n}"),
-        Val::Str(text) => format!(in alloc; "{:?}", text.as_str()),
-        Val::Win(window) => format!(in alloc; "window {}", window.0),
-        Val::Node(node) => format!(in alloc; "node {}", node.0),
-        Val::Code(_) => format!(in alloc; "fn"),
+        Val::Null => print!(rt; "null"),
+        Val::Bool(b) => print!(rt; "{b}"),
+        Val::Num(n) => print!(rt; "{n}"),
+        Val::Str(text) => print!(rt; "{:?}", text.as_str()),
+        Val::Win(window) => print!(rt; "window {}", window.0),
+        Val::Node(node) => print!(rt; "node {}", node.0),
+        Val::Code(_) => print!(rt; "fn"),
     }
 }
 
-fn one(alloc: Global, head: &str, part: &Val) -> Result<String, NoMemory> {
-    let part = value(alloc, part)?;
-    format!(in alloc; "({head} {part} ..)")
+fn tested<R: Print>(rt: &R, test: &Val) -> io::Result<()> {
+    print!(rt; "(if ")?;
+    value(rt, test)?;
+    print!(rt; " ..)")
 }
 
-fn bound(alloc: Global, head: &str, name: &Name, part: &Val) -> Result<String, NoMemory> {
-    let part = value(alloc, part)?;
-    format!(in alloc; "({head} {} {part})", name.text().as_str())
+fn bound<R: Print>(rt: &R, head: &str, name: &Name, part: &Val) -> io::Result<()> {
+    print!(rt; "({head} {} ", name.text().as_str())?;
+    value(rt, part)?;
+    print!(rt; ")")
 }
 
-fn list(alloc: Global, head: &str, parts: &[Val]) -> Result<String, NoMemory> {
-    let mut out = format!(in alloc; "({head}")?;
+fn list<R: Print>(rt: &R, head: &str, parts: &[Val]) -> io::Result<()> {
+    print!(rt; "({head}")?;
     for part in parts {
-        out.push(' ')?;
-        out.push_str(value(alloc, part)?.as_str())?;
+        print!(rt; " ")?;
+        value(rt, part)?;
     }
-    out.push(')')?;
-    Ok(out)
+    print!(rt; ")")
 }

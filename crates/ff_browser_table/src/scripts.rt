@@ -145,7 +145,8 @@ fn script<C: Ledger>(
     let mut outs = Vec::new(alloc);
     let (end, reductions) = running::run(alloc, stores, page, &body, &mut outs, copies)?;
     shown::outputs(rt, alloc, &outs)?;
-    shown::end(rt, alloc, &end, reductions)
+    shown::end(rt, &end, reductions)?;
+    Ok(())
 }
 
 fn mass(rt: &HostRuntime, stores: &Stores) -> Result<()> {

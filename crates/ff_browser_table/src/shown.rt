@@ -1,11 +1,13 @@
 //! What is printed of outputs, values and ends.
 
+use crate::redexes;
 use crate::running::End;
 use anyhow::Result;
 use ff_name::{Domain, Url};
 use ff_printing::{print_expr, print_pairs, print_shown};
-use ff_value::{Expr, NoMemory, Out, Pairs, Shown, Text, Val};
+use ff_value::{Expr, Out, Pairs, Shown, Text, Val};
 use std::alloc::Global;
+use std::io;
 
 /// The longest text that is printed whole, in bytes.
 const MOST_PRINTED: usize = 60;
@@ -20,35 +22,41 @@ pub fn outputs<R: Print>(rt: &R, alloc: Global, outs: &[Out]) -> Result<()> {
         println!(rt; "  {first} outputs and then")?;
     }
     for out in outs.iter().skip(first) {
-        println!(rt; "  {}", output(alloc, out)?)?;
+        output(rt, alloc, out)?;
     }
     Ok(())
 }
 
-fn output(alloc: Global, out: &Out) -> Result<String> {
+fn output<R: Print>(rt: &R, alloc: Global, out: &Out) -> Result<()> {
     match out {
-        Out::Opened => Ok(format!(in alloc; "opened")?),
-        Out::Closed(place) => Ok(format!(in alloc; "closed {place}")?),
-        Out::Loaded(place, url, shown) => {
-            let url = address(alloc, url)?;
-            let shown = page(alloc, shown)?;
-            Ok(format!(in alloc; "loaded {place} {url} {shown}")?)
-        }
-        Out::Updated(place, shown) => {
-            let shown = page(alloc, shown)?;
-            Ok(format!(in alloc; "updated {place} {shown}")?)
-        }
-        Out::Error(place, fault) => Ok(format!(in alloc; "error {place} {}", fault.word())?),
-        Out::Stopped => Ok(format!(in alloc; "stopped")?),
-        Out::Send(domain, uri, cookies, body) => sent(alloc, domain, uri, cookies, body),
+        Out::Opened => println!(rt; "  opened")?,
+        Out::Closed(place) => println!(rt; "  closed {place}")?,
+        Out::Loaded(place, url, shown) => loaded(rt, alloc, *place, url, shown)?,
+        Out::Updated(place, shown) => println!(rt; "  updated {place} {}", page(alloc, shown)?)?,
+        Out::Error(place, fault) => println!(rt; "  error {place} {}", fault.word())?,
+        Out::Stopped => println!(rt; "  stopped")?,
+        Out::Send(domain, uri, cookies, body) => sent(rt, alloc, domain, uri, cookies, body)?,
     }
+    Ok(())
 }
 
-fn sent(alloc: Global, to: &Domain, uri: &Text, cookies: &Pairs, body: &Text) -> Result<String> {
-    let to = to.text().as_str();
-    let cookies = pairs(alloc, cookies)?;
-    let (uri, body) = (uri.as_str(), body.as_str());
-    Ok(format!(in alloc; "send {to} {uri:?} {cookies} {body:?}")?)
+fn loaded<R: Print>(rt: &R, alloc: Global, place: u32, url: &Url, shown: &Shown) -> Result<()> {
+    print!(rt; "  loaded {place} {}", address(alloc, url)?)?;
+    println!(rt; " {}", page(alloc, shown)?)?;
+    Ok(())
+}
+
+fn sent<R: Print>(
+    rt: &R,
+    alloc: Global,
+    to: &Domain,
+    uri: &Text,
+    cookies: &Pairs,
+    body: &Text,
+) -> Result<()> {
+    print!(rt; "  send {} {:?}", to.text().as_str(), uri.as_str())?;
+    println!(rt; " {} {:?}", pairs(alloc, cookies)?, body.as_str())?;
+    Ok(())
 }
 
 fn address(alloc: Global, url: &Url) -> Result<String> {
@@ -78,36 +86,33 @@ pub fn pairs(alloc: Global, cookies: &Pairs) -> Result<String> {
 }
 
 /// Prints how a script ended, and after how many reductions.
-pub fn end<R: Print>(rt: &R, alloc: Global, end: &End, reductions: u32) -> Result<()> {
-    println!(rt; "  {}, reductions {reductions}", end_words(alloc, end)?)?;
-    Ok(())
+pub fn end<R: Print>(rt: &R, end: &End, reductions: u32) -> io::Result<()> {
+    print!(rt; "  ")?;
+    end_words(rt, end)?;
+    println!(rt; ", reductions {reductions}")
 }
 
-fn end_words(alloc: Global, end: &End) -> Result<String, NoMemory> {
+fn end_words<R: Print>(rt: &R, end: &End) -> io::Result<()> {
     match end {
-        End::Value(v) => value(alloc, v),
-        End::Fault(fault) => format!(in alloc; "fault {}", fault.word()),
-        End::Gone => format!(in alloc; "the page is gone"),
-        End::GoesOn => format!(in alloc; "goes on"),
+        End::Value(v) => value(rt, v),
+        End::Fault(fault) => print!(rt; "fault {}", fault.word()),
+        End::Gone => print!(rt; "the page is gone"),
+        End::GoesOn => print!(rt; "goes on"),
     }
 }
 
-fn value(alloc: Global, value: &Val) -> Result<String, NoMemory> {
+fn value<R: Print>(rt: &R, value: &Val) -> io::Result<()> {
     match value {
-        Val::Null => format!(in alloc; "null"),
-        Val::Bool(b) => format!(in alloc; "{b}"),
-        Val::Num(n) => format!(in alloc; "{n}"),
-        Val::Str(text) => quoted(alloc, text),
-        Val::Win(window) => format!(in alloc; "window {}", window.0),
-        Val::Node(node) => format!(in alloc; "node {}", node.0),
-        Val::Code(code) => format!(in alloc; "a function of activation {}", code.env.0),
+        Val::Str(text) => quoted(rt, text),
+        Val::Code(code) => print!(rt; "a function of activation {}", code.env.0),
+        _ => redexes::value(rt, value),
     }
 }
 
-fn quoted(alloc: Global, text: &Text) -> Result<String, NoMemory> {
+fn quoted<R: Print>(rt: &R, text: &Text) -> io::Result<()> {
     let many = text.as_bytes().len();
     if many > MOST_PRINTED {
-        return format!(in alloc; "*{many}");
+        return print!(rt; "*{many}");
     }
-    format!(in alloc; "{:?}", text.as_str())
+    print!(rt; "{:?}", text.as_str())
 }

@@ -1,13 +1,15 @@
 //! What is read off trees and nodes.
 ghost use Rattle.std.specs.Prelude.{◌<◌, length};
 
+use crate::shown::expression;
 use anyhow::Result;
 use ff_machine::{Kind, MOST_NODES};
 use ff_name::Worded;
 use ff_nodes::Nodes;
-use ff_printing::{print_expr, print_shown};
-use ff_value::{Code, NoMemory, NodeId, PageId};
+use ff_printing::print_shown;
+use ff_value::{Code, NodeId, PageId};
 use std::alloc::Global;
+use std::io;
 
 /// The kinds, in the order in which they are printed.
 const KINDS: [Kind; 8] = [
@@ -25,18 +27,18 @@ const KINDS: [Kind; 8] = [
 pub fn tree<R: Print>(rt: &R, alloc: Global, nodes: &Nodes, root: NodeId) -> Result<()>
     requires { root.0 < length nodes.now }
 {
-    let shown = shown(alloc, nodes, root)?;
-    println!(rt; "  shown {shown}")?;
-    let scripts = listed(alloc, nodes.scripts(root)?.as_slice())?;
-    println!(rt; "  scripts{scripts}")?;
+    println!(rt; "  shown {}", shown(alloc, nodes, root)?)?;
+    print!(rt; "  scripts")?;
+    listed(rt, nodes.scripts(root)?.as_slice())?;
     for kind in KINDS.iter() {
-        let found = of_kind(alloc, nodes, root, *kind)?;
-        println!(rt; "  {}{found}", kind.word())?;
+        of_kind(rt, nodes, root, *kind)?;
     }
-    let names = named(alloc, nodes, root)?;
-    println!(rt; "  names{names}")?;
-    let page = page(alloc, nodes.page_root_of(root))?;
-    println!(rt; "  page {page}")?;
+    print!(rt; "  names")?;
+    for letter in *b"abcdefgh" {
+        named(rt, nodes, root, letter)?;
+    }
+    println!(rt; "")?;
+    page(rt, nodes.page_root_of(root))?;
     Ok(())
 }
 
@@ -47,19 +49,19 @@ pub fn node<R: Print>(rt: &R, alloc: Global, nodes: &Nodes, n: NodeId) -> Result
     println!(rt; "  kind {}", nodes.kind(n).word())?;
     parts(rt, alloc, nodes, n)?;
     for code in nodes.handlers(n).as_slice() {
-        let code = function(alloc, code)?;
-        println!(rt; "  handler {code}")?;
+        function(rt, alloc, code)?;
     }
-    let children = listed(alloc, nodes.children(n).as_slice())?;
+    print!(rt; "  children")?;
+    for child in nodes.children(n).as_slice() {
+        print!(rt; " {}", child.0)?;
+    }
     let count = nodes.count(n);
-    println!(rt; "  children{children}, count {count}")?;
+    println!(rt; ", count {count}")?;
     let at = i64::from(count);
     for k in [-1, 0, at - 1, at] {
-        let child = child(alloc, nodes, n, k)?;
-        println!(rt; "  child {k} {child}")?;
+        child(rt, nodes, n, k)?;
     }
-    let page = page(alloc, nodes.page_root_of(n))?;
-    println!(rt; "  page {page}")?;
+    page(rt, nodes.page_root_of(n))?;
     Ok(())
 }
 
@@ -76,9 +78,7 @@ fn parts<R: Print>(rt: &R, alloc: Global, nodes: &Nodes, n: NodeId) -> Result<()
         println!(rt; "  url {}", String::from_utf8(out)?)?;
     }
     if let Some(body) = nodes.body(n) {
-        let mut out = Vec::new(alloc);
-        print_expr(body.get(), &mut out)?;
-        println!(rt; "  body {}", String::from_utf8(out)?)?;
+        println!(rt; "  body {}", expression(alloc, body.get())?)?;
     }
     Ok(())
 }
@@ -92,74 +92,59 @@ fn shown(alloc: Global, nodes: &Nodes, root: NodeId) -> Result<String>
     Ok(String::from_utf8(out)?)
 }
 
-fn function(alloc: Global, code: &Code) -> Result<String> {
-    let mut out = format!(in alloc; "of")?;
+fn function<R: Print>(rt: &R, alloc: Global, code: &Code) -> Result<()> {
+    print!(rt; "  handler of")?;
     for param in code.params.as_slice() {
-        out.push(' ')?;
-        out.push_str(param.text().as_str())?;
+        print!(rt; " {}", param.text().as_str())?;
     }
-    let mut body = Vec::new(alloc);
-    print_expr(code.body.get(), &mut body)?;
-    out.push_str(": ")?;
-    out.push_str(String::from_utf8(body)?.as_str())?;
-    Ok(out)
+    println!(rt; ": {}", expression(alloc, code.body.get())?)?;
+    Ok(())
 }
 
-/// The numbers of the nodes of a kind, each by its own number.
-fn of_kind(alloc: Global, nodes: &Nodes, root: NodeId, kind: Kind) -> Result<String, NoMemory>
+/// Prints a kind and the numbers of its nodes, each by its own number.
+fn of_kind<R: Print>(rt: &R, nodes: &Nodes, root: NodeId, kind: Kind) -> io::Result<()>
     requires { root.0 < length nodes.now }
 {
-    let mut out = String::new(alloc);
+    print!(rt; "  {}", kind.word())?;
     for k in 0..=MOST_NODES {
         match nodes.nth(root, kind, k) {
-            Some(found) => put(alloc, &mut out, found)?,
+            Some(found) => print!(rt; " {}", found.0)?,
             None => break,
         }
     }
-    Ok(out)
+    println!(rt; "")
 }
 
-/// The first node of each name of one small letter.
-fn named(alloc: Global, nodes: &Nodes, root: NodeId) -> Result<String, NoMemory>
+/// Prints the first node of a name of one small letter.
+fn named<R: Print>(rt: &R, nodes: &Nodes, root: NodeId, letter: u8) -> io::Result<()>
     requires { root.0 < length nodes.now }
 {
-    let mut out = String::new(alloc);
-    for letter in *b"abcdefgh" {
-        out.push(' ')?;
-        out.push(char::from(letter))?;
-        match nodes.by_name(root, &[letter]) {
-            Some(found) => put(alloc, &mut out, found)?,
-            None => out.push_str(" -")?,
-        }
+    let name = char::from(letter);
+    match nodes.by_name(root, &[letter]) {
+        Some(found) => print!(rt; " {name} {}", found.0),
+        None => print!(rt; " {name} -"),
     }
-    Ok(out)
 }
 
-fn listed(alloc: Global, ns: &[NodeId]) -> Result<String, NoMemory> {
-    let mut out = String::new(alloc);
+fn listed<R: Print>(rt: &R, ns: &[NodeId]) -> io::Result<()> {
     for n in ns {
-        put(alloc, &mut out, *n)?;
+        print!(rt; " {}", n.0)?;
     }
-    Ok(out)
+    println!(rt; "")
 }
 
-fn put(alloc: Global, out: &mut String, n: NodeId) -> Result<(), NoMemory> {
-    let number = format!(in alloc; " {}", n.0)?;
-    out.push_str(number.as_str())
-}
-
-fn child(alloc: Global, nodes: &Nodes, n: NodeId, k: i64) -> Result<String, NoMemory>
+fn child<R: Print>(rt: &R, nodes: &Nodes, n: NodeId, k: i64) -> io::Result<()>
     requires { n.0 < length nodes.now }
 {
     match nodes.child(n, k) {
-        Some(found) => format!(in alloc; "{}", found.0),
-        None => format!(in alloc; "-"),
+        Some(found) => println!(rt; "  child {k} {}", found.0),
+        None => println!(rt; "  child {k} -"),
     }
 }
 
-fn page(alloc: Global, page: Option<PageId>) -> Result<String, NoMemory> {
+fn page<R: Print>(rt: &R, page: Option<PageId>) -> io::Result<()> {
     match page {
-        Some(page) => format!(in alloc; "{}", page.0),
-        None => format!(in alloc; "-"),
+        Some(page) => println!(rt; "  page {}", page.0),
+        None => println!(rt; "  page -"),
     }
 }

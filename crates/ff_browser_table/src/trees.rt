@@ -88,7 +88,7 @@ fn take<C: Ledger>(
         }
         _ => {
             let answer = tree_changes::make(rt.alloc(), nodes, word, rest, copies)?;
-            println!(rt; "  {answer}")?;
+            answer.show(rt)?;
             Ok(())
         }
     }
