@@ -10,4 +10,4 @@ pub invariant_of-self : goal.invariant_of-self
 invariant_of-self g c =
     let lives = subst (λ (t : s.Stores). c.args.n.0 < length t.nodes) (sym c.self.view_is) c.requires.lives in
     let code = subst (λ (t : s.Stores). IsCode (made t) c.args.code.now) (sym c.self.view_is) c.requires.code in
-    rw c.in-Ok.ensures.done ((handler_added_valid (stores_of c.self.inside) c.args.n c.args.code.now c.self.invariant lives code c.in-Ok.ensures.answer).stores)
+    rw c.in-Ok-fault_or_emptied.ensures.done ((handler_added_valid (stores_of c.self.inside) c.args.n c.args.code.now c.self.invariant lives code c.in-Ok-fault_or_emptied.ensures.answer).stores)

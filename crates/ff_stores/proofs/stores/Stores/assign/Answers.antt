@@ -9,4 +9,4 @@ use Rattle.ff_stores.proofs.stores.Stores.assign.Goals as goal
 pub invariant_of-self : goal.invariant_of-self
 invariant_of-self g c =
     let value = subst (λ (t : s.Stores). IsVal (made t) c.args.v.now) (sym c.self.view_is) c.requires.value in
-    rw c.in-Ok.ensures.done ((assigned_valid (stores_of c.self.inside) c.args.a c.args.x.now c.args.v.now c.self.invariant value c.in-Ok.ensures.answer).stores)
+    rw c.in-Ok-fault_or_emptied.ensures.done ((assigned_valid (stores_of c.self.inside) c.args.a c.args.x.now c.args.v.now c.self.invariant value c.in-Ok-fault_or_emptied.ensures.answer).stores)

@@ -10,4 +10,4 @@ pub invariant_of-self : goal.invariant_of-self
 invariant_of-self g c =
     let lives = subst (λ (t : s.Stores). c.args.a.0 < length t.windows.acts) (sym c.self.view_is) c.requires.lives in
     let value = subst (λ (t : s.Stores). IsVal (made t) c.args.v.now) (sym c.self.view_is) c.requires.value in
-    rw c.in-Ok.ensures.done ((declared_valid (stores_of c.self.inside) c.args.a c.args.x.now c.args.v.now c.self.invariant lives c.requires.name value c.in-Ok.ensures.answer).stores)
+    rw c.in-Ok-fault_or_emptied.ensures.done ((declared_valid (stores_of c.self.inside) c.args.a c.args.x.now c.args.v.now c.self.invariant lives c.requires.name value c.in-Ok-fault_or_emptied.ensures.answer).stores)

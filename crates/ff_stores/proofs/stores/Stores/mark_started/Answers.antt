@@ -7,4 +7,4 @@ use Rattle.ff_stores.proofs.stores.Stores.mark_started.Goals as goal
 pub invariant_of-self : goal.invariant_of-self
 invariant_of-self g c =
     let lives = subst (λ (t : s.Stores). c.args.n.0 < length t.nodes) (sym c.self.view_is) c.requires in
-    rw c.in-Ok.ensures.done ((started_valid (stores_of c.self.inside) c.args.n c.self.invariant lives).stores)
+    rw c.in-Ok-or_emptied.ensures.done ((started_valid (stores_of c.self.inside) c.args.n c.self.invariant lives).stores)

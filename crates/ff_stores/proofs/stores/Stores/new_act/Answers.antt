@@ -10,4 +10,4 @@ pub invariant_of-self : goal.invariant_of-self
 invariant_of-self g c =
     let lives = subst (λ (t : s.Stores). c.args.parent.0 < length t.windows.acts) (sym c.self.view_is) c.requires.lives in
     let values = subst (λ (t : s.Stores). All (IsVal (made t)) c.args.args.now) (sym c.self.view_is) c.requires.values in
-    rw c.in-Ok.ensures.done ((called_valid (stores_of c.self.inside) c.args.parent c.args.params.now c.args.args.now c.self.invariant lives c.requires.names values c.in-Ok.ensures.answer).stores)
+    rw c.in-Ok-fault_or_emptied.ensures.done ((called_valid (stores_of c.self.inside) c.args.parent c.args.params.now c.args.args.now c.self.invariant lives c.requires.names values c.in-Ok-fault_or_emptied.ensures.answer).stores)

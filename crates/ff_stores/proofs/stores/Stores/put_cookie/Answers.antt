@@ -10,4 +10,4 @@ invariant_of-self g c =
     let domain = subst IsDomain c.text-known.ensures.value c.text-known.ensures.domain in
     let key = subst IsUtf8 c.as_bytes-known.ensures.value c.as_bytes-known.ensures.utf8 in
     let value = subst IsUtf8 c.as_bytes-known-2.ensures.value c.as_bytes-known-2.ensures.utf8 in
-    rw c.in-Ok.ensures.done (cookie_put_valid (stores_of c.self.inside) c.args.domain.now c.args.key.now c.args.value.now c.self.invariant domain key value c.in-Ok.ensures.answer)
+    rw c.in-Ok-fault_or_emptied.ensures.done (cookie_put_valid (stores_of c.self.inside) c.args.domain.now c.args.key.now c.args.value.now c.self.invariant domain key value c.in-Ok-fault_or_emptied.ensures.answer)

@@ -7,4 +7,4 @@ use Rattle.ff_stores.proofs.stores.Stores.put_cookies.Goals as goal
 pub invariant_of-self : goal.invariant_of-self
 invariant_of-self g c =
     let domain = subst IsDomain c.text-known.ensures.value c.text-known.ensures.domain in
-    rw c.in-Ok.ensures.done ((put_cookies_valid (stores_of c.self.inside) c.args.domain.now c.args.entries.now c.self.invariant domain c.requires).stores)
+    rw c.in-Ok-or_emptied.ensures.done ((put_cookies_valid (stores_of c.self.inside) c.args.domain.now c.args.entries.now c.self.invariant domain c.requires).stores)

@@ -13,4 +13,4 @@ pub invariant_of-self : goal.invariant_of-self
 invariant_of-self g c =
     let spares = subst Spares (sym c.self.view_is) (c.requires.entries, c.requires.slots) in
     let lives = subst (λ (t : s.Stores). c.args.page.0 < length t.windows.pages) (sym c.self.view_is) c.requires.page in
-    rw c.in-Ok.ensures.done ((queued_valid (stores_of c.self.inside) c.args.page c.self.invariant lives (slack (stores_of c.self.inside) spares) c.args.body.now c.requires.spelled).stores)
+    rw c.in-Ok-or_emptied.ensures.done ((queued_valid (stores_of c.self.inside) c.args.page c.self.invariant lives (slack (stores_of c.self.inside) spares) c.args.body.now c.requires.spelled).stores)
