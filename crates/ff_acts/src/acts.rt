@@ -2,6 +2,7 @@
 ghost use Rattle.std.specs.Prelude.{◌≡◌, ◌+◌, ◌*◌, ◌<◌, ◌≤◌, [], ◌∷◌, ◌++◌, length, IfOk, OnOk};
 ghost use Rattle.std.specs.FinMap as finmap;
 ghost use Rattle.std.specs.Option.{ForSome, option_copied};
+ghost use Rattle.ff_steps.specs.Rises.{RisesBy};
 ghost use Rattle.ff_tree.specs.Spelled.{IsVar, AreParams};
 ghost use Rattle.ff_machine.specs.Windows as windows;
 ghost use Rattle.ff_machine.specs.declared.limits.TheConstants.{MOST_ACTS};
@@ -71,8 +72,7 @@ impl Acts {
     pub fn add<C: Ledger>(&mut self, copies: &mut Steps<C>) -> Result<(), NoMemory>
         requires { length self.old < MOST_ACTS }
         ensures done { OnOk result (self.new ≡ self.old ++ windows.no_act ∷ []) }
-        ensures later { copies.old ≤ copies.new }
-        ensures copies { copies.new ≤ copies.old + 15 }
+        ensures copies { RisesBy 15 copies.old copies.new }
     {
         self.push_act(None, copies)
     }
@@ -86,8 +86,7 @@ impl Acts {
         requires room { length self.old < MOST_ACTS }
         requires lives { ForSome parent (λ p. p.0 < length self.old) }
         ensures done { OnOk result (self.new ≡ self.old ++ record { parent = parent; vars = finmap.empty } ∷ []) }
-        ensures later { copies.old ≤ copies.new }
-        ensures copies { copies.new ≤ copies.old + 15 }
+        ensures copies { RisesBy 15 copies.old copies.new }
     {
         let Ok(()) = self.acts.push(ActCell { parent, top: None }, copies) else {
             return Err(AllocError);
@@ -112,8 +111,7 @@ impl Acts {
         ensures number { IfOk result (λ n. n.0 ≡ length self.old) }
         ensures answer { Answers (windows.call_fault self.old (length params.now)) result }
         ensures kept { OnFault result (self.new ≡ self.old) }
-        ensures later { copies.old ≤ copies.new }
-        ensures copies { copies.new ≤ copies.old + 64 * (length params.now + 1) }
+        ensures copies { RisesBy (64 * (length params.now + 1)) copies.old copies.new }
     {
         let number = self.acts.len();
         let room = (MOST_VARS - self.vars.len()) as usize;
@@ -158,8 +156,7 @@ impl Acts {
         ensures done { OnOk result (self.new ≡ windows.set_var self.old a name.now value.now) }
         ensures answer { Answers (windows.declare_fault self.old a name.now) result }
         ensures kept { OnFault result (self.new ≡ self.old) }
-        ensures later { copies.old ≤ copies.new }
-        ensures copies { copies.new ≤ copies.old + 64 }
+        ensures copies { RisesBy 64 copies.old copies.new }
     {
         match search(&self.acts, &self.vars, a, name, digits_of(name)) {
             Stop::Found(k) => write(&mut self.vars, k, value, copies)?,
@@ -191,8 +188,7 @@ impl Acts {
         ensures done { OnOk result (self.new ≡ windows.assigned self.old (windows.holder self.old a name.now) name.now value.now) }
         ensures answer { Answers (windows.assign_fault (windows.holder self.old a name.now)) result }
         ensures kept { OnFault result (self.new ≡ self.old) }
-        ensures later { copies.old ≤ copies.new }
-        ensures copies { copies.new ≤ copies.old + 64 }
+        ensures copies { RisesBy 64 copies.old copies.new }
     {
         let Some(k) = nearest(&self.acts, &self.vars, a, name) else {
             return Err(Fail::Fault(Fault::Name));

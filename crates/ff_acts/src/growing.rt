@@ -1,5 +1,6 @@
 //! Writing a variable, and linking a new one.
-ghost use Rattle.std.specs.Prelude.{◌≡◌, ◌+◌, ◌<◌, ◌≤◌, Some, [], ◌∷◌, ◌++◌, OnOk, OnErr, length, slice_get, slice_set};
+ghost use Rattle.std.specs.Prelude.{◌≡◌, ◌<◌, Some, [], ◌∷◌, ◌++◌, OnOk, OnErr, length, slice_get, slice_set};
+ghost use Rattle.ff_steps.specs.Rises.{RisesBy};
 ghost use Rattle.ff_acts.specs.declared.cells.VarCell.{VarCell as Variable};
 ghost use Rattle.ff_acts.specs.Stops.{LivesAt, put_top, put_link};
 
@@ -24,8 +25,7 @@ pub(crate) fn write<C: Ledger>(
     requires { k < length vars.old }
     ensures done { (cell : Variable) → slice_get vars.old k ≡ Some cell → OnOk result (vars.new ≡ slice_set vars.old k (record cell { value = value.now })) }
     ensures kept { OnErr result (vars.new ≡ vars.old) }
-    ensures later { copies.old ≤ copies.new }
-    ensures copies { copies.new ≤ copies.old + 16 }
+    ensures copies { RisesBy 16 copies.old copies.new }
 {
     let value = value.copy()?;
     let Ok(()) = vars.edit(k, NewValue { value }, copies) else {
@@ -48,8 +48,7 @@ pub(crate) fn link<C: Ledger>(
     requires place { LivesAt vars.old place }
     ensures top { OnOk result (acts.new ≡ put_top acts.old a place to) }
     ensures link { OnOk result (vars.new ≡ put_link vars.old place to) }
-    ensures later { copies.old ≤ copies.new }
-    ensures copies { copies.new ≤ copies.old + 16 }
+    ensures copies { RisesBy 16 copies.old copies.new }
 {
     match place {
         Place::Top => {
@@ -89,8 +88,7 @@ pub(crate) fn grow<C: Ledger>(
     requires place { LivesAt vars.old place }
     ensures top { OnOk result (acts.new ≡ put_top acts.old cell.owner place (length vars.old)) }
     ensures link { OnOk result (vars.new ≡ put_link vars.old place (length vars.old) ++ cell ∷ []) }
-    ensures later { copies.old ≤ copies.new }
-    ensures copies { copies.new ≤ copies.old + 31 }
+    ensures copies { RisesBy 31 copies.old copies.new }
 {
     let number = vars.len();
     link(acts, vars, cell.owner, place, number, copies)?;

@@ -6,6 +6,7 @@ ghost use Rattle.ff_machine.specs.State as state;
 ghost use Rattle.ff_machine.specs.Valid.{IsState};
 ghost use Rattle.ff_machine.specs.Machine.{reactor};
 ghost use Rattle.std.specs.FinSet as finset;
+ghost use Rattle.ff_steps.specs.Rises.{RisesBy};
 ghost use Rattle.ff_core.specs.Copies.{turning};
 ghost use Rattle.ff_core.specs.Resting.{resting};
 
@@ -142,8 +143,7 @@ impl Browser {
         ensures budget { self.new.budget ≡ self.old.budget }
         ensures valid { IsState self.old.budget self.new }
         ensures counted { turns.new ≡ turns.old + 1 }
-        ensures later { copies.old ≤ copies.new }
-        ensures copies { copies.new ≤ copies.old + turning self.old }
+        ensures copies { RisesBy (turning self.old) copies.old copies.new }
     {
         turns.tick();
         let budget = self.parts.budget;

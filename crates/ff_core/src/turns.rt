@@ -1,5 +1,6 @@
 //! One turn of a browser that isn't quiet.
-ghost use Rattle.std.specs.Prelude.{◌≡◌, ◌+◌, ◌-◌, ◌<◌, ◌≤◌, ◌↔◌, List, [], All, IsTrue, None, drop};
+ghost use Rattle.std.specs.Prelude.{◌≡◌, ◌-◌, ◌<◌, ◌↔◌, List, [], All, IsTrue, None, drop};
+ghost use Rattle.ff_steps.specs.Rises.{RisesBy};
 ghost use Rattle.ff_machine.specs.Answers.{Makes};
 ghost use Rattle.ff_machine.specs.State as state;
 ghost use Rattle.ff_machine.specs.Stores as stores;
@@ -25,8 +26,7 @@ impl Parts {
     ) -> Result<(), NoMemory>
         requires { All (IsTask self.old.stores) self.old.tasks }
         ensures step { Makes self.old self.new outs.old.items outs.new.items (turns.turn self.old) result }
-        ensures later { copies.old ≤ copies.new }
-        ensures copies { copies.new ≤ copies.old + turning self.old }
+        ensures copies { RisesBy (turning self.old) copies.old copies.new }
     {
         if self.idle() {
             return self.settle(outs);
@@ -93,8 +93,7 @@ impl Parts {
     ) -> Result<(), NoMemory>
         requires { All (IsTask self.old.stores) self.old.tasks }
         ensures step { Makes self.old self.new outs.old.items outs.new.items (turns.first_work self.old self.old.tasks) result }
-        ensures later { copies.old ≤ copies.new }
-        ensures copies { copies.new ≤ copies.old + spending self.old.stores self.old.tasks }
+        ensures copies { RisesBy (spending self.old.stores self.old.tasks) copies.old copies.new }
     {
         match self.tasks.front_mut() {
             Some(task) => {
@@ -121,8 +120,7 @@ impl Parts {
     fn begin_script<C: Ledger>(&mut self, copies: &mut Steps<C>) -> Result<(), NoMemory>
         requires { self.old.tasks ≡ [] }
         ensures step { (puts : List Out) → Makes self.old self.new puts puts (state.given self.old (stores.take_ready self.old.stores) (turns.begin_script self.old)) result }
-        ensures later { copies.old ≤ copies.new }
-        ensures copies { copies.new ≤ copies.old + 17 }
+        ensures copies { RisesBy 17 copies.old copies.new }
     {
         match self.stores.take_ready(copies)? {
             Some((page, body)) => {

@@ -2,6 +2,7 @@
 ghost use Rattle.std.specs.Prelude.{◌≡◌, ◌+◌, ◌*◌, ◌/◌, ◌<◌, ◌≤◌, [], ◌∷◌, ◌++◌, map, length, IfErr, IfOk, OnOk, OnErr};
 ghost use Rattle.std.specs.Rc.{rc_value};
 ghost use Rattle.std.proofs.Common.{arith};
+ghost use Rattle.ff_steps.specs.Rises.{RisesBy};
 ghost use Rattle.ff_cow.specs.Nodes.{cells_of, AreNodes};
 ghost use Rattle.ff_cow.specs.Edits.{edited_at};
 ghost use Rattle.ff_cow.specs.Tower.{branch_cells, IsBranch};
@@ -149,8 +150,7 @@ where
     ensures kept { OnErr result (T.cells (rc_value kid.new) ≡ T.cells (rc_value kid.old)) }
     ensures returned { IfErr result (λ back. back ≡ edit) }
     ensures valid { T.is_valid (rc_value kid.new) }
-    ensures later { copies.old ≤ copies.new }
-    ensures copies { copies.new ≤ copies.old + 16 }
+    ensures copies { RisesBy 16 copies.old copies.new }
 {
     let Ok(()) = unshare(kid, alloc, copies) else {
         return Err(edit);
@@ -182,8 +182,7 @@ where
     ensures kept { OnErr result (T.cells (rc_value kid.new) ≡ T.cells (rc_value kid.old)) }
     ensures returned { IfErr result (λ back. back ≡ value) }
     ensures valid { T.is_valid (rc_value kid.new) }
-    ensures later { copies.old ≤ copies.new }
-    ensures copies { copies.new ≤ copies.old + 15 }
+    ensures copies { RisesBy 15 copies.old copies.new }
 {
     let Ok(()) = unshare(kid, alloc, copies) else {
         return Err(value);
@@ -206,8 +205,7 @@ where
     requires valid { T.is_valid (rc_value kid.old) }
     ensures cells { T.cells (rc_value kid.new) ≡ T.cells (rc_value kid.old) }
     ensures valid { T.is_valid (rc_value kid.new) }
-    ensures later { copies.old ≤ copies.new }
-    ensures copies { copies.new ≤ copies.old + T.copied (T.cells (rc_value kid.old)) }
+    ensures copies { RisesBy (T.copied (T.cells (rc_value kid.old))) copies.old copies.new }
 {
     if Rc::strong_count(kid) > 1 {
         let own = kid.duplicate(alloc, copies)?;

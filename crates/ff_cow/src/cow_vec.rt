@@ -1,6 +1,7 @@
 // The list itself.
-ghost use Rattle.std.specs.Prelude.{◌≡◌, ◌+◌, ◌<◌, ◌≤◌, ◌↔◌, [], ◌∷◌, ◌++◌, Some, length, IsTrue, IfOk, IfErr, OnOk, OnErr, slice_get, slice_set};
+ghost use Rattle.std.specs.Prelude.{◌≡◌, ◌<◌, ◌≤◌, ◌↔◌, [], ◌∷◌, ◌++◌, Some, length, IsTrue, IfOk, IfErr, OnOk, OnErr, slice_get, slice_set};
 ghost use Rattle.std.specs.Option.{option_copied};
+ghost use Rattle.ff_steps.specs.Rises.{RisesBy};
 ghost use Rattle.ff_cow.specs.Push.{returned, is_full};
 
 use crate::cell::{Cell, NoMemory};
@@ -89,8 +90,7 @@ impl<V> CowVec<V> {
         ensures kept { OnErr result (self.new ≡ self.old) }
         ensures returned { IfErr result (λ refusal. returned refusal ≡ value) }
         ensures full { IsTrue (is_full result) ↔ (length self.old ≡ MOST_CELLS) }
-        ensures later { copies.old ≤ copies.new }
-        ensures copies { copies.new ≤ copies.old + 15 }
+        ensures copies { RisesBy 15 copies.old copies.new }
     {
         if self.count == MOST_CELLS {
             return Err(PushFail::Full(value));
@@ -113,8 +113,7 @@ impl<V> CowVec<V> {
         ensures done { OnOk result (self.new ≡ slice_set self.old i value) }
         ensures kept { OnErr result (self.new ≡ self.old) }
         ensures returned { IfErr result (λ back. back ≡ value) }
-        ensures later { copies.old ≤ copies.new }
-        ensures copies { copies.new ≤ copies.old + 16 }
+        ensures copies { RisesBy 16 copies.old copies.new }
     {
         match self.edit(i, Put { value }, copies) {
             Ok(()) => Ok(()),
@@ -136,8 +135,7 @@ impl<V> CowVec<V> {
         ensures done { (cell : V) → slice_get self.old i ≡ Some cell → OnOk result (self.new ≡ slice_set self.old i (E.edited edit cell)) }
         ensures kept { OnErr result (self.new ≡ self.old) }
         ensures returned { IfErr result (λ back. back ≡ edit) }
-        ensures later { copies.old ≤ copies.new }
-        ensures copies { copies.new ≤ copies.old + 16 }
+        ensures copies { RisesBy 16 copies.old copies.new }
     {
         let room = MOST_CELLS as usize;
         self.root.edit(i as usize, room, edit, self.alloc, copies)

@@ -1,5 +1,6 @@
 // One layer of the tree. A node of it is seen as the list of the cells below it.
 ghost use Rattle.std.specs.Prelude.{◌≡◌, ℕ, ◌+◌, ◌<◌, ◌≤◌, [], ◌∷◌, ◌++◌, List, length, IfOk, IfErr, OnOk, OnErr, slice_get};
+ghost use Rattle.ff_steps.specs.Rises.{RisesBy};
 ghost use Rattle.ff_cow.specs.Edits.{edited_at};
 
 use crate::cell::{Cell, NoMemory};
@@ -44,8 +45,7 @@ pub(crate) trait Writable<V>: Layer<V> + Drop {
         requires valid { Self.is_valid self.now }
         ensures cells { IfOk result (λ node. Self.cells node ≡ Self.cells self.now) }
         ensures valid { IfOk result (λ node. Self.is_valid node) }
-        ensures later { copies.old ≤ copies.new }
-        ensures copies { copies.new ≤ copies.old + copied (Self.cells self.now) };
+        ensures copies { RisesBy (copied (Self.cells self.now)) copies.old copies.new };
 
     /// Changes the cell at `i` where it lies. Want of memory gives the change back and leaves the
     /// cells as they were.

@@ -1,9 +1,10 @@
 //! The rows of pending requests: what is asked of them, and their changes.
-ghost use Rattle.std.specs.Prelude.{◌≡◌, ◌+◌, ◌*◌, ◌<◌, ◌≤◌, Some, IfOk, OnOk, OnErr, length, slice_get};
+ghost use Rattle.std.specs.Prelude.{◌≡◌, ◌+◌, ◌*◌, ◌<◌, Some, IfOk, OnOk, OnErr, length, slice_get};
 ghost use Rattle.std.specs.Ordering.{nat_cmp};
 ghost use Rattle.std.specs.Cmp.Lexicographic.{slice_cmp};
 ghost use Rattle.std.specs.List.{position_or_len};
 ghost use Rattle.std.specs.FinMap as finmap;
+ghost use Rattle.ff_steps.specs.Rises.{RisesBy};
 ghost use Rattle.ff_net.specs.Asks.{is_to, count_rows};
 ghost use Rattle.ff_net.specs.Entries.{AreApart};
 ghost use Rattle.ff_machine.specs.Net as net;
@@ -41,8 +42,7 @@ pub(crate) fn put_ask<C: Ledger>(
     ensures apart { OnOk result (AreApart (slice_cmp nat_cmp) rows.new) }
     ensures count { OnOk result (count_rows rows.new ≡ count_rows rows.old + 1) }
     ensures kept { OnErr result (rows.new ≡ rows.old) }
-    ensures later { copies.old ≤ copies.new }
-    ensures copies { copies.new ≤ copies.old + 33 }
+    ensures copies { RisesBy 33 copies.old copies.new }
 {
     let place = place_to(rows, domain);
     let mut asks = fork_asks(alloc, rows, place, domain, copies)?;
@@ -67,8 +67,7 @@ pub(crate) fn take_ask<C: Ledger>(
     ensures apart { OnOk result (AreApart (slice_cmp nat_cmp) rows.new) }
     ensures count { OnOk result (count_rows rows.new + 1 ≡ count_rows rows.old) }
     ensures kept { OnErr result (rows.new ≡ rows.old) }
-    ensures later { copies.old ≤ copies.new }
-    ensures copies { copies.new ≤ copies.old + 17 * length (net.asked (finmap.from_entries rows.old) domain.now) }
+    ensures copies { RisesBy (17 * length (net.asked (finmap.from_entries rows.old) domain.now)) copies.old copies.new }
 {
     let place = place_to(rows, domain);
     let mut asks = fork_asks(alloc, rows, place, domain, copies)?;
@@ -112,8 +111,7 @@ fn put_asks<C: Ledger>(
     ensures apart { OnOk result (AreApart (slice_cmp nat_cmp) rows.new) }
     ensures count { OnOk result (count_rows rows.new + length (net.asked (finmap.from_entries rows.old) domain.now) ≡ count_rows rows.old + length asks) }
     ensures kept { OnErr result (rows.new ≡ rows.old) }
-    ensures later { copies.old ≤ copies.new }
-    ensures copies { copies.new ≤ copies.old + 17 }
+    ensures copies { RisesBy 17 copies.old copies.new }
 {
     if place < rows.len() {
         change_row(rows, place, domain, asks, copies)?;
@@ -141,8 +139,7 @@ fn change_row<C: Ledger>(
     ensures apart { OnOk result (AreApart (slice_cmp nat_cmp) rows.new) }
     ensures count { OnOk result (count_rows rows.new + length (net.asked (finmap.from_entries rows.old) domain.now) ≡ count_rows rows.old + length asks) }
     ensures kept { OnErr result (rows.new ≡ rows.old) }
-    ensures later { copies.old ≤ copies.new }
-    ensures copies { copies.new ≤ copies.old + 17 }
+    ensures copies { RisesBy 17 copies.old copies.new }
 {
     if asks.len() == 0 {
         rows.swap_remove(place, copies)?;

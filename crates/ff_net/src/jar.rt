@@ -1,7 +1,8 @@
 //! The cookies of one browser.
-ghost use Rattle.std.specs.Prelude.{◌≡◌, ◌+◌, ◌≤◌, IfOk, OnErr, OnOk};
+ghost use Rattle.std.specs.Prelude.{◌≡◌, IfOk, OnErr, OnOk};
 ghost use Rattle.std.specs.Option.{option_copied};
 ghost use Rattle.std.specs.FinMap as finmap;
+ghost use Rattle.ff_steps.specs.Rises.{RisesBy};
 ghost use Rattle.ff_machine.specs.Alone.{IsJar};
 ghost use Rattle.ff_machine.specs.Net as net;
 ghost use Rattle.ff_operators.specs.Answers.{Answers};
@@ -86,8 +87,7 @@ impl Jar {
         ensures done { OnOk result (self.new ≡ net.cookie_put self.old domain.now key.now value.now) }
         ensures answer { Answers (net.cookie_fault self.old domain.now key.now value.now) result }
         ensures kept { OnErr result (self.new ≡ self.old) }
-        ensures later { copies.old ≤ copies.new }
-        ensures copies { copies.new ≤ copies.old + 16 }
+        ensures copies { RisesBy 16 copies.old copies.new }
     {
         if !has_cookie_size(key, value) {
             return Err(Fail::Fault(Fault::Range));
@@ -117,8 +117,7 @@ impl Jar {
     ) -> Result<(), NoMemory>
         ensures done { OnOk result (self.new ≡ net.cookie_deleted self.old domain.now key.now) }
         ensures kept { OnErr result (self.new ≡ self.old) }
-        ensures later { copies.old ≤ copies.new }
-        ensures copies { copies.new ≤ copies.old + 17 }
+        ensures copies { RisesBy 17 copies.old copies.new }
     {
         let place = place_of(&self.cookies, domain, key);
         if place < self.cookies.len() {

@@ -1,6 +1,7 @@
 //! The pending requests of one browser.
-ghost use Rattle.std.specs.Prelude.{◌≡◌, ◌+◌, ◌*◌, ◌≤◌, IsTrue, IfOk, OnErr, OnOk, MatchOption, length, slice_get};
+ghost use Rattle.std.specs.Prelude.{◌≡◌, ◌*◌, IsTrue, IfOk, OnErr, OnOk, MatchOption, length, slice_get};
 ghost use Rattle.std.specs.FinMap as finmap;
+ghost use Rattle.ff_steps.specs.Rises.{RisesBy};
 ghost use Rattle.ff_name.specs.Address.{IsRequest};
 ghost use Rattle.ff_machine.specs.Alone.{IsDst};
 ghost use Rattle.ff_machine.specs.Net as net;
@@ -83,8 +84,7 @@ impl Requests {
         requires dst { IsDst dst }
         ensures kept { OnErr result (self.new ≡ self.old) }
         ensures done { OnOk result (self.new ≡ net.with_ask self.old domain.now (record { uri = uri.now; dst = dst })) }
-        ensures later { copies.old ≤ copies.new }
-        ensures copies { copies.new ≤ copies.old + 33 }
+        ensures copies { RisesBy 33 copies.old copies.new }
     {
         let _known = domain.as_bytes();
         let pending = Pending {
@@ -108,8 +108,7 @@ impl Requests {
         ensures value { IfOk result (λ answer. answer ≡ slice_get (net.asked self.old domain.now) k) }
         ensures kept { OnErr result (self.new ≡ self.old) }
         ensures done { IfOk result (λ answer. MatchOption answer (self.new ≡ self.old) (λ _. self.new ≡ net.answered self.old domain.now k)) }
-        ensures later { copies.old ≤ copies.new }
-        ensures copies { copies.new ≤ copies.old + 17 * length (net.asked self.old domain.now) }
+        ensures copies { RisesBy (17 * length (net.asked self.old domain.now)) copies.old copies.new }
     {
         if k >= self.len(domain) {
             return Ok(None);

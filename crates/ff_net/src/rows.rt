@@ -1,6 +1,7 @@
 //! A list that forks share, and that can shrink: cells behind its end wait to be written again.
 ghost use Rattle.std.specs.Prelude.{◌≡◌, ◌+◌, ◌*◌, ◌<◌, ◌≤◌, [], ◌∷◌, ◌++◌, length, Some, IfOk, OnOk, OnErr, slice_get, slice_set};
 ghost use Rattle.std.specs.List.{remove, swap_remove};
+ghost use Rattle.ff_steps.specs.Rises.{RisesBy};
 
 use ff_cow::{Cell, CowVec};
 use ff_name::NoMemory;
@@ -67,8 +68,7 @@ impl<V> Rows<V> {
         V: Cell<C>,
         ensures done { OnOk result (self.new ≡ self.old ++ value ∷ []) }
         ensures kept { OnErr result (self.new ≡ self.old) }
-        ensures later { copies.old ≤ copies.new }
-        ensures copies { copies.new ≤ copies.old + 16 }
+        ensures copies { RisesBy 16 copies.old copies.new }
     {
         let count = self.cells.len();
         if self.len < count {
@@ -97,8 +97,7 @@ impl<V> Rows<V> {
         requires { i < length self.old }
         ensures done { OnOk result (self.new ≡ slice_set self.old i value) }
         ensures kept { OnErr result (self.new ≡ self.old) }
-        ensures later { copies.old ≤ copies.new }
-        ensures copies { copies.new ≤ copies.old + 16 }
+        ensures copies { RisesBy 16 copies.old copies.new }
     {
         let Ok(()) = self.cells.set(i, value, copies) else {
             return Err(AllocError);
@@ -118,8 +117,7 @@ impl<V> Rows<V> {
         requires { i < length self.old }
         ensures done { OnOk result ((d : V) → self.new ≡ swap_remove self.old i d) }
         ensures kept { OnErr result (self.new ≡ self.old) }
-        ensures later { copies.old ≤ copies.new }
-        ensures copies { copies.new ≤ copies.old + 17 }
+        ensures copies { RisesBy 17 copies.old copies.new }
     {
         let last = self.len() - 1;
         let moved = self.at(last).copy(copies)?;

@@ -1,5 +1,6 @@
 //! Changes of one node.
-ghost use Rattle.std.specs.Prelude.{◌≡◌, ◌+◌, ◌<◌, ◌≤◌, length, OnOk};
+ghost use Rattle.std.specs.Prelude.{◌≡◌, ◌<◌, length, OnOk};
+ghost use Rattle.ff_steps.specs.Rises.{RisesBy};
 ghost use Rattle.ff_machine.specs.Nodes as nodes;
 ghost use Rattle.ff_operators.specs.Answers.{Answers, OnFault};
 ghost use Rattle.ff_value.specs.Spelled.{IsWellSpelledCode};
@@ -24,8 +25,7 @@ impl Nodes {
         ensures done { OnOk result (self.new ≡ nodes.text_set self.old n text.now) }
         ensures answer { Answers (nodes.text_fault self.old n) result }
         ensures kept { OnFault result (self.new ≡ self.old) }
-        ensures later { copies.old ≤ copies.new }
-        ensures copies { copies.new ≤ copies.old + 16 }
+        ensures copies { RisesBy 16 copies.old copies.new }
     {
         let node = self.at(n);
         if node.text().is_none() {
@@ -50,8 +50,7 @@ impl Nodes {
         ensures done { OnOk result (self.new ≡ nodes.handler_added self.old n code.now) }
         ensures answer { Answers (nodes.handler_fault self.old n code.now) result }
         ensures kept { OnFault result (self.new ≡ self.old) }
-        ensures later { copies.old ≤ copies.new }
-        ensures copies { copies.new ≤ copies.old + 16 }
+        ensures copies { RisesBy 16 copies.old copies.new }
     {
         let node = self.at(n);
         if !node.may_have_handlers() || code.params.len() != 1 {
@@ -69,8 +68,7 @@ impl Nodes {
     pub fn start<C: Ledger>(&mut self, n: NodeId, copies: &mut Steps<C>) -> Result<(), NoMemory>
         requires { n.0 < length self.old }
         ensures done { OnOk result (self.new ≡ nodes.started self.old n) }
-        ensures later { copies.old ≤ copies.new }
-        ensures copies { copies.new ≤ copies.old + 16 }
+        ensures copies { RisesBy 16 copies.old copies.new }
     {
         let _known = self.alloc;
         self.change(n, Started, copies)

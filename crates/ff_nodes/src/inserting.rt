@@ -1,6 +1,7 @@
 //! One tree under another.
-ghost use Rattle.std.specs.Prelude.{◌≡◌, ◌+◌, ◌<◌, ◌≤◌, ℕ, None, pos, length, nat_abs, IfOk, IfSome, OnOk, slice_set};
+ghost use Rattle.std.specs.Prelude.{◌≡◌, ◌<◌, ◌≤◌, ℕ, None, pos, length, nat_abs, IfOk, IfSome, OnOk, slice_set};
 ghost use Rattle.std.specs.List as lists;
+ghost use Rattle.ff_steps.specs.Rises.{RisesBy};
 ghost use Rattle.ff_machine.specs.declared.limits.TheConstants.{MOST_TREE_DEPTH};
 ghost use Rattle.ff_machine.specs.Nodes as nodes;
 ghost use Rattle.ff_operators.specs.Answers.{Answers, OnFault};
@@ -39,8 +40,7 @@ impl Nodes {
         ensures done { OnOk result (self.new ≡ nodes.joined self.old parent child (nat_abs at)) }
         ensures answer { Answers (nodes.insert_fault self.old parent child at) result }
         ensures kept { OnFault result (self.new ≡ self.old) }
-        ensures later { copies.old ≤ copies.new }
-        ensures copies { copies.new ≤ copies.old + 4128 }
+        ensures copies { RisesBy 4128 copies.old copies.new }
     {
         let place = self.place_for(parent, child, at)?;
         self.join(parent, child, place, copies)?;
@@ -104,8 +104,7 @@ impl Nodes {
         requires child_lives { child.0 < length self.old }
         requires clear { nodes.insert_fault self.old parent child (pos place) ≡ None }
         ensures done { OnOk result (self.new ≡ nodes.joined self.old parent child place) }
-        ensures later { copies.old ≤ copies.new }
-        ensures copies { copies.new ≤ copies.old + 4128 }
+        ensures copies { RisesBy 4128 copies.old copies.new }
     {
         let under = with_parent(self.at(child), parent)?;
         let over = with_child(self.at(parent), place, child, self.alloc)?;
@@ -168,8 +167,7 @@ fn write_node<C: Ledger>(
 ) -> Result<(), NoMemory>
     requires { n.0 < length cells.old }
     ensures done { OnOk result (cells.new ≡ slice_set cells.old n.0 (record { node = node; marks = (cell_at cells.old n).marks })) }
-    ensures later { copies.old ≤ copies.new }
-    ensures copies { copies.new ≤ copies.old + 16 }
+    ensures copies { RisesBy 16 copies.old copies.new }
 {
     let marks = match cells.get(n.0) {
         Some(cell) => cell.marks,

@@ -1,6 +1,7 @@
 //! Documents, laid as new nodes behind the ones that there are. Room for all of a document is
 //! counted before anything is laid; a division is written twice, at first without its children.
-ghost use Rattle.std.specs.Prelude.{◌≡◌, ◌+◌, ◌*◌, ◌≤◌, [], Some, length, map, IfOk, OnOk};
+ghost use Rattle.std.specs.Prelude.{◌≡◌, ◌*◌, [], Some, length, map, IfOk, OnOk};
+ghost use Rattle.ff_steps.specs.Rises.{RisesBy};
 ghost use Rattle.ff_machine.specs.Documents as documents;
 ghost use Rattle.ff_machine.specs.Documents.{laid, size_of, numbers, lay_all, handler_code};
 ghost use Rattle.ff_nodes.specs.Laying.{AreNew};
@@ -27,8 +28,7 @@ pub(crate) fn lay_doc<C: Ledger>(
     copies: &mut Steps<C>,
 ) -> Result<(), NoMemory>
     ensures new { OnOk result (AreNew cells.old cells.new ((laid env doc.now).nodes (length cells.old) under)) }
-    ensures later { copies.old ≤ copies.new }
-    ensures copies { copies.new ≤ copies.old + 31 * (laid env doc.now).size }
+    ensures copies { RisesBy (31 * (laid env doc.now).size) copies.old copies.new }
 {
     match doc {
         Doc::Text(name, text) => {
@@ -77,8 +77,7 @@ pub(crate) fn lay_over<C: Ledger>(
     copies: &mut Steps<C>,
 ) -> Result<(), NoMemory>
     ensures new { OnOk result (AreNew cells.old cells.new ((documents.lay_over shape (map (laid env) docs.now)).nodes (length cells.old) under)) }
-    ensures later { copies.old ≤ copies.new }
-    ensures copies { copies.new ≤ copies.old + 31 * (documents.lay_over shape (map (laid env) docs.now)).size }
+    ensures copies { RisesBy (31 * (documents.lay_over shape (map (laid env) docs.now)).size) copies.old copies.new }
 {
     let n = NodeId(cells.len());
     let first = shape.copy()?;
@@ -104,8 +103,7 @@ fn lay_each<C: Ledger>(
 ) -> Result<Ids, NoMemory>
     ensures new { OnOk result (AreNew cells.old cells.new (lay_all (map (laid env) docs.now) (length cells.old) (Some under))) }
     ensures numbers { IfOk result (λ ids. ids ≡ numbers (map (laid env) docs.now) (length cells.old)) }
-    ensures later { copies.old ≤ copies.new }
-    ensures copies { copies.new ≤ copies.old + 31 * size_of (map (laid env) docs.now) }
+    ensures copies { RisesBy (31 * size_of (map (laid env) docs.now)) copies.old copies.new }
 {
     let mut ids = Vec::new(alloc);
     for doc in docs {
@@ -125,8 +123,7 @@ fn lay_leaf<C: Ledger>(
     copies: &mut Steps<C>,
 ) -> Result<(), NoMemory>
     ensures new { OnOk result (AreNew cells.old cells.new ((documents.lay_leaf shape handlers).nodes (length cells.old) under)) }
-    ensures later { copies.old ≤ copies.new }
-    ensures copies { copies.new ≤ copies.old + 15 }
+    ensures copies { RisesBy 15 copies.old copies.new }
 {
     let children = Ids::from_vec(alloc, Vec::new(alloc))?;
     let node = Node::of(shape, handlers, children, under);

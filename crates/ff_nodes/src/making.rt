@@ -1,6 +1,7 @@
 //! Trees that are made of documents.
-ghost use Rattle.std.specs.Prelude.{◌≡◌, ◌+◌, ◌*◌, ◌≤◌, map, IfOk, OnOk};
+ghost use Rattle.std.specs.Prelude.{◌≡◌, ◌*◌, ◌≤◌, map, IfOk, OnOk};
 ghost use Rattle.std.specs.List.{AllByRecursion};
+ghost use Rattle.ff_steps.specs.Rises.{RisesBy};
 ghost use Rattle.ff_name.specs.declared.limits.TheConstants.{MOST_DEPTH};
 ghost use Rattle.ff_tree.specs.Spelled.{IsSpelledDoc, IsWellSpelledDoc, doc_depth, most};
 ghost use Rattle.ff_machine.specs.Documents.{laid, laid_page, with_tree};
@@ -33,8 +34,7 @@ impl Nodes {
         ensures number { IfOk result (λ n. n ≡ nodes.next_node self.old) }
         ensures answer { Answers (nodes.room_fault self.old (laid env doc.now).size) result }
         ensures kept { OnFault result (self.new ≡ self.old) }
-        ensures later { copies.old ≤ copies.new }
-        ensures copies { copies.new ≤ copies.old + 47 * (laid env doc.now).size }
+        ensures copies { RisesBy (47 * (laid env doc.now).size) copies.old copies.new }
     {
         let n = self.len();
         if room_after(doc, MOST_NODES - n).is_none() {
@@ -62,8 +62,7 @@ impl Nodes {
         ensures number { IfOk result (λ n. n ≡ nodes.next_node self.old) }
         ensures answer { Answers (nodes.room_fault self.old (laid_page page env docs.now).size) result }
         ensures kept { OnFault result (self.new ≡ self.old) }
-        ensures later { copies.old ≤ copies.new }
-        ensures copies { copies.new ≤ copies.old + 47 * (laid_page page env docs.now).size }
+        ensures copies { RisesBy (47 * (laid_page page env docs.now).size) copies.old copies.new }
     {
         let n = self.len();
         if room_after_page(docs.as_slice(), MOST_NODES - n).is_none() {

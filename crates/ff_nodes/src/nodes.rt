@@ -1,5 +1,6 @@
 //! The nodes of one browser.
-ghost use Rattle.std.specs.Prelude.{◌≡◌, ◌+◌, ◌<◌, ◌≤◌, [], length, IfOk, OnOk, OnErr};
+ghost use Rattle.std.specs.Prelude.{◌≡◌, ◌<◌, ◌≤◌, [], length, IfOk, OnOk, OnErr};
+ghost use Rattle.ff_steps.specs.Rises.{RisesBy};
 ghost use Rattle.ff_machine.specs.declared.limits.TheConstants.{MOST_NODES};
 ghost use Rattle.ff_machine.specs.Alone.{AreNodes, IsNode};
 ghost use Rattle.ff_machine.specs.Nodes as nodes;
@@ -98,8 +99,7 @@ impl Nodes {
         requires name { shapes.name_of (E.edited edit (nodes.node_at self.old n)).shape ≡ shapes.name_of (nodes.node_at self.old n).shape }
         ensures done { OnOk result (self.new ≡ nodes.set_node self.old n (E.edited edit (nodes.node_at self.old n))) }
         ensures kept { OnErr result (self.new ≡ self.old) }
-        ensures later { copies.old ≤ copies.new }
-        ensures copies { copies.new ≤ copies.old + 16 }
+        ensures copies { RisesBy 16 copies.old copies.new }
     {
         let Ok(()) = self.cells.edit(n.0, OfNode { edit }, copies) else {
             return Err(AllocError);

@@ -1,5 +1,6 @@
 //! Marks, raised to the nodes above.
 ghost use Rattle.std.specs.Prelude.{◌≡◌, ◌+◌, ◌*◌, ◌<◌, ◌≤◌, length, OnOk};
+ghost use Rattle.ff_steps.specs.Rises.{RisesBy};
 ghost use Rattle.ff_machine.specs.Alone.{AreTrees};
 ghost use Rattle.ff_machine.specs.Nodes.{depth};
 ghost use Rattle.ff_nodes.specs.Cells as views;
@@ -23,8 +24,7 @@ pub(crate) fn raise<C: Ledger>(
 ) -> Result<(), NoMemory>
     requires { n.0 < length cells.old }
     ensures raised { OnOk result (IsRaised cells.old cells.new n marks) }
-    ensures later { copies.old ≤ copies.new }
-    ensures copies { copies.new ≤ copies.old + 16 }
+    ensures copies { RisesBy 16 copies.old copies.new }
 {
     let cell = cell_at(cells, n);
     let more = cell.marks.with(marks);
@@ -50,8 +50,7 @@ pub(crate) fn raise_above<C: Ledger>(
     requires marks { AreMarkedBut n cells.old }
     ensures nodes { OnOk result (nodes_of cells.new ≡ nodes_of cells.old) }
     ensures marks { OnOk result (AreMarked cells.new) }
-    ensures later { copies.old ≤ copies.new }
-    ensures copies { copies.new ≤ copies.old + 16 * depth (nodes_of cells.old) n }
+    ensures copies { RisesBy (16 * depth (nodes_of cells.old) n) copies.old copies.new }
 {
     let cell = cell_at(cells, n);
     let marks = cell.marks;

@@ -1,5 +1,6 @@
 //! The operator that asks a domain for something.
-ghost use Rattle.std.specs.Prelude.{◌≡◌, ◌+◌, ◌<◌, ◌≤◌, ◌==◌, true, length, All};
+ghost use Rattle.std.specs.Prelude.{◌≡◌, ◌<◌, ◌==◌, true, length, All};
+ghost use Rattle.ff_steps.specs.Rises.{RisesBy};
 ghost use Rattle.ff_name.specs.Address.{IsWellSpelled};
 ghost use Rattle.ff_name.specs.Reading.{read_url};
 ghost use Rattle.ff_name.specs.declared.urls.Url.TheVariants as url;
@@ -32,8 +33,7 @@ pub(crate) fn ask<C: Ledger>(
     requires page { page.0 < length stores.old.windows.pages }
     requires values { All (IsVal (made stores.old)) args.now }
     ensures does { Does (operators.operate stores.old page op.Ask args.now) result stores.old stores.new outs.old.items outs.new.items }
-    ensures later { copies.old ≤ copies.new }
-    ensures copies { copies.new ≤ copies.old + 33 }
+    ensures copies { RisesBy 33 copies.old copies.new }
 {
     match strs_code(args) {
         Some((address, body, code)) => {
@@ -56,8 +56,7 @@ fn ask_spelled<C: Ledger>(
     requires page { page.0 < length stores.old.windows.pages }
     requires code { IsCode (made stores.old) code.now }
     ensures does { Does (operators.ask stores.old page address.now body.now code.now) result stores.old stores.new outs.old.items outs.new.items }
-    ensures later { copies.old ≤ copies.new }
-    ensures copies { copies.new ≤ copies.old + 33 }
+    ensures copies { RisesBy 33 copies.old copies.new }
 {
     if code.params.len() != 1 {
         return Err(Fail::Fault(Fault::Kind));
@@ -82,8 +81,7 @@ fn ask_at<C: Ledger>(
     requires code { IsCode (made stores.old) code.now }
     requires takes_one { length code.now.params ≡ 1 }
     ensures does { Does (operators.ask_at stores.old page body.now code.now url.now) result stores.old stores.new outs.old.items outs.new.items }
-    ensures later { copies.old ≤ copies.new }
-    ensures copies { copies.new ≤ copies.old + 33 }
+    ensures copies { RisesBy 33 copies.old copies.new }
 {
     match url {
         Url::Blank => Err(Fail::Fault(Fault::Range)),
@@ -106,8 +104,7 @@ fn send<C: Ledger>(
     requires code { IsCode (made stores.old) code.now }
     requires takes_one { length code.now.params ≡ 1 }
     ensures does { Does (operators.ask_at stores.old page body.now code.now (url.At domain.now uri.now)) result stores.old stores.new outs.old.items outs.new.items }
-    ensures later { copies.old ≤ copies.new }
-    ensures copies { copies.new ≤ copies.old + 33 }
+    ensures copies { RisesBy 33 copies.old copies.new }
 {
     let to = Dst::Call(page, code.copy()?);
     if stores.send(domain, uri, body, to, outs, copies)? {

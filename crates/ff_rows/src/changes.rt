@@ -1,5 +1,6 @@
 //! The operators that change nodes.
-ghost use Rattle.std.specs.Prelude.{◌≡◌, ◌+◌, ◌<◌, ◌≤◌, List, length, All};
+ghost use Rattle.std.specs.Prelude.{◌≡◌, ◌<◌, List, length, All};
+ghost use Rattle.ff_steps.specs.Rises.{RisesBy};
 ghost use Rattle.ff_tree.specs.declared.op.Op.TheVariants as op;
 ghost use Rattle.ff_value.specs.declared.output.Out.{Out};
 ghost use Rattle.ff_machine.specs.Answers.{Does};
@@ -25,8 +26,7 @@ pub(crate) fn set_text<C: Ledger>(
 ) -> Result<Val, Fail>
     requires { All (IsVal (made stores.old)) args.now }
     ensures does { (puts : List Out) → Does (operators.operate stores.old page op.SetText args.now) result stores.old stores.new puts puts }
-    ensures later { copies.old ≤ copies.new }
-    ensures copies { copies.new ≤ copies.old + 64 }
+    ensures copies { RisesBy 64 copies.old copies.new }
 {
     match node_str(args) {
         Some((n, text)) => set_text_of(stores, n, text, copies),
@@ -42,8 +42,7 @@ fn set_text_of<C: Ledger>(
 ) -> Result<Val, Fail>
     requires { n.0 < length stores.old.nodes }
     ensures does { (puts : List Out) → Does (operators.set_text stores.old n text.now) result stores.old stores.new puts puts }
-    ensures later { copies.old ≤ copies.new }
-    ensures copies { copies.new ≤ copies.old + 64 }
+    ensures copies { RisesBy 64 copies.old copies.new }
 {
     stores.set_text(n, text, copies)?;
     Ok(Val::Null)
@@ -58,8 +57,7 @@ pub(crate) fn listen<C: Ledger>(
 ) -> Result<Val, Fail>
     requires { All (IsVal (made stores.old)) args.now }
     ensures does { (puts : List Out) → Does (operators.operate stores.old page op.Listen args.now) result stores.old stores.new puts puts }
-    ensures later { copies.old ≤ copies.new }
-    ensures copies { copies.new ≤ copies.old + 16 }
+    ensures copies { RisesBy 16 copies.old copies.new }
 {
     match node_code(args) {
         Some((n, code)) => listen_at(stores, n, code, copies),
@@ -76,8 +74,7 @@ fn listen_at<C: Ledger>(
     requires lives { n.0 < length stores.old.nodes }
     requires code { IsCode (made stores.old) code.now }
     ensures does { (puts : List Out) → Does (operators.listen stores.old n code.now) result stores.old stores.new puts puts }
-    ensures later { copies.old ≤ copies.new }
-    ensures copies { copies.new ≤ copies.old + 16 }
+    ensures copies { RisesBy 16 copies.old copies.new }
 {
     stores.add_handler(n, code, copies)?;
     Ok(Val::Null)
@@ -93,8 +90,7 @@ pub(crate) fn insert<C: Ledger>(
 ) -> Result<Val, Fail>
     requires { All (IsVal (made stores.old)) args.now }
     ensures does { Does (operators.operate stores.old page op.Insert args.now) result stores.old stores.new outs.old.items outs.new.items }
-    ensures later { copies.old ≤ copies.new }
-    ensures copies { copies.new ≤ copies.old + most_copies stores.old op.Insert args.now }
+    ensures copies { RisesBy (most_copies stores.old op.Insert args.now) copies.old copies.new }
 {
     match nodes_num(args) {
         Some((parent, child, at)) => insert_at(stores, parent, child, at, outs, copies),
@@ -113,8 +109,7 @@ fn insert_at<C: Ledger>(
     requires parent { parent.0 < length stores.old.nodes }
     requires child { child.0 < length stores.old.nodes }
     ensures does { Does (operators.insert stores.old parent child at) result stores.old stores.new outs.old.items outs.new.items }
-    ensures later { copies.old ≤ copies.new }
-    ensures copies { copies.new ≤ copies.old + inserting stores.old parent child at }
+    ensures copies { RisesBy (inserting stores.old parent child at) copies.old copies.new }
 {
     stores.insert(parent, child, at, outs, copies)?;
     Ok(Val::Null)

@@ -1,5 +1,6 @@
 //! The operators on cookies, of the domain of the task's page. A blank page has no domain.
-ghost use Rattle.std.specs.Prelude.{◌≡◌, ◌+◌, ◌<◌, ◌≤◌, List, length, Some};
+ghost use Rattle.std.specs.Prelude.{◌≡◌, ◌<◌, List, length, Some};
+ghost use Rattle.ff_steps.specs.Rises.{RisesBy};
 ghost use Rattle.ff_tree.specs.declared.op.Op.TheVariants as op;
 ghost use Rattle.ff_value.specs.declared.output.Out.{Out};
 ghost use Rattle.ff_machine.specs.Answers.{Does, Reads};
@@ -54,8 +55,7 @@ pub(crate) fn set_cookie<C: Ledger>(
 ) -> Result<Val, Fail>
     requires { page.0 < length stores.old.windows.pages }
     ensures does { (puts : List Out) → Does (operators.operate stores.old page op.SetCookie args.now) result stores.old stores.new puts puts }
-    ensures later { copies.old ≤ copies.new }
-    ensures copies { copies.new ≤ copies.old + 16 }
+    ensures copies { RisesBy 16 copies.old copies.new }
 {
     match two_strs(args) {
         Some((key, value)) => set_own(stores, page, key, value, copies),
@@ -72,8 +72,7 @@ fn set_own<C: Ledger>(
 ) -> Result<Val, Fail>
     requires { page.0 < length stores.old.windows.pages }
     ensures does { (puts : List Out) → Does (operators.set_cookie stores.old (operators.page_domain stores.old page) key.now value.now) result stores.old stores.new puts puts }
-    ensures later { copies.old ≤ copies.new }
-    ensures copies { copies.new ≤ copies.old + 16 }
+    ensures copies { RisesBy 16 copies.old copies.new }
 {
     match page_domain(stores, page)? {
         Some(domain) => set_at(stores, &domain, key, value, copies),
@@ -89,8 +88,7 @@ fn set_at<C: Ledger>(
     copies: &mut Steps<C>,
 ) -> Result<Val, Fail>
     ensures does { (puts : List Out) → Does (operators.set_cookie stores.old (Some domain.now) key.now value.now) result stores.old stores.new puts puts }
-    ensures later { copies.old ≤ copies.new }
-    ensures copies { copies.new ≤ copies.old + 16 }
+    ensures copies { RisesBy 16 copies.old copies.new }
 {
     stores.put_cookie(domain, key, value, copies)?;
     Ok(Val::Null)
@@ -105,8 +103,7 @@ pub(crate) fn del_cookie<C: Ledger>(
 ) -> Result<Val, Fail>
     requires { page.0 < length stores.old.windows.pages }
     ensures does { (puts : List Out) → Does (operators.operate stores.old page op.DelCookie args.now) result stores.old stores.new puts puts }
-    ensures later { copies.old ≤ copies.new }
-    ensures copies { copies.new ≤ copies.old + 17 }
+    ensures copies { RisesBy 17 copies.old copies.new }
 {
     match one_str(args) {
         Some(key) => delete_own(stores, page, key, copies),
@@ -122,8 +119,7 @@ fn delete_own<C: Ledger>(
 ) -> Result<Val, Fail>
     requires { page.0 < length stores.old.windows.pages }
     ensures does { (puts : List Out) → Does (operators.del_cookie stores.old (operators.page_domain stores.old page) key.now) result stores.old stores.new puts puts }
-    ensures later { copies.old ≤ copies.new }
-    ensures copies { copies.new ≤ copies.old + 17 }
+    ensures copies { RisesBy 17 copies.old copies.new }
 {
     match page_domain(stores, page)? {
         Some(domain) => delete_at(stores, &domain, key, copies),
@@ -138,8 +134,7 @@ fn delete_at<C: Ledger>(
     copies: &mut Steps<C>,
 ) -> Result<Val, Fail>
     ensures does { (puts : List Out) → Does (operators.del_cookie stores.old (Some domain.now) key.now) result stores.old stores.new puts puts }
-    ensures later { copies.old ≤ copies.new }
-    ensures copies { copies.new ≤ copies.old + 17 }
+    ensures copies { RisesBy 17 copies.old copies.new }
 {
     stores.delete_cookie(domain, key, copies)?;
     Ok(Val::Null)

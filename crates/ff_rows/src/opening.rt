@@ -1,7 +1,8 @@
 //! The operators that open, move and close windows. Where there is no room for the window or its
 //! request nothing is left of either: both rooms are tested before the first change.
-ghost use Rattle.std.specs.Prelude.{◌≡◌, ◌+◌, ◌<◌, ◌≤◌, List, length, All, IsTrue, None, Some};
+ghost use Rattle.std.specs.Prelude.{◌≡◌, ◌<◌, List, length, All, IsTrue, None, Some};
 ghost use Rattle.std.specs.Option.{option_copied};
+ghost use Rattle.ff_steps.specs.Rises.{RisesBy};
 ghost use Rattle.ff_name.specs.Address.{IsWellSpelled};
 ghost use Rattle.ff_name.specs.Reading.{read_url};
 ghost use Rattle.ff_name.specs.declared.urls.Url.TheVariants as url;
@@ -37,8 +38,7 @@ pub(crate) fn open<C: Ledger>(
 ) -> Result<Val, Fail>
     requires { page.0 < length stores.old.windows.pages }
     ensures does { Does (operators.operate stores.old page op.Open args.now) result stores.old stores.new outs.old.items outs.new.items }
-    ensures later { copies.old ≤ copies.new }
-    ensures copies { copies.new ≤ copies.old + 125 }
+    ensures copies { RisesBy 125 copies.old copies.new }
 {
     match one_str(args) {
         Some(address) => open_spelled(alloc, stores, page, address, outs, copies),
@@ -56,8 +56,7 @@ fn open_spelled<C: Ledger>(
 ) -> Result<Val, Fail>
     requires { page.0 < length stores.old.windows.pages }
     ensures does { Does (operators.at_url (read_url address.now) (operators.open_at stores.old page None)) result stores.old stores.new outs.old.items outs.new.items }
-    ensures later { copies.old ≤ copies.new }
-    ensures copies { copies.new ≤ copies.old + 125 }
+    ensures copies { RisesBy 125 copies.old copies.new }
 {
     match read_address(alloc, address)? {
         Some(url) => open_at(alloc, stores, page, None, &url, outs, copies),
@@ -76,8 +75,7 @@ pub(crate) fn open_named<C: Ledger>(
 ) -> Result<Val, Fail>
     requires { page.0 < length stores.old.windows.pages }
     ensures does { Does (operators.operate stores.old page op.OpenNamed args.now) result stores.old stores.new outs.old.items outs.new.items }
-    ensures later { copies.old ≤ copies.new }
-    ensures copies { copies.new ≤ copies.old + 125 }
+    ensures copies { RisesBy 125 copies.old copies.new }
 {
     match two_strs(args) {
         Some((name, address)) => {
@@ -98,8 +96,7 @@ fn open_named_spelled<C: Ledger>(
 ) -> Result<Val, Fail>
     requires { page.0 < length stores.old.windows.pages }
     ensures does { Does (operators.at_url (read_url address.now) (λ u. operators.open_named stores.old page name.now u (w.named stores.old.windows name.now))) result stores.old stores.new outs.old.items outs.new.items }
-    ensures later { copies.old ≤ copies.new }
-    ensures copies { copies.new ≤ copies.old + 125 }
+    ensures copies { RisesBy 125 copies.old copies.new }
 {
     match read_address(alloc, address)? {
         Some(url) => open_named_at(alloc, stores, page, name, &url, outs, copies),
@@ -119,8 +116,7 @@ fn open_named_at<C: Ledger>(
     requires page { page.0 < length stores.old.windows.pages }
     requires url { IsWellSpelled url.now }
     ensures does { Does (operators.open_named stores.old page name.now url.now (w.named stores.old.windows name.now)) result stores.old stores.new outs.old.items outs.new.items }
-    ensures later { copies.old ≤ copies.new }
-    ensures copies { copies.new ≤ copies.old + 125 }
+    ensures copies { RisesBy 125 copies.old copies.new }
 {
     match stores.windows().named(name) {
         Some(window) => go_at(stores, window, url, Val::Win(window), outs, copies),
@@ -140,8 +136,7 @@ fn open_at<C: Ledger>(
     requires page { page.0 < length stores.old.windows.pages }
     requires url { IsWellSpelled url.now }
     ensures does { Does (operators.open_at stores.old page (option_copied name.entry) url.now) result stores.old stores.new outs.old.items outs.new.items }
-    ensures later { copies.old ≤ copies.new }
-    ensures copies { copies.new ≤ copies.old + 125 }
+    ensures copies { RisesBy 125 copies.old copies.new }
 {
     match url {
         Url::Blank => open_blank(stores, page, name, outs, copies),
@@ -158,8 +153,7 @@ fn open_blank<C: Ledger>(
 ) -> Result<Val, Fail>
     requires { page.0 < length stores.old.windows.pages }
     ensures does { Does (operators.open_at stores.old page (option_copied name.entry) url.Blank) result stores.old stores.new outs.old.items outs.new.items }
-    ensures later { copies.old ≤ copies.new }
-    ensures copies { copies.new ≤ copies.old + 92 }
+    ensures copies { RisesBy 92 copies.old copies.new }
 {
     let opener = own_window(stores, page);
     match stores.open_window(name, Some(opener), outs, copies)? {
@@ -183,8 +177,7 @@ fn open_asking<C: Ledger>(
     requires page { page.0 < length stores.old.windows.pages }
     requires url { IsWellSpelled (url.At domain.now uri.now) }
     ensures does { Does (operators.open_at stores.old page (option_copied name.entry) (url.At domain.now uri.now)) result stores.old stores.new outs.old.items outs.new.items }
-    ensures later { copies.old ≤ copies.new }
-    ensures copies { copies.new ≤ copies.old + 125 }
+    ensures copies { RisesBy 125 copies.old copies.new }
 {
     let has_room = stores.requests().room(domain);
     if !has_room {
@@ -211,8 +204,7 @@ pub(crate) fn go<C: Ledger>(
     copies: &mut Steps<C>,
 ) -> Result<Val, Fail>
     ensures does { Does (operators.operate stores.old page op.Go args.now) result stores.old stores.new outs.old.items outs.new.items }
-    ensures later { copies.old ≤ copies.new }
-    ensures copies { copies.new ≤ copies.old + 94 }
+    ensures copies { RisesBy 94 copies.old copies.new }
 {
     match win_str(args) {
         Some((window, address)) => go_spelled(alloc, stores, window, address, outs, copies),
@@ -229,8 +221,7 @@ fn go_spelled<C: Ledger>(
     copies: &mut Steps<C>,
 ) -> Result<Val, Fail>
     ensures does { Does (operators.go stores.old window address.now) result stores.old stores.new outs.old.items outs.new.items }
-    ensures later { copies.old ≤ copies.new }
-    ensures copies { copies.new ≤ copies.old + 94 }
+    ensures copies { RisesBy 94 copies.old copies.new }
 {
     if !is_open(stores, window) {
         return Err(Fail::Fault(Fault::Dead));
@@ -253,8 +244,7 @@ fn go_at<C: Ledger>(
     requires is_open { IsTrue (w.is_open stores.old.windows window) }
     requires url { IsWellSpelled url.now }
     ensures does { Does (operators.does_or_limit value (s.go stores.old window url.now)) result stores.old stores.new outs.old.items outs.new.items }
-    ensures later { copies.old ≤ copies.new }
-    ensures copies { copies.new ≤ copies.old + 94 }
+    ensures copies { RisesBy 94 copies.old copies.new }
 {
     if stores.go(window, url, outs, copies)? {
         Ok(value)

@@ -1,5 +1,6 @@
 //! Which function does what an operator does.
-ghost use Rattle.std.specs.Prelude.{◌≡◌, ◌+◌, ◌≤◌, length, All, IsTrue};
+ghost use Rattle.std.specs.Prelude.{◌≡◌, length, All, IsTrue};
+ghost use Rattle.ff_steps.specs.Rises.{RisesBy};
 ghost use Rattle.ff_tree.specs.Ops.{arity_of};
 ghost use Rattle.ff_machine.specs.Answers.{Does};
 ghost use Rattle.ff_machine.specs.Operators as operators;
@@ -34,8 +35,7 @@ pub fn operate<C: Ledger>(
     requires values { All (IsVal (made stores.old)) args.now }
     requires live { IsTrue (is_live stores.old.windows page) }
     ensures does { Does (operators.operate stores.old page op args.now) result stores.old stores.new outs.old.items outs.new.items }
-    ensures later { copies.old ≤ copies.new }
-    ensures copies { copies.new ≤ copies.old + most_copies stores.old op args.now }
+    ensures copies { RisesBy (most_copies stores.old op args.now) copies.old copies.new }
 {
     made_live(stores, page);
     match op {

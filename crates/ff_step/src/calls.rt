@@ -1,6 +1,7 @@
 //! The call of a function: its activation and its body are found first, and are then put for the
 //! redex.
-ghost use Rattle.std.specs.Prelude.{◌≡◌, ◌+◌, ◌*◌, ◌<◌, ◌≤◌, ◌↔◌, false, length, All, IfOk, IsTrue};
+ghost use Rattle.std.specs.Prelude.{◌≡◌, ◌+◌, ◌*◌, ◌<◌, ◌↔◌, false, length, All, IfOk, IsTrue};
+ghost use Rattle.ff_steps.specs.Rises.{RisesBy};
 ghost use Rattle.ff_term.specs.Running.{insides, is_value};
 ghost use Rattle.ff_machine.specs.Reduction as red;
 ghost use Rattle.ff_machine.specs.References.{made};
@@ -32,8 +33,7 @@ pub(crate) fn call<C: Ledger>(
     requires args { All (IsVal (made stores.old)) args.now }
     ensures calls { Calls (red.call stores.old depth f.now args.now) result stores.old stores.new }
     ensures shallow { IfOk result (λ _. depth < MOST_CALLS) }
-    ensures later { copies.old ≤ copies.new }
-    ensures copies { copies.new ≤ copies.old + called f.now }
+    ensures copies { RisesBy (called f.now) copies.old copies.new }
 {
     match f {
         Val::Code(code) => call_code(depth, stores, code, args, copies),
@@ -54,8 +54,7 @@ fn call_code<C: Ledger>(
     requires args { All (IsVal (made stores.old)) args.now }
     ensures calls { Calls (red.or_fault (red.enter_fault stores.old depth code.now args.now) (red.entered stores.old code.now args.now)) result stores.old stores.new }
     ensures shallow { IfOk result (λ _. depth < MOST_CALLS) }
-    ensures later { copies.old ≤ copies.new }
-    ensures copies { copies.new ≤ copies.old + 64 * (length code.now.params + 1) }
+    ensures copies { RisesBy (64 * (length code.now.params + 1)) copies.old copies.new }
 {
     if !takes(code, args) {
         return Err(Fail::Fault(Fault::Kind));

@@ -1,5 +1,6 @@
 //! The one reduction: which row decides, and what is put for the redex.
-ghost use Rattle.std.specs.Prelude.{◌≡◌, ◌+◌, ◌<◌, ◌≤◌, false, length, IsTrue, OnErr};
+ghost use Rattle.std.specs.Prelude.{◌≡◌, ◌<◌, false, length, IsTrue, OnErr};
+ghost use Rattle.ff_steps.specs.Rises.{RisesBy};
 ghost use Rattle.ff_operators.specs.Answers.{Gives};
 ghost use Rattle.ff_term.specs.Redexes.{IsRedexOf, read_redex};
 ghost use Rattle.ff_term.specs.Running as term;
@@ -42,8 +43,7 @@ pub fn reduce<C: Ledger>(
     requires live { IsTrue (is_live stores.old.windows page) }
     ensures reduces { Reduces (red.reduction stores.old page control.old) result control.new stores.new outs.old.items outs.new.items }
     ensures emptied { OnErr result (control.new ≡ emptied) }
-    ensures later { copies.old ≤ copies.new }
-    ensures copies { copies.new ≤ copies.old + working stores.old control.old }
+    ensures copies { RisesBy (working stores.old control.old) copies.old copies.new }
 {
     match reduce_once(alloc, control, stores, page, outs, copies) {
         Ok(reduced) => Ok(reduced),
@@ -67,8 +67,7 @@ fn reduce_once<C: Ledger>(
     requires running { IsRunning (made stores.old) control.old.expr }
     requires live { IsTrue (is_live stores.old.windows page) }
     ensures reduces { Reduces (red.reduction stores.old page control.old) result control.new stores.new outs.old.items outs.new.items }
-    ensures later { copies.old ≤ copies.new }
-    ensures copies { copies.new ≤ copies.old + working stores.old control.old }
+    ensures copies { RisesBy (working stores.old control.old) copies.old copies.new }
 {
     match control.done() {
         Some(v) => Ok(Reduced::Done(v.copy()?)),
@@ -101,8 +100,7 @@ pub(crate) fn reduce_redex<C: Ledger>(
     requires running { IsRunning (made stores.old) control.old.expr }
     requires live { IsTrue (is_live stores.old.windows page) }
     ensures reduces { Reduces (red.reduction stores.old page control.old) (answered result) control.new stores.new outs.old.items outs.new.items }
-    ensures later { copies.old ≤ copies.new }
-    ensures copies { copies.new ≤ copies.old + working stores.old control.old }
+    ensures copies { RisesBy (working stores.old control.old) copies.old copies.new }
 {
     let a = act_of(control, stores);
     match redex_of(control, stores) {

@@ -1,5 +1,6 @@
 //! The rows of redexes that become a value.
-ghost use Rattle.std.specs.Prelude.{◌≡◌, ◌+◌, ◌*◌, ◌<◌, ◌≤◌, List, length};
+ghost use Rattle.std.specs.Prelude.{◌≡◌, ◌*◌, ◌<◌, List, length};
+ghost use Rattle.ff_steps.specs.Rises.{RisesBy};
 ghost use Rattle.ff_tree.specs.Spelled.{IsVar, IsWellSpelledDoc};
 ghost use Rattle.ff_value.specs.declared.output.Out.{Out};
 ghost use Rattle.ff_machine.specs.Answers.{Does, Reads};
@@ -40,8 +41,7 @@ pub(crate) fn make_tree<C: Ledger>(
     requires lives { a.0 < length stores.old.windows.acts }
     requires spelled { IsWellSpelledDoc doc.now }
     ensures does { (puts : List Out) → Does (red.make_tree stores.old a doc.now) result stores.old stores.new puts puts }
-    ensures later { copies.old ≤ copies.new }
-    ensures copies { copies.new ≤ copies.old + 47 * (laid a doc.now).size }
+    ensures copies { RisesBy (47 * (laid a doc.now).size) copies.old copies.new }
 {
     let n = stores.make_tree(a, doc, copies)?;
     Ok(Val::Node(n))

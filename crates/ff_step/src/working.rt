@@ -1,5 +1,6 @@
 //! The work of one fuel on a task.
 ghost use Rattle.std.specs.Prelude.{◌≡◌, ◌+◌, ◌<◌, ◌≤◌, ◌++◌, [], ◌∷◌, length, OnErr, OnOk};
+ghost use Rattle.ff_steps.specs.Rises.{RisesBy};
 ghost use Rattle.ff_machine.specs.Answers.{Works};
 ghost use Rattle.ff_machine.specs.Turns as turns;
 ghost use Rattle.ff_machine.specs.Valid.{IsStores, IsTask};
@@ -56,8 +57,7 @@ impl Task {
         requires { IsTask stores.old self.old }
         ensures works { Works (turns.work stores.old self.old) (left self.new result) stores.new outs.old.items outs.new.items }
         ensures page { self.new.page ≡ self.old.page }
-        ensures later { copies.old ≤ copies.new }
-        ensures copies { copies.new ≤ copies.old + worked_on stores.old self.old }
+        ensures copies { RisesBy (worked_on stores.old self.old) copies.old copies.new }
     {
         let page = self.page;
         if !lives(stores, page) {

@@ -6,6 +6,9 @@
 //! ledger `L`, and ticks where it does what is counted: `copies: &mut Steps<C>` counts copies of
 //! cells, `turns: &mut Steps<L>` counts turns.
 //!
+//! A call that counts so many at most says it in one word, `RisesBy most copies.old copies.new`
+//! (`specs/Rises`): the counter hasn't gone back, and has moved by `most` or less.
+//!
 //! # Making one
 //!
 //! A counter is made from a `Blank` of the ledger `L` that its type names, so `Steps::new` stands

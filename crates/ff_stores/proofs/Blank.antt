@@ -2,6 +2,7 @@
 use Rattle.std.proofs.Common.{◌≡◌, ℕ, suc, ◌+◌, ◌≤◌, arith, Bool, false, cond, None, List, [], ◌∷◌, ◌++◌, length, filter, refl, ap, ◌∙◌}
 use Rattle.std.specs.Prelude.{flat_map}
 use Rattle.std.proofs.lemmas.List.{get_or_push}
+use Rattle.ff_steps.specs.Rises.{RisesBy}
 use Rattle.ff_name.specs.declared.urls.Url.{Url}
 use Rattle.ff_value.specs.declared.ids.NodeId.{NodeId}
 use Rattle.ff_value.specs.declared.ids.WinId.{WinId}
@@ -30,7 +31,7 @@ blank_scripts s w u =
     scripts_alone (s.nodes ++ root ∷ []) (next_node s.nodes) (ap (λ (x : Node). x.children) here) (ap (λ (x : Node). is_unstarted x.shape) here)
 
 -- so many cells are copied when one is loaded
-pub blank_copies : (s : Stores) (w : WinId) (u : Url) (docs : List Doc) (before after : ℕ) → docs ≡ [] → after ≤ before + loading s w u docs → after ≤ before + 94
+pub blank_copies : (s : Stores) (w : WinId) (u : Url) (docs : List Doc) (before after : ℕ) → docs ≡ [] → RisesBy (loading s w u docs) before after → RisesBy 94 before after
 blank_copies s w u docs before after is h =
     let at = rw is at h in
     let none : length (scripts (with_shown_page s w u []).nodes (next_node s.nodes)) ≡ 0 = ap (λ (ns : List NodeId). length ns) (blank_scripts s w u) in

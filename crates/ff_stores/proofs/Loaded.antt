@@ -2,6 +2,7 @@
 use Rattle.std.proofs.Common.{◌≡◌, ℕ, ◌+◌, ◌<◌, ◌≤◌, Bool, true, false, cond, Option, Some, None, List, [], ◌∷◌, ◌++◌, Result, Ok, Err, length, refl, sym, ap, subst, ◌∙◌, arith, length-append}
 use Rattle.std.proofs.lemmas.Bool.{false≢true}
 use Rattle.ff_contract.proofs.Sequence.{front_none}
+use Rattle.ff_steps.specs.Rises.{RisesBy}
 use Rattle.ff_reactive.specs.Turns.{Stepped}
 use Rattle.ff_name.specs.declared.urls.Url.{Url}
 use Rattle.ff_tree.specs.declared.tree.Doc.{Doc}
@@ -59,7 +60,7 @@ module _ (E : Type 0) (s mid : Stores) (w : WinId) (u : Url) (docs : List Doc) (
       load_made X x m = stepped_in_room E s s' puts puts' (stores.loaded s w u docs) X x (has_load_room s docs) (sym room ∙ h) (whole X (Ok x) m)
 
     -- so many cells were copied
-    pub load_copies : (root : NodeId) (c0 c1 c2 : ℕ) → root ≡ next_node s.nodes → c1 ≤ c0 + showing s docs → c2 ≤ c1 + starting mid.nodes root → c2 ≤ c0 + loading s w u docs
+    pub load_copies : (root : NodeId) (c0 c1 c2 : ℕ) → root ≡ next_node s.nodes → RisesBy (showing s docs) c0 c1 → RisesBy (starting mid.nodes root) c1 c2 → RisesBy (loading s w u docs) c0 c2
     load_copies root c0 c1 c2 root_is one two =
         let same : starting mid.nodes root ≡ starting (with_shown_page s w u docs).nodes (next_node s.nodes) =
         ap (λ (x : Stores). starting x.nodes root) shown_is ∙ ap (λ (n : NodeId). starting (with_shown_page s w u docs).nodes n) root_is in

@@ -1,6 +1,7 @@
 //! Cookies, those of scripts and those of replies.
-ghost use Rattle.std.specs.Prelude.{◌≡◌, ◌+◌, ◌*◌, ◌≤◌, length, OnOk};
+ghost use Rattle.std.specs.Prelude.{◌≡◌, ◌*◌, length, OnOk};
 ghost use Rattle.std.specs.List.{AllByRecursion};
+ghost use Rattle.ff_steps.specs.Rises.{RisesBy};
 ghost use Rattle.ff_operators.specs.Answers.{Answers, OnFault};
 ghost use Rattle.ff_value.specs.Spelled.{IsCookieOp};
 ghost use Rattle.ff_machine.specs.Net as net;
@@ -29,8 +30,7 @@ impl Stores {
         ensures done { OnOk result (self.new ≡ record self.old { jar = net.cookie_put self.old.jar domain.now key.now value.now }) }
         ensures answer { Answers (net.cookie_fault self.old.jar domain.now key.now value.now) result }
         ensures kept { OnFault result (self.new ≡ self.old) }
-        ensures later { copies.old ≤ copies.new }
-        ensures copies { copies.new ≤ copies.old + 16 }
+        ensures copies { RisesBy 16 copies.old copies.new }
     {
         let _known = domain.text();
         let _known = key.as_bytes();
@@ -49,8 +49,7 @@ impl Stores {
         copies: &mut Steps<C>,
     ) -> Result<(), NoMemory>
         ensures done { OnOk result (self.new ≡ record self.old { jar = net.cookie_deleted self.old.jar domain.now key.now }) }
-        ensures later { copies.old ≤ copies.new }
-        ensures copies { copies.new ≤ copies.old + 17 }
+        ensures copies { RisesBy 17 copies.old copies.new }
     {
         let _known = domain.text();
         or_emptied!(
@@ -69,8 +68,7 @@ impl Stores {
     ) -> Result<(), NoMemory>
         requires { AllByRecursion IsCookieOp entries.now }
         ensures done { OnOk result (self.new ≡ s.put_cookies self.old domain.now entries.now) }
-        ensures later { copies.old ≤ copies.new }
-        ensures copies { copies.new ≤ copies.old + 17 * length entries.now }
+        ensures copies { RisesBy (17 * length entries.now) copies.old copies.new }
     {
         let _known = domain.text();
         or_emptied!(
@@ -88,8 +86,7 @@ fn put_each<C: Ledger>(
     copies: &mut Steps<C>,
 ) -> Result<(), NoMemory>
     ensures done { OnOk result (jar.new ≡ s.put_each domain.now entries.now jar.old) }
-    ensures later { copies.old ≤ copies.new }
-    ensures copies { copies.new ≤ copies.old + 17 * length entries.now }
+    ensures copies { RisesBy (17 * length entries.now) copies.old copies.new }
 {
     for entry in entries.as_slice() {
         put_one(jar, domain, entry, copies)?;
@@ -105,8 +102,7 @@ fn put_one<C: Ledger>(
     copies: &mut Steps<C>,
 ) -> Result<(), NoMemory>
     ensures done { OnOk result (jar.new ≡ s.put_cookie domain.now entry.now jar.old) }
-    ensures later { copies.old ≤ copies.new }
-    ensures copies { copies.new ≤ copies.old + 17 }
+    ensures copies { RisesBy 17 copies.old copies.new }
 {
     match entry {
         CookieOp::Put(key, value) => match jar.put(domain, key, value, copies) {

@@ -1,8 +1,9 @@
 //! Loading, going, and windows that open and close.
-ghost use Rattle.std.specs.Prelude.{◌≡◌, ◌+◌, ◌<◌, ◌≤◌, ◌++◌, [], ◌∷◌, None, cond, length, IsTrue, IfOk, IfSome, OnOk, OnErr};
+ghost use Rattle.std.specs.Prelude.{◌≡◌, ◌<◌, ◌++◌, [], ◌∷◌, None, cond, length, IsTrue, IfOk, IfSome, OnOk, OnErr};
 ghost use Rattle.std.specs.List.{AllByRecursion};
 ghost use Rattle.std.specs.Option.{ForSome, option_copied};
 ghost use Rattle.std.specs.Str.{IsUtf8};
+ghost use Rattle.ff_steps.specs.Rises.{RisesBy};
 ghost use Rattle.ff_name.specs.Address.{IsWellSpelled};
 ghost use Rattle.ff_tree.specs.Spelled.{IsWellSpelledDoc};
 ghost use Rattle.ff_machine.specs.Answers.{Makes, MakesIfRoom};
@@ -38,8 +39,7 @@ impl Stores {
         requires url { IsWellSpelled url.now }
         requires docs { AllByRecursion IsWellSpelledDoc docs.now }
         ensures step { MakesIfRoom self.old self.new outs.old.items outs.new.items (s.load self.old window url.now docs.now) result }
-        ensures later { copies.old ≤ copies.new }
-        ensures copies { copies.new ≤ copies.old + loading self.old window url.now docs.now }
+        ensures copies { RisesBy (loading self.old window url.now docs.now) copies.old copies.new }
     {
         let page = self.windows.next_page();
         let root = NodeId(self.nodes.len());
@@ -64,8 +64,7 @@ impl Stores {
         requires docs { AllByRecursion IsWellSpelledDoc docs.now }
         ensures answer { IfOk result (λ b. b ≡ s.has_load_room self.old docs.now) }
         ensures done { OnOk result (self.new ≡ cond (s.has_load_room self.old docs.now) (s.with_shown_page self.old window url.now docs.now) self.old) }
-        ensures later { copies.old ≤ copies.new }
-        ensures copies { copies.new ≤ copies.old + showing self.old docs.now }
+        ensures copies { RisesBy (showing self.old docs.now) copies.old copies.new }
     {
         if !self.windows.room() {
             return Ok(false);
@@ -118,8 +117,7 @@ impl Stores {
         requires is_open { IsTrue (w.is_open self.old.windows window) }
         requires url { IsWellSpelled url.now }
         ensures step { MakesIfRoom self.old self.new outs.old.items outs.new.items (s.go self.old window url.now) result }
-        ensures later { copies.old ≤ copies.new }
-        ensures copies { copies.new ≤ copies.old + 94 }
+        ensures copies { RisesBy 94 copies.old copies.new }
     {
         match url {
             Url::Blank => {
@@ -144,8 +142,7 @@ impl Stores {
         requires { ForSome opener (λ o. o.0 < length self.old.windows.windows) }
         ensures step { MakesIfRoom self.old self.new outs.old.items outs.new.items (s.open_window self.old (option_copied name.entry) opener) (opened result) }
         ensures number { IfOk result (λ found. IfSome found (λ n. n ≡ w.next_win self.old.windows)) }
-        ensures later { copies.old ≤ copies.new }
-        ensures copies { copies.new ≤ copies.old + 92 }
+        ensures copies { RisesBy 92 copies.old copies.new }
     {
         let window = self.windows.next_win();
         if !self.make_window(name, opener, copies)? {
@@ -165,8 +162,7 @@ impl Stores {
         requires { ForSome opener (λ o. o.0 < length self.old.windows.windows) }
         ensures answer { IfOk result (λ b. b ≡ s.has_window_room self.old) }
         ensures done { OnOk result (self.new ≡ cond (s.has_window_room self.old) (s.with_window self.old (option_copied name.entry) opener) self.old) }
-        ensures later { copies.old ≤ copies.new }
-        ensures copies { copies.new ≤ copies.old + 92 }
+        ensures copies { RisesBy 92 copies.old copies.new }
     {
         if !self.windows.can_add() {
             return Ok(false);
@@ -202,8 +198,7 @@ impl Stores {
     ) -> Result<(), NoMemory>
         requires { IsWellSpelled url.now }
         ensures step { Makes self.old self.new outs.old.items outs.new.items (s.opens self.old url.now) result }
-        ensures later { copies.old ≤ copies.new }
-        ensures copies { copies.new ≤ copies.old + 125 }
+        ensures copies { RisesBy 125 copies.old copies.new }
     {
         match self.open_window(None, None, outs, copies)? {
             None => Ok(()),
@@ -222,8 +217,7 @@ impl Stores {
         requires url { IsWellSpelled url.now }
         requires lives { window.0 < length self.old.windows.windows }
         ensures step { Makes self.old self.new outs.old.items outs.new.items (s.send_first url.now window self.old) result }
-        ensures later { copies.old ≤ copies.new }
-        ensures copies { copies.new ≤ copies.old + 33 }
+        ensures copies { RisesBy 33 copies.old copies.new }
     {
         match url {
             Url::Blank => Ok(()),
@@ -269,8 +263,7 @@ fn show_new<C: Ledger>(
     requires lives { window.0 < length windows.old.windows }
     requires url { IsWellSpelled url.now }
     ensures done { OnOk result (windows.new ≡ w.page_shown (w.with_page windows.old url.now window root) window (w.next_page windows.old)) }
-    ensures later { copies.old ≤ copies.new }
-    ensures copies { copies.new ≤ copies.old + 47 }
+    ensures copies { RisesBy 47 copies.old copies.new }
 {
     match windows.add_page(url, window, root, copies) {
         Ok(page) => windows.show_page(window, page, copies),
@@ -288,8 +281,7 @@ fn add_new<C: Ledger>(
 ) -> Result<(), NoMemory>
     requires { ForSome opener (λ o. o.0 < length windows.old.windows) }
     ensures done { OnOk result (windows.new ≡ w.with_window (w.with_page windows.old Url.Blank (w.next_win windows.old) root) (option_copied name.entry) opener (w.next_page windows.old)) }
-    ensures later { copies.old ≤ copies.new }
-    ensures copies { copies.new ≤ copies.old + 45 }
+    ensures copies { RisesBy 45 copies.old copies.new }
 {
     let window = windows.next_win();
     match windows.add_page(&Url::Blank, window, root, copies) {

@@ -1,5 +1,6 @@
 //! Replies: what they answer, what they weigh, and the slots that they fill.
-ghost use Rattle.std.specs.Prelude.{◌≡◌, ◌+◌, ◌*◌, ◌<◌, ◌≤◌, None, Some, cond, length, IfOk, OnOk, MatchOption};
+ghost use Rattle.std.specs.Prelude.{◌≡◌, ◌*◌, ◌<◌, ◌≤◌, None, Some, cond, length, IfOk, OnOk, MatchOption};
+ghost use Rattle.ff_steps.specs.Rises.{RisesBy};
 ghost use Rattle.ff_tree.specs.Spelled.{IsWellSpelledExpr};
 ghost use Rattle.ff_machine.specs.Net as net;
 ghost use Rattle.ff_machine.specs.Stores as s;
@@ -24,8 +25,7 @@ impl Stores {
         copies: &mut Steps<C>,
     ) -> Result<Option<Pending>, NoMemory>
         ensures done { IfOk result (λ answer. MatchOption answer ((s.take_answer self.old domain.now k ≡ None) × (self.new ≡ self.old)) (λ pending. s.take_answer self.old domain.now k ≡ Some (pending, self.new))) }
-        ensures later { copies.old ≤ copies.new }
-        ensures copies { copies.new ≤ copies.old + 17 * length (net.asked self.old.requests domain.now) }
+        ensures copies { RisesBy (17 * length (net.asked self.old.requests domain.now)) copies.old copies.new }
     {
         or_emptied!(
             self.requests.answer(domain, k, copies),
@@ -72,8 +72,7 @@ impl Stores {
         requires spelled { IsWellSpelledExpr body.now }
         ensures done { OnOk result (self.new ≡ s.fill_slot self.old page slot body.now) }
         ensures waited { IfOk result (λ waited. waited ≡ windows.waits self.old.windows page slot) }
-        ensures later { copies.old ≤ copies.new }
-        ensures copies { copies.new ≤ copies.old + 33 }
+        ensures copies { RisesBy 33 copies.old copies.new }
     {
         or_emptied!(
             self.windows.fill(page, slot, body, copies),

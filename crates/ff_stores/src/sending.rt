@@ -1,5 +1,6 @@
 //! Sending requests, and what is put.
-ghost use Rattle.std.specs.Prelude.{◌≡◌, ◌+◌, ◌≤◌, ◌++◌, [], ◌∷◌, OnOk, OnErr};
+ghost use Rattle.std.specs.Prelude.{◌≡◌, ◌++◌, [], ◌∷◌, OnOk, OnErr};
+ghost use Rattle.ff_steps.specs.Rises.{RisesBy};
 ghost use Rattle.ff_name.specs.Address.{IsRequest};
 ghost use Rattle.ff_machine.specs.Alone.{IsDst};
 ghost use Rattle.ff_machine.specs.Answers.{MakesIfRoom};
@@ -38,8 +39,7 @@ impl Stores {
         requires to { IsDst to }
         requires refers { DstRefers (made self.old) to }
         ensures step { MakesIfRoom self.old self.new outs.old.items outs.new.items (s.send self.old domain.now uri.now body.now to) result }
-        ensures later { copies.old ≤ copies.new }
-        ensures copies { copies.new ≤ copies.old + 33 }
+        ensures copies { RisesBy 33 copies.old copies.new }
     {
         if !self.requests.room(domain) {
             return Ok(false);

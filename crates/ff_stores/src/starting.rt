@@ -1,6 +1,7 @@
 //! Starting the scripts of a tree.
-ghost use Rattle.std.specs.Prelude.{◌≡◌, ◌+◌, ◌<◌, ◌≤◌, None, true, length, sum_by, OnOk};
+ghost use Rattle.std.specs.Prelude.{◌≡◌, ◌<◌, None, true, length, sum_by, OnOk};
 ghost use Rattle.std.specs.Option.{ForSome};
+ghost use Rattle.ff_steps.specs.Rises.{RisesBy};
 ghost use Rattle.ff_name.specs.Address.{IsRequest, IsWellSpelled};
 ghost use Rattle.ff_tree.specs.Spelled.{IsWellSpelledExpr};
 ghost use Rattle.ff_machine.specs.Answers.{Makes};
@@ -30,8 +31,7 @@ impl Stores {
         requires page { page.0 < length self.old.windows.pages }
         requires lives { n.0 < length self.old.nodes }
         ensures step { Makes self.old self.new outs.old.items outs.new.items (s.start page n self.old) result }
-        ensures later { copies.old ≤ copies.new }
-        ensures copies { copies.new ≤ copies.old + starting self.old.nodes n }
+        ensures copies { RisesBy (starting self.old.nodes n) copies.old copies.new }
     {
         let scripts = self.nodes.scripts(n)?;
         for script in scripts.as_slice() {
@@ -51,8 +51,7 @@ impl Stores {
         requires page { ForSome page (λ p. p.0 < length self.old.windows.pages) }
         requires lives { n.0 < length self.old.nodes }
         ensures step { Makes self.old self.new outs.old.items outs.new.items (s.start_in page n self.old) result }
-        ensures later { copies.old ≤ copies.new }
-        ensures copies { copies.new ≤ copies.old + starting self.old.nodes n }
+        ensures copies { RisesBy (starting self.old.nodes n) copies.old copies.new }
     {
         match page {
             None => Ok(()),
@@ -78,8 +77,7 @@ impl Stores {
         requires unstarted { is_unstarted (t.node_at self.old.nodes n).shape ≡ true }
         requires lives { n.0 < length self.old.nodes }
         ensures step { Makes self.old self.new outs.old.items outs.new.items (s.start_one page n self.old) result }
-        ensures later { copies.old ≤ copies.new }
-        ensures copies { copies.new ≤ copies.old + 81 }
+        ensures copies { RisesBy 81 copies.old copies.new }
     {
         match self.nodes.body(n) {
             Some(body) => {
@@ -104,8 +102,7 @@ impl Stores {
         requires fetched { body_of (t.node_at self.old.nodes n).shape ≡ None }
         requires lives { n.0 < length self.old.nodes }
         ensures step { Makes self.old self.new outs.old.items outs.new.items (s.start_one page n self.old) result }
-        ensures later { copies.old ≤ copies.new }
-        ensures copies { copies.new ≤ copies.old + 81 }
+        ensures copies { RisesBy 81 copies.old copies.new }
     {
         match self.nodes.url(n) {
             Some(url) => {
@@ -121,8 +118,7 @@ impl Stores {
     fn mark_started<C: Ledger>(&mut self, n: NodeId, copies: &mut Steps<C>) -> Result<(), NoMemory>
         requires { n.0 < length self.old.nodes }
         ensures done { OnOk result (self.new ≡ record self.old { nodes = t.started self.old.nodes n }) }
-        ensures later { copies.old ≤ copies.new }
-        ensures copies { copies.new ≤ copies.old + 16 }
+        ensures copies { RisesBy 16 copies.old copies.new }
     {
         or_emptied!(self.nodes.start(n, copies), *self = Stores::new(self.alloc))
     }
@@ -141,8 +137,7 @@ impl Stores {
         requires entries { sum_by (λ p. length p.queue) self.old.windows.pages < count_started self.old.nodes }
         requires slots { sum_by (λ p. p.next) self.old.windows.pages < count_started self.old.nodes }
         ensures step { Makes self.old self.new outs.old.items outs.new.items (s.fetched_from self.old page url.now) result }
-        ensures later { copies.old ≤ copies.new }
-        ensures copies { copies.new ≤ copies.old + 65 }
+        ensures copies { RisesBy 65 copies.old copies.new }
     {
         match url {
             Url::Blank => Ok(()),
@@ -163,8 +158,7 @@ impl Stores {
         requires entries { sum_by (λ p. length p.queue) self.old.windows.pages < count_started self.old.nodes }
         requires slots { sum_by (λ p. p.next) self.old.windows.pages < count_started self.old.nodes }
         ensures step { Makes self.old self.new outs.old.items outs.new.items (s.fetched self.old page domain.now uri.now) result }
-        ensures later { copies.old ≤ copies.new }
-        ensures copies { copies.new ≤ copies.old + 65 }
+        ensures copies { RisesBy 65 copies.old copies.new }
     {
         let slot = self.windows.next_slot(page);
         let body = Text::of_utf8(self.alloc, b"")?;
@@ -188,8 +182,7 @@ impl Stores {
         requires entries { sum_by (λ p. length p.queue) self.old.windows.pages < count_started self.old.nodes }
         requires slots { sum_by (λ p. p.next) self.old.windows.pages < count_started self.old.nodes }
         ensures done { OnOk result (self.new ≡ (s.queued self.old page body.now).after) }
-        ensures later { copies.old ≤ copies.new }
-        ensures copies { copies.new ≤ copies.old + 32 }
+        ensures copies { RisesBy 32 copies.old copies.new }
     {
         or_emptied!(
             self.windows.push_ready(page, body, copies),
@@ -203,8 +196,7 @@ impl Stores {
         requires entries { sum_by (λ p. length p.queue) self.old.windows.pages < count_started self.old.nodes }
         requires slots { sum_by (λ p. p.next) self.old.windows.pages < count_started self.old.nodes }
         ensures done { OnOk result (self.new ≡ (s.slotted page self.old).after) }
-        ensures later { copies.old ≤ copies.new }
-        ensures copies { copies.new ≤ copies.old + 32 }
+        ensures copies { RisesBy 32 copies.old copies.new }
     {
         match self.windows.push_wait(page, copies) {
             Ok(_slot) => Ok(()),

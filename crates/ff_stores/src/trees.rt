@@ -1,6 +1,7 @@
 //! Trees, texts and handlers.
-ghost use Rattle.std.specs.Prelude.{◌≡◌, ◌+◌, ◌*◌, ◌<◌, ◌≤◌, None, true, length, is_some, unwrap_or, nat_abs, IfOk, OnOk};
+ghost use Rattle.std.specs.Prelude.{◌≡◌, ◌+◌, ◌*◌, ◌<◌, None, true, length, is_some, unwrap_or, nat_abs, IfOk, OnOk};
 ghost use Rattle.std.specs.Option.{ForSome};
+ghost use Rattle.ff_steps.specs.Rises.{RisesBy};
 ghost use Rattle.ff_operators.specs.Answers.{Answers, OnFault};
 ghost use Rattle.ff_tree.specs.Spelled.{IsWellSpelledDoc};
 ghost use Rattle.ff_machine.specs.Nodes as t;
@@ -36,8 +37,7 @@ impl Stores {
         ensures number { IfOk result (λ n. n ≡ t.next_node self.old.nodes) }
         ensures answer { Answers (red.tree_fault self.old a doc.now) result }
         ensures kept { OnFault result (self.new ≡ self.old) }
-        ensures later { copies.old ≤ copies.new }
-        ensures copies { copies.new ≤ copies.old + 47 * (laid a doc.now).size }
+        ensures copies { RisesBy (47 * (laid a doc.now).size) copies.old copies.new }
     {
         let weight = weight_doc(doc);
         if weight > MOST_MASS - self.mass {
@@ -68,8 +68,7 @@ impl Stores {
         ensures done { OnOk result (self.new ≡ s.with_text self.old n text.now) }
         ensures answer { Answers (s.set_text_fault self.old n text.now) result }
         ensures kept { OnFault result (self.new ≡ self.old) }
-        ensures later { copies.old ≤ copies.new }
-        ensures copies { copies.new ≤ copies.old + 64 }
+        ensures copies { RisesBy 64 copies.old copies.new }
     {
         if self.nodes.text(n).is_none() {
             return Err(Fail::Fault(Fault::Kind));
@@ -94,8 +93,7 @@ impl Stores {
         requires has_text { t.text_fault self.old.nodes n ≡ None }
         ensures answer { IfOk result (λ b. b ≡ is_some (s.type_text self.old n text.now)) }
         ensures done { OnOk result (self.new ≡ unwrap_or (s.type_text self.old n text.now) self.old) }
-        ensures later { copies.old ≤ copies.new }
-        ensures copies { copies.new ≤ copies.old + 64 }
+        ensures copies { RisesBy 64 copies.old copies.new }
     {
         if !self.may_weigh(text.as_bytes().len() as u64) {
             return Ok(false);
@@ -115,8 +113,7 @@ impl Stores {
         requires has_text { t.text_fault self.old.nodes n ≡ None }
         requires light { s.may_weigh self.old (length text.now) ≡ true }
         ensures done { OnOk result (self.new ≡ s.with_text self.old n text.now) }
-        ensures later { copies.old ≤ copies.new }
-        ensures copies { copies.new ≤ copies.old + 64 }
+        ensures copies { RisesBy 64 copies.old copies.new }
     {
         let bytes = text.as_bytes();
         let page = self.nodes.page_root_of(n);
@@ -153,8 +150,7 @@ impl Stores {
         ensures done { OnOk result (self.new ≡ record self.old { nodes = t.handler_added self.old.nodes n code.now }) }
         ensures answer { Answers (t.handler_fault self.old.nodes n code.now) result }
         ensures kept { OnFault result (self.new ≡ self.old) }
-        ensures later { copies.old ≤ copies.new }
-        ensures copies { copies.new ≤ copies.old + 16 }
+        ensures copies { RisesBy 16 copies.old copies.new }
     {
         fault_or_emptied!(
             self.nodes.add_handler(n, code, copies),
@@ -177,8 +173,7 @@ impl Stores {
         requires parent_lives { parent.0 < length self.old.nodes }
         requires child_lives { child.0 < length self.old.nodes }
         ensures step { Tries self.old self.new outs.old.items outs.new.items (t.insert_fault self.old.nodes parent child at) (s.insert self.old parent child (nat_abs at)) result }
-        ensures later { copies.old ≤ copies.new }
-        ensures copies { copies.new ≤ copies.old + 4128 + starting (t.joined self.old.nodes parent child (nat_abs at)) child }
+        ensures copies { RisesBy (4128 + starting (t.joined self.old.nodes parent child (nat_abs at)) child) copies.old copies.new }
     {
         let page = self.join(parent, child, at, copies)?;
         self.start_in(page, child, outs, copies)?;
@@ -202,8 +197,7 @@ impl Stores {
         ensures child { OnOk result (child.0 < length self.new.nodes) }
         ensures answer { Answers (t.insert_fault self.old.nodes parent child at) result }
         ensures kept { OnFault result (self.new ≡ self.old) }
-        ensures later { copies.old ≤ copies.new }
-        ensures copies { copies.new ≤ copies.old + 4128 }
+        ensures copies { RisesBy 4128 copies.old copies.new }
     {
         let page = self.nodes.page_root_of(parent);
         match self.nodes.insert(parent, child, at, copies) {

@@ -1,6 +1,7 @@
 //! Scripts that may run, and settling.
-ghost use Rattle.std.specs.Prelude.{◌≡◌, ◌+◌, ◌<◌, ◌≤◌, ◌++◌, [], ◌∷◌, None, Some, cond, length, IfOk, OnOk, OnErr, MatchOption};
+ghost use Rattle.std.specs.Prelude.{◌≡◌, ◌<◌, ◌++◌, [], ◌∷◌, None, Some, cond, length, IfOk, OnOk, OnErr, MatchOption};
 ghost use Rattle.std.specs.FinSet as finset;
+ghost use Rattle.ff_steps.specs.Rises.{RisesBy};
 ghost use Rattle.ff_contract.specs.Appending.{Appends};
 ghost use Rattle.ff_machine.specs.Answers.{Makes};
 ghost use Rattle.ff_machine.specs.Nodes as t;
@@ -23,8 +24,7 @@ impl Stores {
         copies: &mut Steps<C>,
     ) -> Result<Option<(PageId, Body)>, NoMemory>
         ensures done { IfOk result (λ taken. MatchOption taken ((s.take_ready self.old ≡ None) × (self.new ≡ self.old)) (λ script. s.take_ready self.old ≡ Some ((script.0, script.1), self.new))) }
-        ensures later { copies.old ≤ copies.new }
-        ensures copies { copies.new ≤ copies.old + 17 }
+        ensures copies { RisesBy 17 copies.old copies.new }
     {
         match self.windows.ready() {
             None => Ok(None),
@@ -40,8 +40,7 @@ impl Stores {
     ) -> Result<Option<(PageId, Body)>, NoMemory>
         requires { page.0 < length self.old.windows.pages }
         ensures done { IfOk result (λ taken. MatchOption taken ((s.popped_of self.old (Some page) ≡ None) × (self.new ≡ self.old)) (λ script. s.popped_of self.old (Some page) ≡ Some ((script.0, script.1), self.new))) }
-        ensures later { copies.old ≤ copies.new }
-        ensures copies { copies.new ≤ copies.old + 17 }
+        ensures copies { RisesBy 17 copies.old copies.new }
     {
         match self.windows.pop_ready(page, copies) {
             Ok(Some(body)) => Ok(Some((page, body))),

@@ -1,5 +1,6 @@
 //! Variables and activations.
-ghost use Rattle.std.specs.Prelude.{◌≡◌, ◌+◌, ◌*◌, ◌<◌, ◌≤◌, length, IfOk, OnOk, All};
+ghost use Rattle.std.specs.Prelude.{◌≡◌, ◌+◌, ◌*◌, ◌<◌, length, IfOk, OnOk, All};
+ghost use Rattle.ff_steps.specs.Rises.{RisesBy};
 ghost use Rattle.ff_operators.specs.Answers.{Answers, OnFault};
 ghost use Rattle.ff_tree.specs.Spelled.{IsVar, AreParams};
 ghost use Rattle.ff_machine.specs.Windows as w;
@@ -30,8 +31,7 @@ impl Stores {
         ensures done { OnOk result (self.new ≡ red.with_acts self.old (w.set_var self.old.windows.acts a x.now v.now)) }
         ensures answer { Answers (w.declare_fault self.old.windows.acts a x.now) result }
         ensures kept { OnFault result (self.new ≡ self.old) }
-        ensures later { copies.old ≤ copies.new }
-        ensures copies { copies.new ≤ copies.old + 64 }
+        ensures copies { RisesBy 64 copies.old copies.new }
     {
         fault_or_emptied!(
             self.windows.declare(a, x, v, copies),
@@ -53,8 +53,7 @@ impl Stores {
         ensures done { OnOk result (self.new ≡ red.with_acts self.old (w.assigned self.old.windows.acts (w.holder self.old.windows.acts a x.now) x.now v.now)) }
         ensures answer { Answers (w.assign_fault (w.holder self.old.windows.acts a x.now)) result }
         ensures kept { OnFault result (self.new ≡ self.old) }
-        ensures later { copies.old ≤ copies.new }
-        ensures copies { copies.new ≤ copies.old + 64 }
+        ensures copies { RisesBy 64 copies.old copies.new }
     {
         fault_or_emptied!(
             self.windows.assign(a, x, v, copies),
@@ -79,8 +78,7 @@ impl Stores {
         ensures number { IfOk result (λ n. n ≡ w.next_act self.old.windows) }
         ensures answer { Answers (w.call_fault self.old.windows.acts (length params.now)) result }
         ensures kept { OnFault result (self.new ≡ self.old) }
-        ensures later { copies.old ≤ copies.new }
-        ensures copies { copies.new ≤ copies.old + 64 * (length params.now + 1) }
+        ensures copies { RisesBy (64 * (length params.now + 1)) copies.old copies.new }
     {
         fault_or_emptied!(
             self.windows.new_act(parent, params, args, copies),

@@ -1,6 +1,7 @@
 //! Activations and their variables.
-ghost use Rattle.std.specs.Prelude.{◌≡◌, ◌+◌, ◌*◌, ◌<◌, ◌≤◌, length, All, IfOk, OnOk};
+ghost use Rattle.std.specs.Prelude.{◌≡◌, ◌+◌, ◌*◌, ◌<◌, length, All, IfOk, OnOk};
 ghost use Rattle.std.specs.Option.{option_copied};
+ghost use Rattle.ff_steps.specs.Rises.{RisesBy};
 ghost use Rattle.ff_machine.specs.Windows as w;
 ghost use Rattle.ff_operators.specs.Answers.{Answers, OnFault};
 ghost use Rattle.ff_tree.specs.Spelled.{IsVar, AreParams};
@@ -38,8 +39,7 @@ impl Windows {
         ensures done { OnOk result (self.new ≡ w.with_acts self.old (w.set_var self.old.acts a x.now v.now)) }
         ensures answer { Answers (w.declare_fault self.old.acts a x.now) result }
         ensures kept { OnFault result (self.new ≡ self.old) }
-        ensures later { copies.old ≤ copies.new }
-        ensures copies { copies.new ≤ copies.old + 64 }
+        ensures copies { RisesBy 64 copies.old copies.new }
     {
         fault_or_emptied!(
             self.acts.declare(a, x, v, copies),
@@ -62,8 +62,7 @@ impl Windows {
         ensures done { OnOk result (self.new ≡ w.with_acts self.old (w.assigned self.old.acts (w.holder self.old.acts a x.now) x.now v.now)) }
         ensures answer { Answers (w.assign_fault (w.holder self.old.acts a x.now)) result }
         ensures kept { OnFault result (self.new ≡ self.old) }
-        ensures later { copies.old ≤ copies.new }
-        ensures copies { copies.new ≤ copies.old + 64 }
+        ensures copies { RisesBy 64 copies.old copies.new }
     {
         fault_or_emptied!(
             self.acts.assign(a, x, v, copies),
@@ -89,8 +88,7 @@ impl Windows {
         ensures number { IfOk result (λ a. a ≡ w.next_act self.old) }
         ensures answer { Answers (w.call_fault self.old.acts (length params.now)) result }
         ensures kept { OnFault result (self.new ≡ self.old) }
-        ensures later { copies.old ≤ copies.new }
-        ensures copies { copies.new ≤ copies.old + 64 * (length params.now + 1) }
+        ensures copies { RisesBy (64 * (length params.now + 1)) copies.old copies.new }
     {
         fault_or_emptied!(
             self.acts.new_act(parent, params, args, copies),

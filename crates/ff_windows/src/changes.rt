@@ -1,6 +1,7 @@
 //! Pages and windows that are made, shown and closed.
-ghost use Rattle.std.specs.Prelude.{◌≡◌, ◌+◌, ◌<◌, ◌≤◌, length, IsTrue, IfOk, OnOk};
+ghost use Rattle.std.specs.Prelude.{◌≡◌, ◌<◌, ◌≤◌, length, IsTrue, IfOk, OnOk};
 ghost use Rattle.std.specs.Option.{option_copied, ForSome};
+ghost use Rattle.ff_steps.specs.Rises.{RisesBy};
 ghost use Rattle.ff_machine.specs.Windows as w;
 ghost use Rattle.ff_name.specs.Address.{IsWellSpelled};
 ghost use Rattle.ff_operators.specs.Answers.{Answers, OnFault};
@@ -33,8 +34,7 @@ impl Windows {
         ensures number { IfOk result (λ page. page ≡ w.next_page self.old) }
         ensures answer { Answers (w.page_fault self.old) result }
         ensures kept { OnFault result (self.new ≡ self.old) }
-        ensures later { copies.old ≤ copies.new }
-        ensures copies { copies.new ≤ copies.old + 30 }
+        ensures copies { RisesBy 30 copies.old copies.new }
     {
         if !self.room() {
             return Err(Fail::Fault(Fault::Limit));
@@ -63,8 +63,7 @@ impl Windows {
         ensures number { IfOk result (λ n. n ≡ w.next_win self.old) }
         ensures answer { Answers (w.window_fault self.old) result }
         ensures kept { OnFault result (self.new ≡ self.old) }
-        ensures later { copies.old ≤ copies.new }
-        ensures copies { copies.new ≤ copies.old + 15 }
+        ensures copies { RisesBy 15 copies.old copies.new }
     {
         if self.opened().len() >= MOST_WINDOWS {
             return Err(Fail::Fault(Fault::Limit));
@@ -86,8 +85,7 @@ impl Windows {
         requires lives { page.0 < length self.old.pages }
         requires of_it { (w.page_at self.old page).win ≡ n }
         ensures done { OnOk result (self.new ≡ w.page_shown self.old n page) }
-        ensures later { copies.old ≤ copies.new }
-        ensures copies { copies.new ≤ copies.old + 17 }
+        ensures copies { RisesBy 17 copies.old copies.new }
     {
         let _known = self.opened();
         let mut cell = self.window(n).copy(copies)?;

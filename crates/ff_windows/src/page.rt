@@ -1,7 +1,8 @@
 //! A page as a cell of a list.
-ghost use Rattle.std.specs.Prelude.{◌≡◌, ◌+◌, ◌<◌, ◌≤◌, suc, [], ◌∷◌, ◌++◌, map, drop, length, filter_map, nat_eq, is_some, IfOk, OnOk};
+ghost use Rattle.std.specs.Prelude.{◌≡◌, ◌<◌, ◌≤◌, suc, [], ◌∷◌, ◌++◌, map, drop, length, filter_map, nat_eq, is_some, IfOk, OnOk};
 ghost use Rattle.std.specs.List.{IsDistinct, list_any};
 ghost use Rattle.std.specs.Option.{option_copied};
+ghost use Rattle.ff_steps.specs.Rises.{RisesBy};
 ghost use Rattle.ff_machine.specs.Alone.{waiting};
 ghost use Rattle.ff_machine.specs.Windows.{new_page, fill_entry, is_slot, first_ready};
 ghost use Rattle.ff_machine.specs.declared.records.Entry.TheVariants.{Ready, Wait};
@@ -157,8 +158,7 @@ impl PageCell {
         copies: &mut Steps<C>,
     ) -> Result<(), NoMemory>
         ensures done { OnOk result (self.new ≡ record self.old { queue = self.old.queue ++ Ready body.now ∷ [] }) }
-        ensures later { copies.old ≤ copies.new }
-        ensures copies { copies.new ≤ copies.old + 15 }
+        ensures copies { RisesBy 15 copies.old copies.new }
     {
         self.queue.push(Entry::Ready(body.copy()?), copies)
     }
@@ -168,8 +168,7 @@ impl PageCell {
     pub(crate) fn push_slot<C: Ledger>(&mut self, copies: &mut Steps<C>) -> Result<(), NoMemory>
         requires { self.old.next < MOST_SLOTS }
         ensures done { OnOk result (self.new ≡ record self.old { queue = self.old.queue ++ Wait self.old.next ∷ []; next = suc self.old.next }) }
-        ensures later { copies.old ≤ copies.new }
-        ensures copies { copies.new ≤ copies.old + 15 }
+        ensures copies { RisesBy 15 copies.old copies.new }
     {
         self.queue.push(Entry::Wait(self.next), copies)?;
         self.next += 1;
@@ -186,8 +185,7 @@ impl PageCell {
         requires { IsDistinct nat_eq (filter_map waiting self.old.queue) }
         ensures done { OnOk result (self.new ≡ record self.old { queue = map (fill_entry slot body.now) self.old.queue }) }
         ensures waits { IfOk result (λ b. b ≡ list_any (is_slot slot) self.old.queue) }
-        ensures later { copies.old ≤ copies.new }
-        ensures copies { copies.new ≤ copies.old + 16 }
+        ensures copies { RisesBy 16 copies.old copies.new }
     {
         self.queue.fill(slot, body, copies)
     }

@@ -1,6 +1,7 @@
 //! The pages, and how many of their queues begin with a script.
 ghost use Rattle.std.specs.Prelude.{◌≡◌, ◌+◌, ◌-◌, ◌^◌, ◌<◌, ◌≤◌, ℕ, false, [], ◌∷◌, ◌++◌, Some, is_some, length, IfOk, OnErr, OnOk, slice_get, slice_index_or, slice_set};
 ghost use Rattle.std.specs.Option.{option_copied};
+ghost use Rattle.ff_steps.specs.Rises.{RisesBy};
 ghost use Rattle.ff_machine.specs.Windows.{Page, no_page, first_ready};
 ghost use Rattle.ff_windows.specs.Queues.{count_ready, one_if};
 
@@ -76,8 +77,7 @@ impl Pages {
     ) -> Result<(), NoMemory>
         ensures done { OnOk result (self.new ≡ self.old ++ cell ∷ []) }
         ensures kept { OnErr result (self.new ≡ self.old) }
-        ensures later { copies.old ≤ copies.new }
-        ensures copies { copies.new ≤ copies.old + 15 }
+        ensures copies { RisesBy 15 copies.old copies.new }
     {
         let _known = self.cells.len();
         let ready = counted(self.ready, false, cell.is_ready());
@@ -98,8 +98,7 @@ impl Pages {
         requires { i < length self.old }
         ensures done { OnOk result (self.new ≡ slice_set self.old i cell) }
         ensures kept { OnErr result (self.new ≡ self.old) }
-        ensures later { copies.old ≤ copies.new }
-        ensures copies { copies.new ≤ copies.old + 16 }
+        ensures copies { RisesBy 16 copies.old copies.new }
     {
         let _known = self.cells.len();
         let ready = counted(self.ready, is_ready_at(&self.cells, i), cell.is_ready());
@@ -121,8 +120,7 @@ impl Pages {
         requires { i < length self.old }
         ensures done { OnOk result (self.new ≡ slice_set self.old i (E.edited edit (slice_index_or self.old i no_page))) }
         ensures kept { OnErr result (self.new ≡ self.old) }
-        ensures later { copies.old ≤ copies.new }
-        ensures copies { copies.new ≤ copies.old + 16 }
+        ensures copies { RisesBy 16 copies.old copies.new }
     {
         let _known = self.cells.len();
         let was = is_ready_at(&self.cells, i);

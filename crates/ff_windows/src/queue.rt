@@ -3,9 +3,10 @@
 //! It is two shared lists: the first is read from a place on, and the second takes what comes once
 //! the first is full. Taking an entry out moves none, and no list is ever built anew, so a change
 //! copies a bounded number of cells.
-ghost use Rattle.std.specs.Prelude.{◌≡◌, ◌+◌, ◌<◌, ◌≤◌, Some, [], ◌∷◌, ◌++◌, map, drop, length, filter_map, nat_eq, slice_get, slice_set, IfOk, OnOk};
+ghost use Rattle.std.specs.Prelude.{◌≡◌, ◌<◌, ◌≤◌, Some, [], ◌∷◌, ◌++◌, map, drop, length, filter_map, nat_eq, slice_get, slice_set, IfOk, OnOk};
 ghost use Rattle.std.specs.List.{IsDistinct, list_any, position_or_len};
 ghost use Rattle.std.specs.Option.{option_copied};
+ghost use Rattle.ff_steps.specs.Rises.{RisesBy};
 ghost use Rattle.ff_machine.specs.Alone.{waiting};
 ghost use Rattle.ff_machine.specs.Windows.{fill_entry, is_slot};
 ghost use Rattle.ff_machine.specs.declared.records.Entry.TheVariants.{Ready};
@@ -169,8 +170,7 @@ impl Queue {
         copies: &mut Steps<C>,
     ) -> Result<(), NoMemory>
         ensures done { OnOk result (self.new ≡ self.old ++ entry ∷ []) }
-        ensures later { copies.old ≤ copies.new }
-        ensures copies { copies.new ≤ copies.old + 15 }
+        ensures copies { RisesBy 15 copies.old copies.new }
     {
         let cell = EntryCell::of(entry);
         if self.back.len() == 0 && self.front.len() < MOST_CELLS {
@@ -209,8 +209,7 @@ impl Queue {
     ) -> Result<(), NoMemory>
         requires { i < length self.old }
         ensures done { OnOk result (self.new ≡ slice_set self.old i entry) }
-        ensures later { copies.old ≤ copies.new }
-        ensures copies { copies.new ≤ copies.old + 16 }
+        ensures copies { RisesBy 16 copies.old copies.new }
     {
         let rest = self.front.len() - self.first;
         let cell = EntryCell::of(entry);
@@ -248,8 +247,7 @@ impl Queue {
         requires { IsDistinct nat_eq (filter_map waiting self.old) }
         ensures done { OnOk result (self.new ≡ map (fill_entry slot body.now) self.old) }
         ensures waits { IfOk result (λ b. b ≡ list_any (is_slot slot) self.old) }
-        ensures later { copies.old ≤ copies.new }
-        ensures copies { copies.new ≤ copies.old + 16 }
+        ensures copies { RisesBy 16 copies.old copies.new }
     {
         let place = self.place_of(slot);
         if place >= self.len() {

@@ -1,5 +1,6 @@
 //! The queues of scripts.
-ghost use Rattle.std.specs.Prelude.{◌≡◌, ◌+◌, ◌<◌, ◌≤◌, false, length, MatchOption, IfOk, OnOk};
+ghost use Rattle.std.specs.Prelude.{◌≡◌, ◌<◌, false, length, MatchOption, IfOk, OnOk};
+ghost use Rattle.ff_steps.specs.Rises.{RisesBy};
 ghost use Rattle.ff_machine.specs.Windows as w;
 ghost use Rattle.ff_machine.specs.Windows.{first_ready};
 ghost use Rattle.ff_machine.specs.declared.records.Entry.TheVariants.{Ready};
@@ -28,8 +29,7 @@ impl Windows {
         requires room { count_entries self.old < MOST_ENTRIES }
         requires spelled { IsWellSpelledExpr body.now }
         ensures done { OnOk result (self.new ≡ w.with_entry self.old page (Ready body.now)) }
-        ensures later { copies.old ≤ copies.new }
-        ensures copies { copies.new ≤ copies.old + 32 }
+        ensures copies { RisesBy 32 copies.old copies.new }
     {
         let mut cell = self.page_of(page).copy(copies)?;
         cell.push(body, copies)?;
@@ -49,8 +49,7 @@ impl Windows {
         requires slots { (w.page_at self.old page).next < MOST_SLOTS }
         ensures done { OnOk result (self.new ≡ w.with_slot self.old page) }
         ensures number { IfOk result (λ slot. slot ≡ (w.page_at self.old page).next) }
-        ensures later { copies.old ≤ copies.new }
-        ensures copies { copies.new ≤ copies.old + 32 }
+        ensures copies { RisesBy 32 copies.old copies.new }
     {
         let slot = self.next_slot(page);
         let mut cell = self.page_of(page).copy(copies)?;
@@ -73,8 +72,7 @@ impl Windows {
         ensures done { OnOk result (self.new ≡ w.filled self.old page slot body.now) }
         ensures waits { IfOk result (λ b. b ≡ w.waits self.old page slot) }
         ensures unchanged { IfOk result (λ b. b ≡ false → self.new ≡ self.old) }
-        ensures later { copies.old ≤ copies.new }
-        ensures copies { copies.new ≤ copies.old + 33 }
+        ensures copies { RisesBy 33 copies.old copies.new }
     {
         let mut cell = self.page_of(page).copy(copies)?;
         let waits = cell.fill(slot, body, copies)?;
@@ -95,8 +93,7 @@ impl Windows {
         requires { page.0 < length self.old.pages }
         ensures value { IfOk result (λ script. script ≡ first_ready (w.page_at self.old page).queue) }
         ensures done { IfOk result (λ script. MatchOption script (self.new ≡ self.old) (λ _. self.new ≡ w.popped self.old page)) }
-        ensures later { copies.old ≤ copies.new }
-        ensures copies { copies.new ≤ copies.old + 17 }
+        ensures copies { RisesBy 17 copies.old copies.new }
     {
         let Some(first) = self.page_of(page).first_ready() else {
             return Ok(None);

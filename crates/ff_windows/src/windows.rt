@@ -1,5 +1,6 @@
 //! The store of windows, pages and activations, and how it is read and changed underneath.
-ghost use Rattle.std.specs.Prelude.{◌≡◌, ◌+◌, ◌<◌, ◌≤◌, [], ◌∷◌, ◌++◌, length, filter, not, false, is_some, IfOk, OnOk};
+ghost use Rattle.std.specs.Prelude.{◌≡◌, ◌<◌, [], ◌∷◌, ◌++◌, length, filter, not, false, is_some, IfOk, OnOk};
+ghost use Rattle.ff_steps.specs.Rises.{RisesBy};
 ghost use Rattle.ff_machine.specs.Alone.{AreWindows};
 ghost use Rattle.ff_machine.specs.Windows as w;
 ghost use Rattle.ff_machine.specs.Windows.{first_ready};
@@ -169,8 +170,7 @@ impl Windows {
         requires there { n.0 < length self.old.windows }
         requires keeps { AreWindows (w.set_window self.old n cell) }
         ensures done { OnOk result (self.new ≡ w.set_window self.old n cell) }
-        ensures later { copies.old ≤ copies.new }
-        ensures copies { copies.new ≤ copies.old + 16 }
+        ensures copies { RisesBy 16 copies.old copies.new }
     {
         let Ok(()) = self.windows.set(n.0, cell, copies) else {
             return Err(AllocError);
@@ -188,8 +188,7 @@ impl Windows {
         requires there { page.0 < length self.old.pages }
         requires keeps { AreWindows (w.set_page self.old page cell) }
         ensures done { OnOk result (self.new ≡ w.set_page self.old page cell) }
-        ensures later { copies.old ≤ copies.new }
-        ensures copies { copies.new ≤ copies.old + 16 }
+        ensures copies { RisesBy 16 copies.old copies.new }
     {
         let Ok(()) = self.pages.set(page.0, cell, copies) else {
             return Err(AllocError);
@@ -207,8 +206,7 @@ impl Windows {
         requires there { page.0 < length self.old.pages }
         requires keeps { AreWindows (w.set_page self.old page (E.edited edit (w.page_at self.old page))) }
         ensures done { OnOk result (self.new ≡ w.set_page self.old page (E.edited edit (w.page_at self.old page))) }
-        ensures later { copies.old ≤ copies.new }
-        ensures copies { copies.new ≤ copies.old + 16 }
+        ensures copies { RisesBy 16 copies.old copies.new }
     {
         let Ok(()) = self.pages.edit(page.0, edit, copies) else {
             return Err(AllocError);
@@ -225,8 +223,7 @@ impl Windows {
     ) -> Result<(), NoMemory>
         requires keeps { AreWindows (record self.old { windows = self.old.windows ++ cell ∷ []; opened = self.old.opened ++ n ∷ [] }) }
         ensures done { OnOk result (self.new ≡ record self.old { windows = self.old.windows ++ cell ∷ []; opened = self.old.opened ++ n ∷ [] }) }
-        ensures later { copies.old ≤ copies.new }
-        ensures copies { copies.new ≤ copies.old + 15 }
+        ensures copies { RisesBy 15 copies.old copies.new }
     {
         let Ok(()) = self.opened.push(n) else {
             return Err(AllocError);
@@ -247,8 +244,7 @@ impl Windows {
         requires room { length self.old.acts < MOST_ACTS }
         requires keeps { AreWindows (record self.old { pages = self.old.pages ++ cell ∷ []; acts = self.old.acts ++ w.no_act ∷ [] }) }
         ensures done { OnOk result (self.new ≡ record self.old { pages = self.old.pages ++ cell ∷ []; acts = self.old.acts ++ w.no_act ∷ [] }) }
-        ensures later { copies.old ≤ copies.new }
-        ensures copies { copies.new ≤ copies.old + 30 }
+        ensures copies { RisesBy 30 copies.old copies.new }
     {
         let Ok(()) = self.pages.push(cell, copies) else {
             return Err(AllocError);

@@ -37,7 +37,7 @@ loop-variable-init g c =
     record {
       valid = subst AreActs (sym c.in_ok-push_act.ensures.done) (pushed_valid c.args.acts.now c.args.rec.now.parent c.requires.valid (omega (arith, c.len-number.ensures.value, c.if-number-ge-MOST_ACTS.false)) before);
       recs = ap act_recs c.in_ok-push_act.ensures.done ∙ act_pushed c.args.acts.now c.args.rec.now.parent;
-      later = c.in_ok-push_act.ensures.later;
+      later = c.in_ok-push_act.ensures.copies.0;
     }
 
 pub returns-then-not-valid-clause-value : goal.returns-then-not-valid-clause-value
@@ -79,7 +79,7 @@ loop-variable-preserved g c =
     record {
       valid = subst AreActs (sym c.in-Ok.ensures.done) (acts_declared c.loop-variable.acts a x.name x.value c.loop-variable.invariant.valid lives valid.0 valid.1 c.in-Ok.ensures.answer);
       recs = ap act_recs c.in-Ok.ensures.done ∙ one_more rs c.args.rec.now a at c.loop-variable.variable-index x within is rises c.loop-variable.acts c.loop-variable.invariant.recs;
-      later = omega (arith, c.loop-variable.invariant.later, c.in-Ok.ensures.later);
+      later = omega (arith, c.loop-variable.invariant.later, c.in-Ok.ensures.copies);
     }
 
 pub returns-clause-value : goal.returns-clause-value

@@ -106,13 +106,13 @@ lay_each-loop-doc-preserved g t c =
           c.in_ok-push.ensures.items
           ∙ one_more_number c.args.env c.args.docs.now c.loop-doc.doc-index c.doc-item.result c.loop-doc-test.true c.doc-item.is (length c.args.cells.now) c.len.result c.loop-doc.ids.items c.loop-doc.invariant.ids (c.len.ensures.value ∙ c.loop-doc.invariant.count);
       count = more.count;
-      later = omega (arith, c.loop-doc.invariant.later, c.in_ok-lay_doc.ensures.later);
+      later = omega (arith, c.loop-doc.invariant.later, c.in_ok-lay_doc.ensures.copies);
       copies = let size = more.size in omega (arith, c.loop-doc.invariant.copies, c.in_ok-lay_doc.ensures.copies, size);
     }
 
 pub lay_each-returns-in_err-push-clause-copies : goal.lay_each-returns-in_err-push-clause-copies
-lay_each-returns-in_err-push-clause-copies g t c = omega (arith, c.loop-doc.invariant.copies, size_to_all c.args.env c.args.docs.now c.loop-doc.doc-index)
+lay_each-returns-in_err-push-clause-copies g t c = omega (arith, c.loop-doc.invariant.later, c.loop-doc.invariant.copies, size_to_all c.args.env c.args.docs.now c.loop-doc.doc-index)
 
 pub lay_each-returns-in_err-lay_doc-clause-copies : goal.lay_each-returns-in_err-lay_doc-clause-copies
 lay_each-returns-in_err-lay_doc-clause-copies g t c =
-    omega (arith, c.loop-doc.invariant.copies, c.in_err-lay_doc.ensures.copies, size_next_to_all c.args.env c.args.docs.now c.loop-doc.doc-index c.doc-item.result c.loop-doc-test.true c.doc-item.is)
+    omega (arith, c.loop-doc.invariant.later, c.loop-doc.invariant.copies, c.in_err-lay_doc.ensures.copies, size_next_to_all c.args.env c.args.docs.now c.loop-doc.doc-index c.doc-item.result c.loop-doc-test.true c.doc-item.is)

@@ -28,7 +28,7 @@ loop-i-preserved-in-Continue-1 g c =
       high = let high = c.loop-i.invariant.high in omega (arith, high, count);
       nodes = raised.nodes ∙ c.loop-i.invariant.nodes;
       marks = step_marked c.args.first c.loop-i.i c.loop-i.cells c.raise.new.cells c.in-Some.p c.cell_at-cell.result.now c.loop-i-test.true c.loop-i.invariant.high above c.cell_at-cell.ensures raised c.loop-i.invariant.marks;
-      later = omega (arith, c.loop-i.invariant.later, c.in_ok-raise.ensures.later);
+      later = omega (arith, c.loop-i.invariant.later, c.in_ok-raise.ensures.copies);
       copies = let test = c.loop-i-test.true in omega (arith, c.loop-i.invariant.copies, c.in_ok-raise.ensures.copies, test);
     }
 

@@ -24,5 +24,5 @@ loop-i-preserved g c =
     record {
       nodes = cell_more c.args.recs.now c.args.parents.now c.loop-i.i c.index-recs-i.result c.loop-i-test.true c.requires c.loop-i.cells c.push.new.self cell c.in-Ok.ensures.done node c.loop-i.invariant.nodes;
       own = subst (All HasOwn) (sym c.in-Ok.ensures.done) (All-push HasOwn c.loop-i.cells cell c.loop-i.invariant.own c.of-marks.ensures);
-      later = omega (arith, c.loop-i.invariant.later, c.in-Ok.ensures.later);
+      later = omega (arith, c.loop-i.invariant.later, c.in-Ok.ensures.copies);
     }

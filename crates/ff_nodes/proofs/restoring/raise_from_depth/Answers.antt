@@ -35,7 +35,7 @@ loop-i-preserved g c =
           record {
             nodes = ap nodes_of w.cells-is ∙ raised.nodes ∙ c.loop-i.invariant.nodes;
             marks = subst (AreMarkedWhere (Raised base c.args.depth (c.loop-i.i + 1))) (sym w.cells-is) (level_more base c.args.depth c.loop-i.cells w.raise.new.cells n w.in-Some.p c.requires.trees c.loop-i.invariant.nodes (sym is ∙ w.if-depths-i.true) up raised c.loop-i.invariant.marks);
-            later = omega (arith, c.loop-i.invariant.later, w.in_ok-raise.ensures.later, w.copies-is);
+            later = omega (arith, c.loop-i.invariant.later, w.in_ok-raise.ensures.copies, w.copies-is);
           }
       | then-depths-i+in_default w ↦
           let none = ap (λ ns. parent ns n) (sym c.loop-i.invariant.nodes) ∙ parent_is c.loop-i.cells n w.cell_at-cell.result.now w.parent.result None w.cell_at-cell.ensures w.parent.ensures w.in_default.is in

@@ -45,7 +45,7 @@ loop-i-preserved g c =
           c.in-Ok.ensures.done
           ∙ ap (λ acts. windows.set_var acts number c.index-names-i.result c.index-args-i.result) c.loop-i.invariant.called
           ∙ called_more c.args.self.now c.args.parent number names values c.loop-i.i c.index-names-i.result c.index-args-i.result (subst AreParams (sym c.as_slice-names.ensures) c.requires.names) (sym long) name_at value_at;
-      later = omega (arith, c.loop-i.invariant.later, c.in-Ok.ensures.later);
+      later = omega (arith, c.loop-i.invariant.later, c.in-Ok.ensures.copies);
       copies = omega (arith, c.loop-i.invariant.copies, c.in-Ok.ensures.copies);
     }
 

@@ -43,7 +43,7 @@ loop-rec-preserved g c =
           (subst IsUtf8 c.as_bytes-known-in-loop-rec-2.ensures.value c.as_bytes-known-in-loop-rec-2.ensures.utf8)
           c.in-Ok.ensures.answer);
       entries = one_more c.as_slice-recs.result.now c.loop-rec.rec-index c.rec-item.result c.loop-rec-test.true c.rec-item.is (c.rise.ensures.0 yes) c.loop-rec.jar c.put.new.self c.loop-rec.invariant.entries c.in-Ok.ensures.done;
-      later = omega (arith, c.loop-rec.invariant.later, c.in-Ok.ensures.later);
+      later = omega (arith, c.loop-rec.invariant.later, c.in-Ok.ensures.copies);
     }
 
 pub returns-clause-value : goal.returns-clause-value

@@ -47,7 +47,7 @@ loop-rec-preserved g c =
           (c.in_ok-valid.ensures.0 c.if-not-valid.false)
           (sym c.room.ensures ∙ c.if-not-room.false));
       recs = one_ask_more c.as_slice-recs.result.now c.loop-rec.rec-index x c.loop-rec-test.true c.rec-item.is c.loop-rec.requests c.ask.new.self c.loop-rec.invariant.valid climb c.loop-rec.invariant.recs done;
-      later = omega (arith, c.loop-rec.invariant.later, c.in_ok-ask.ensures.later);
+      later = omega (arith, c.loop-rec.invariant.later, c.in_ok-ask.ensures.copies);
     }
 
 pub returns-clause-value : goal.returns-clause-value

@@ -11,7 +11,7 @@ loop-j-preserved g c = record {
       ∙ ap (λ l. set l c.loop-j.j c.in_ok-moved.moved) c.loop-j.invariant.rows
       ∙ moved_more c.args.self.now c.args.i c.requires c.loop-j.j (omega arith) (omega arith) c.in_ok-moved.moved
       (ap (λ l. slice_get l (c.loop-j.j + 1)) (sym c.loop-j.invariant.rows) ∙ c.at.ensures ∙ ap Some (sym c.in_ok-moved.ensures.value));
-  later = omega (arith, c.loop-j.invariant.later, c.in_ok-moved.ensures.count, c.in_ok-set.ensures.later);
+  later = omega (arith, c.loop-j.invariant.later, c.in_ok-moved.ensures.count, c.in_ok-set.ensures.copies);
   copies = omega (arith, c.loop-j.invariant.copies, c.in_ok-moved.ensures.count, c.in_ok-set.ensures.copies);
 }
 

@@ -35,7 +35,7 @@ returns-in_err-raise_from-clause-copies g c =
     let new = (subst (λ ds. AreNew c.in_ok-next.next c.lay_over.new.cells ((laid_page c.args.page c.args.env ds).nodes (length c.in_ok-next.next) None)) c.as_slice-2.ensures c.in_ok-lay_over.ensures.new) in
     let parts : size_of (map (laid c.args.env) c.as_slice-2.result.now) ≡ size_of (map (laid c.args.env) c.args.docs.now) = ap (λ ds. size_of (map (laid c.args.env) ds)) c.as_slice-2.ensures in
     let count = made_length c.in_ok-next.next c.lay_over.new.cells (laid_page c.args.page c.args.env c.args.docs.now) c.len-n.result first (page_laid c.args.page c.args.env c.args.docs.now).sized new in
-    omega (arith, count, c.in_ok-next.ensures.copies, c.in_ok-lay_over.ensures.copies, parts, c.in_err-raise_from.ensures.copies)
+    omega (arith, count, c.in_ok-next.ensures.copies, c.in_ok-lay_over.ensures.copies, parts, c.in_err-raise_from.ensures.later, c.in_err-raise_from.ensures.copies)
 
 pub invariant_of-self : goal.invariant_of-self
 invariant_of-self g c =
@@ -57,4 +57,4 @@ returns-clause-copies g c =
     let new = (subst (λ ds. AreNew c.in_ok-next.next c.lay_over.new.cells ((laid_page c.args.page c.args.env ds).nodes (length c.in_ok-next.next) None)) c.as_slice-2.ensures c.in_ok-lay_over.ensures.new) in
     let parts : size_of (map (laid c.args.env) c.as_slice-2.result.now) ≡ size_of (map (laid c.args.env) c.args.docs.now) = ap (λ ds. size_of (map (laid c.args.env) ds)) c.as_slice-2.ensures in
     let count = made_length c.in_ok-next.next c.lay_over.new.cells (laid_page c.args.page c.args.env c.args.docs.now) c.len-n.result first (page_laid c.args.page c.args.env c.args.docs.now).sized new in
-    omega (arith, count, c.in_ok-next.ensures.copies, c.in_ok-lay_over.ensures.copies, parts, c.in_ok-raise_from.ensures.copies)
+    omega (arith, count, c.in_ok-next.ensures.copies, c.in_ok-lay_over.ensures.copies, parts, c.in_ok-raise_from.ensures.later, c.in_ok-raise_from.ensures.copies)

@@ -31,7 +31,7 @@ returns-in_err-raise_from-clause-copies g c =
     let first = made_first c.self.inside.cells c.in_ok-next.next c.args.self.now c.len-n.result c.self.view_is c.in_ok-next.ensures.equal c.len-n.ensures.value in
     let new = c.in_ok-lay_doc.ensures.new in
     let count = made_length c.in_ok-next.next c.lay_doc.new.cells (laid c.args.env c.args.doc.now) c.len-n.result first (doc_laid c.args.env c.args.doc.now).sized new in
-    omega (arith, count, c.in_ok-next.ensures.copies, c.in_ok-lay_doc.ensures.copies, c.in_err-raise_from.ensures.copies)
+    omega (arith, count, c.in_ok-next.ensures.copies, c.in_ok-lay_doc.ensures.copies, c.in_err-raise_from.ensures.later, c.in_err-raise_from.ensures.copies)
 
 pub invariant_of-self : goal.invariant_of-self
 invariant_of-self g c =
@@ -52,4 +52,4 @@ returns-clause-copies g c =
     let first = made_first c.self.inside.cells c.in_ok-next.next c.args.self.now c.len-n.result c.self.view_is c.in_ok-next.ensures.equal c.len-n.ensures.value in
     let new = c.in_ok-lay_doc.ensures.new in
     let count = made_length c.in_ok-next.next c.lay_doc.new.cells (laid c.args.env c.args.doc.now) c.len-n.result first (doc_laid c.args.env c.args.doc.now).sized new in
-    omega (arith, count, c.in_ok-next.ensures.copies, c.in_ok-lay_doc.ensures.copies, c.in_ok-raise_from.ensures.copies)
+    omega (arith, count, c.in_ok-next.ensures.copies, c.in_ok-lay_doc.ensures.copies, c.in_ok-raise_from.ensures.later, c.in_ok-raise_from.ensures.copies)

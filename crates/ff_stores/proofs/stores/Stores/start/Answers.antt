@@ -19,7 +19,7 @@ pub loop-script-preserved : goal.loop-script-preserved
 loop-script-preserved g c =
     let step = c.in_ok-start_one.ensures.step in (
       started_more c.args.page c.as_slice-script-items.result.now c.args.self.now c.args.outs.now.items c.loop-script.script-index c.loop-script.self c.loop-script.outs.items _ _ c.loop-script.invariant.0 c.loop-script-test.true refl c.start_one.new.self c.start_one.new.outs.items step.0 step.1,
-      omega (arith, c.loop-script.invariant.1, c.in_ok-start_one.ensures.later),
+      omega (arith, c.loop-script.invariant.1, c.in_ok-start_one.ensures.copies),
       omega (arith, c.loop-script.invariant.2, c.in_ok-start_one.ensures.copies),
     )
 
