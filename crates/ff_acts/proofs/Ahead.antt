@@ -4,7 +4,7 @@ use Rattle.std.specs.List.{slice_get}
 use Rattle.ff_value.specs.declared.ids.ActId.{ActId}
 use Rattle.ff_acts.specs.declared.cells.VarCell.{VarCell}
 use Rattle.ff_acts.specs.declared.searching.Place.{Place}
-use Rattle.ff_acts.specs.declared.searching.Place.TheVariants.{Top, Left, Right}
+use Rattle.ff_acts.specs.declared.searching.Place.TheVariants.{Left, Right}
 use Rattle.ff_acts.specs.Digits.{digits}
 use Rattle.ff_acts.specs.Held.{is_var, link_of, found, IsLink, HasLinks}
 use Rattle.ff_acts.specs.Stops.{LivesAt, link_at, after_place, Stays, Extends, IsOpen}
@@ -22,16 +22,6 @@ pub record IsAhead (top : Option ℕ) (cells : List VarCell) (a : ActId) (x : Li
 abbrev pub cells_ahead : ℕ → Option ℕ → ℕ
 cells_ahead len None = 0
 cells_ahead len (Some k) = len - k
-
-pub ahead_first : (top : Option ℕ) (cells : List VarCell) (a : ActId) (x : List ℕ) (rest : ℕ) → rest ≡ digits x → IsLink cells 0 top → IsAhead top cells a x Top top rest
-ahead_first top cells a x rest e low =
-    subst (IsAhead top cells a x Top top) (sym e) (record {
-      at = refl;
-      below = low;
-      lives = tt;
-      kept = λ n i f. f;
-      leads = λ first new n i s ext f. let z : n ≡ 0 + n = omega arith in subst (λ m. found m new a x (digits x) first ≡ Some i) z f;
-    })
 
 -- a cell of another variable is passed
 passed : (n : ℕ) (cells : List VarCell) (a : ActId) (x : List ℕ) (rest : ℕ) (link : Option ℕ) (k i : ℕ) (cell : VarCell) → link ≡ Some k → slice_get cells k ≡ Some cell → is_var a x cell ≡ false

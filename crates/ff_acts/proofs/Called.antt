@@ -36,10 +36,6 @@ zip_more (y ∷ xs) [] i x v e f = cc
 zip_more (y ∷ xs) (w ∷ vs) zero x v e f = let is : y ≡ x = cc in let has : w ≡ v = cc in ap (λ z. (z, w) ∷ []) is ∙ ap (λ u. (x, u) ∷ []) has
 zip_more (y ∷ xs) (w ∷ vs) (suc i) x v e f = ap (λ rest. (y, w) ∷ rest) (zip_more xs vs i x v e f)
 
--- without parameters an activation has no variables
-pub called_none : (acts : List Activation) (parent : ActId) (xs : List (List ℕ)) (vs : List Val) → acts ++ record { parent = Some parent; vars = finmap.empty } ∷ [] ≡ with_act acts parent (take 0 xs) (take 0 vs)
-called_none acts parent xs vs = refl
-
 set_last : (acts : List Activation) (act : Activation) (a : ActId) (x : List ℕ) (v : Val) → length acts ≡ a.0 → set_var (acts ++ act ∷ []) a x v ≡ acts ++ record act { vars = finmap.insert act.vars x v } ∷ []
 set_last acts act a x v e =
     ap (λ (is : Activation). let new : Activation = record is { vars = finmap.insert is.vars x v } in set (acts ++ act ∷ []) a.0 new) (get_or_push acts act no_act a.0 e)

@@ -1,7 +1,6 @@
 -- The lines of two texts that come to a comparison, one after another; and the lines of a longer text.
 use Rattle.std.proofs.Common.{◌≡◌, ℕ, ◌+◌, ◌<◌, ◌≤◌, ◌==◌, Bool, true, false, cond, List, [], ◌∷◌, ◌++◌, length, filter, map, bytes_eq, refl, sym, ap, subst, ◌∙◌, append-nil, append_assoc, arith}
 use Rattle.std.specs.List.{onto_first}
-use Rattle.std.proofs.lemmas.Bool.{true≢false, ne_eqb}
 use Rattle.std.proofs.lemmas.List.Elements.{filter-append}
 use Rattle.ff_io.specs.Cutting.{content}
 use Rattle.ff_reactive.specs.Text.{lines, first_word, onto_lines, text_of, text_out, line_of}
@@ -79,16 +78,8 @@ module _ (word text rest line more : List ℕ) (seeks : Seeks word text rest) (c
   split_by : (test : Bool) → bytes_eq word (first_word line) ≡ test → own_contents word rest ≡ map content (cond test (line ∷ own_lines word more) (own_lines word more))
   split_by test is = ap (λ ls. map content (filter (λ l. bytes_eq word (first_word l)) ls)) cut ∙ ap (λ b. map content (cond b (line ∷ own_lines word more) (own_lines word more))) is
 
-  pub found_own : bytes_eq word (first_word line) ≡ true → own_contents word text ≡ content line ∷ own_contents word more
-  found_own is = seeks.same ∙ split_by true is
-
   pub seeks_more : bytes_eq word (first_word line) ≡ false → length rest ≡ length line + length more → Seeks word text more
   seeks_more is whole = record { same = seeks.same ∙ split_by false is; shorter = let short = seeks.shorter in omega (arith, short, whole) }
-
--- the rest is empty where the test says so
-pub none_left : (word text rest : List ℕ) (test : Bool) → Seeks word text rest → test ≡ true → test ≡ (length rest == 0) → own_contents word text ≡ []
-none_left word text [] test seeks some is = seeks.same
-none_left word text (x ∷ xs) test seeks some is = absurd (true≢false (sym some ∙ is ∙ ne_eqb (length (x ∷ xs)) 0 (λ e. omega arith)))
 
 -- ---- the lines that are the same in both texts
 

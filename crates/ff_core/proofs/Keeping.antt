@@ -1,6 +1,6 @@
 -- What a browser reaches is valid, what it puts can be printed, and its turns spend the fuel that an
 -- input brings.
-use Rattle.std.proofs.Common.{◌≡◌, ◌≤◌, ◌+◌, true, List, All, ℕ}
+use Rattle.std.proofs.Common.{◌≤◌, ◌+◌, List, All, ℕ}
 use Rattle.std.proofs.lemmas.List.Elements.{All-weaker}
 use Rattle.ff_reactive.specs.Turns.{KeepsOk, IsFuelled}
 use Rattle.ff_reactive.proofs.Turns.{settle_turns}
@@ -34,9 +34,6 @@ fuelled budget = record {
   brings = λ s i is good. (fuel.fuelled budget).brings s i is.budget_is tt;
   spends = λ s is busy. (fuel.fuelled budget).spends s is.budget_is busy;
 }
-
-pub ends_quiet : (budget : ℕ) (s : State) (i : Input) → IsState budget s → IsWellSpelledInput i → ((browser budget).handle s i).after.quiet ≡ true
-ends_quiet budget s i valid good = fuel.ends_quiet budget s i valid.budget_is
 
 pub ends_soon : (budget : ℕ) (s : State) (i : Input) → ((browser budget).handle s i).turns ≤ budget + 1
 ends_soon budget s i = settle_turns (reactor budget) (budget + 1) (begin s i).after

@@ -3,9 +3,6 @@ use Rattle.std.proofs.Common.{◌≡◌, ℕ, suc, zero, ◌<◌, Bool, true, fa
 use Rattle.std.specs.Prelude.{IsTrue, IfSome}
 use Rattle.std.specs.List.{list_any}
 use Rattle.std.proofs.lemmas.Bool.{eq-eqb}
-use Rattle.std.proofs.lemmas.List.Elements.{All-weaker}
-use Rattle.ff_name.specs.Address.{IsWellSpelled}
-use Rattle.ff_name.specs.declared.urls.Url.{Url}
 use Rattle.ff_value.specs.declared.fault.Fault.{Fault}
 use Rattle.ff_value.specs.declared.fault.Fault.TheVariants as fault
 use Rattle.ff_value.specs.declared.ids.WinId.{WinId}
@@ -15,16 +12,13 @@ use Rattle.ff_machine.specs.declared.kinds.Kind.TheVariants as kind
 use Rattle.ff_machine.specs.declared.records.Shape.{Shape}
 use Rattle.ff_machine.specs.declared.records.Shape.TheVariants as shape
 use Rattle.ff_machine.specs.Kinds.{kind_word}
-use Rattle.ff_machine.specs.Shapes.{kind_of, text_of, url_of}
-use Rattle.ff_machine.specs.Nodes.{Node, no_node, node_at, Walk, text_fault}
+use Rattle.ff_machine.specs.Shapes.{kind_of, text_of}
+use Rattle.ff_machine.specs.Nodes.{node_at, Walk, text_fault}
 use Rattle.ff_machine.specs.Windows.{is_win, is_open, page_at}
-use Rattle.ff_machine.specs.Alone.{IsNode}
-use Rattle.ff_machine.specs.Stores.{Stores}
 use Rattle.ff_machine.specs.State.{State}
 use Rattle.ff_machine.specs.Inputs.{user_window, user_node, page_in}
 use Rattle.ff_machine.specs.Valid.{IsStores}
-use Rattle.ff_laws.proofs.Inputs.{shape_url, no_url, node_there}
-use Rattle.ff_laws.proofs.Simple.{at_any}
+use Rattle.ff_laws.proofs.Inputs.{node_there}
 use Rattle.ff_stores.proofs.Opening.{open_lives}
 
 -- a window at a place is one of the open ones
@@ -70,9 +64,3 @@ box_has_text s w m n e =
     let nodes = s.stores.nodes in
     let passes = kept_passes (λ (m : NodeId). bytes_eq (kind_word (kind_of (node_at nodes m).shape)) (kind_word kind.TextBox)) (Walk nodes (page_at s.stores.windows (page_in s w)).root) n m e in
     ap (λ (b : Bool). let why : Option Fault = cond b None (Some fault.Kind) in why) (box_text (node_at nodes m).shape passes)
-
--- the address of a valid node is well spelled
-pub address_spelled : (s : Stores) (m : NodeId) (u : Url) → IsStores s → url_of (node_at s.nodes m).shape ≡ Some u → IsWellSpelled u
-address_spelled s m u valid =
-    at_any (λ (node : Node). url_of node.shape ≡ Some u → IsWellSpelled u) s.nodes m.0 no_node
-    (All-weaker IsNode (λ (node : Node). url_of node.shape ≡ Some u → IsWellSpelled u) (λ node h e. shape_url node.shape u h.shape e) s.nodes valid.nodes.each) (no_url u)

@@ -118,10 +118,6 @@ taken_of s (Some page) taken e = lives_of s page (first_ready (page_at s.windows
 taken_later : (s : Stores) (taken : (PageId × Expr) × Stores) → take_ready s ≡ Some taken → AreLater s taken.1
 taken_later s taken e = subst (TakenLater s) e (later.take_ready s)
 
--- its page was made
-pub taken_lives : (s : Stores) (taken : (PageId × Expr) × Stores) → take_ready s ≡ Some taken → taken.0.0.0 < length taken.1.windows.pages
-taken_lives s taken e = let was = taken_of s (ready s.windows) taken e in omega (arith, was, (taken_later s taken e).windows.pages)
-
 -- and has the activation that it had
 taken_act : (s : Stores) (taken : (PageId × Expr) × Stores) → take_ready s ≡ Some taken → (page_at taken.1.windows taken.0.0).act ≡ (page_at s.windows taken.0.0).act
 taken_act s taken e = ((taken_later s taken e).windows.same taken.0.0 (taken_of s (ready s.windows) taken e)).act

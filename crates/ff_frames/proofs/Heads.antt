@@ -12,7 +12,7 @@ use Rattle.ff_frames.specs.declared.frame.Focus.TheVariants as focus
 use Rattle.ff_frames.specs.declared.frame.Head.{Head}
 use Rattle.ff_frames.specs.declared.frame.Head.TheVariants as head
 use Rattle.ff_frames.specs.declared.hand.Hand.{Hand}
-use Rattle.ff_frames.specs.Heads.{IsEmptyHanded, IsFew, IsFit, IsHolding, IsLaid, all_held, at_hand, behind, focus_of, form_in, frames, frames_of, held, value_in, with_values}
+use Rattle.ff_frames.specs.Heads.{IsFew, IsFit, IsHolding, IsLaid, all_held, at_hand, behind, focus_of, form_in, frames, frames_of, held, value_in, with_values}
 
 -- ---- frames and their values
 
@@ -126,10 +126,6 @@ pub laid-holds : (hs : List Head) (h : Hand) → IsLaid hs h → (kept : List Va
 laid-holds hs h laid =
     let r = by-form (all_held hs) h.values.items h.form laid in
     (r.0, record { count = r.1; hand = record { values = r.2; form = r.3 } })
-
--- nothing at hand
-pub empty-holds : (hs : List Head) (g h : Hand) (x : Focus) → IsEmptyHanded hs g → IsHolding g.values.items x h → Holds hs h g.values.items x
-empty-holds hs g h x empty holding = record { count = empty.count; hand = holding }
 
 -- a hand without a form, out of which none was taken
 pub untouched : (h k : Hand) → k ≡ record h { form = None } → h.form ≡ None → k ≡ h

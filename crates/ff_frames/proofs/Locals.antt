@@ -128,10 +128,6 @@ past-none (x ∷ xs) (suc n) h = past-none xs n (omega (arith, h))
 pub turned-last : (f : Head) (es : List Expr) (n : ℕ) (h : Hand) → IsDoAt f es n → length es ≤ n → IsTurned f h false f h
 turned-last f es n h is past = (refl, refl, λ own a v. rw (is.same own a v, drop-none es n (past-none es n past)) refl)
 
--- the loop after a turn
-pub turned-again : (e : Expr) (h k : Hand) → IsHeldFor 1 e h k → IsTurned (head.Loop e) h true head.Last k
-turned-again e h k on = turned (head.Loop e) head.Last h k e refl (refl, refl) (λ own a v x shows. rw shows refl) on
-
 -- ---- the branches
 
 -- the body of a loop

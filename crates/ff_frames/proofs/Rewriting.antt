@@ -8,13 +8,11 @@ use Rattle.ff_tree.specs.declared.tree.Doc.{Doc}
 use Rattle.ff_tree.specs.declared.tree.Handler.{Handler}
 use Rattle.ff_tree.specs.declared.tree.Doc.TheOpen.{Expr-F}
 use Rattle.ff_value.specs.declared.ids.ActId.{ActId}
-use Rattle.ff_value.specs.declared.value.Code.{Code}
 use Rattle.ff_value.specs.declared.value.Val.{Val}
-use Rattle.ff_value.specs.declared.value.Val.TheVariants as val
 use Rattle.ff_term.specs.declared.TheConstants.{MOST_CALLS}
 use Rattle.ff_term.specs.Calls.{calls_around}
 use Rattle.ff_term.specs.Rows.{IsLocal, IsTest, local_row}
-use Rattle.ff_term.specs.Running.{Running, Apply, Done, Inside, none, more, Evaluation, insides, innermost, is_value, redex, rewritten_in}
+use Rattle.ff_term.specs.Running.{Running, Apply, Done, Inside, Evaluation, insides, innermost, is_value, redex, rewritten_in}
 use Rattle.ff_term.specs.Whole.{whole, layer}
 use Rattle.ff_term.proofs.Calls.{whole-around}
 use Rattle.ff_term.proofs.Forms.{whole-layer}
@@ -31,7 +29,7 @@ use Rattle.ff_frames.specs.declared.stack.Stack.{Stack}
 use Rattle.ff_frames.specs.Bindings.{IsBinding, bound}
 use Rattle.ff_frames.specs.Frames.{around, wrap, outside, base_of, plug, shown, is_call, calls}
 use Rattle.ff_frames.specs.Heads.{IsCleared, IsEmptyHanded, IsFew, IsFit, IsHolding, IsLaid, IsTopBare, all_held, focus_of, frames, frames_of, held, last_or, value_of, with_values}
-use Rattle.ff_frames.specs.Rewrites.{IsDo, IsEnding, IsIf, IsCallFrame, IsNoCall, IsPutOn, IsTested, IsTurned, with_frame, within}
+use Rattle.ff_frames.specs.Rewrites.{IsDo, IsEnding, IsIf, IsNoCall, IsPutOn, IsTested, IsTurned, with_frame, within}
 use Rattle.ff_frames.specs.Seeking.{IsFull, IsRow, IsSettled, IsThere, IsTopFull}
 use Rattle.ff_frames.specs.Stacks.{frames_in, focus_in, in_frames, with_part, evaluation, out_of, IsCounted, IsReady, IsRewritten, IsValid, IsWithoutRedex}
 use Rattle.ff_frames.proofs.Heads.{Holds, all_held-snoc, fit-last, fit-none, fit-snoc, frames-snoc, holds-at, holds-frames, holds-laid}
@@ -267,18 +265,6 @@ called-counted s t u b v o less is depth =
 pub called : (s t u v : Stack) (x y : Running) → IsWithoutRedex s t → frames_in u ≡ frames_in t ++ frame.Inside t.act ∷ []
     → x ≡ y → evaluation v ≡ with_part u x → evaluation v ≡ rewritten_in (λ _. Inside u.act y) (evaluation s)
 called s t u v x y o is same e = e ∙ ap (with_part u) same ∙ in-pushed (frames_in t) (frames_in u) (frame.Inside t.act) t.act u.act y is refl ∙ o.rewrites (Inside u.act y)
-
--- a call with its one argument
-pub one-call : (s t : Stack) (f : Head) (code : Code) (v : Val) → IsCallFrame code f → t.heads.items ≡ f ∷ [] → t.hand.values.items ≡ val.Code code ∷ []
-    → evaluation s ≡ with_part t (Done v) → evaluation s ≡ record { base = t.act; expr = Apply (Done (val.Code code)) (more (Done v) none) }
-one-call s t f code v call heads values e =
-    e ∙ rw (heads, values, call.one) (both _ _ _ _ (alone f call.one) (call.expr t.act (Done v))) where
-      alone : (f : Head) → held f ≡ 1 → outside (with_values f (val.Code code ∷ [])) t.act ≡ t.act
-      alone (head.Part e n) h = refl
-      alone (head.Do es n) h = refl
-      alone (head.Loop e) h = refl
-      alone head.Last h = refl
-      alone (head.Inside a) h = cc
 
 -- ---- the redex read off the stack
 
@@ -561,22 +547,6 @@ walked-valid m u depth counted fit there laid =
 pub all_ok : {X E : Type 0} {A B C D : Type 0} (r : Result X E) → (A → B → C → D) → OnOk r A → OnOk r B → OnOk r C → OnOk r D
 all_ok (Ok x) f a b c = f a b c
 all_ok (Err e) f a b c = tt
-
--- an equal stack
-module _ (s t : Stack) (heads : t.heads.items ≡ s.heads.items) (values : t.hand.values.items ≡ s.hand.values.items) (form : t.hand.form ≡ s.hand.form) (act : t.act ≡ s.act) where
-  pub copied-same : evaluation t ≡ evaluation s
-  copied-same = rw (heads, values, form, act) refl
-
-  pub copied-valid : t.hand.null ≡ val.Null → t.depth ≡ s.depth → IsValid s → IsValid t
-  copied-valid null depth v = record {
-    laid = by v.laid;
-    fit = rw heads v.fit;
-    at = rw (heads, values, form) v.at;
-    counted = record { depth = rw (heads, values, depth) v.counted.depth; small = rw depth v.counted.small };
-  } where
-    by : IsCleared s.heads.items s.hand ⊎ IsLaid s.heads.items s.hand → IsCleared t.heads.items t.hand ⊎ IsLaid t.heads.items t.hand
-    by (inl c) = inl (record { heads = heads ∙ c.heads; values = values ∙ c.values; form = form ∙ c.form; null = null })
-    by (inr l) = inr (rw (heads, values, form) l)
 
 -- putting what g gives for the redex is rewriting by g
 pub by-redex : (g : Running → Running) (e : Evaluation) → rewritten_in (λ _. g (redex e.expr)) e ≡ rewritten_in g e

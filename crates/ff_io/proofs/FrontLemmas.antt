@@ -1,5 +1,5 @@
 -- Lists that another one begins with.
-use Rattle.std.proofs.Common.{List, [], ◌++◌, ℕ, refl, ap, sym, ◌∙◌, append-nil, append_assoc}
+use Rattle.std.proofs.Common.{List, [], ◌++◌, ℕ, refl, ap, ◌∙◌, append-nil, append_assoc}
 use Rattle.ff_io.specs.Fronts.{IsFront, IsProperFront}
 
 -- nothing begins every list
@@ -9,17 +9,6 @@ IsFront-nil whole = record { rest = whole; joined = refl }
 -- a list begins itself
 pub IsFront-self : (whole : List ℕ) → IsFront whole whole
 IsFront-self whole = record { rest = []; joined = append-nil whole }
-
--- a proper front is a front
-pub IsFront-proper : (front whole : List ℕ) → IsProperFront front whole → IsFront front whole
-IsFront-proper front whole proper = record { rest = proper.rest; joined = proper.joined }
-
--- a front of a front
-pub IsFront-trans : (xs ys zs : List ℕ) → IsFront xs ys → IsFront ys zs → IsFront xs zs
-IsFront-trans xs ys zs first second = record {
-  rest = first.rest ++ second.rest;
-  joined = sym (append_assoc xs first.rest second.rest) ∙ ap (λ l. l ++ second.rest) first.joined ∙ second.joined;
-}
 
 -- the same after what stands before both
 pub IsFront-append : (before front whole : List ℕ) → IsFront front whole → IsFront (before ++ front) (before ++ whole)

@@ -1,21 +1,19 @@
 -- A line is put together from what is read.
-use Rattle.std.proofs.Common.{◌≡◌, ℕ, suc, ◌+◌, ◌-◌, ◌<◌, ◌≤◌, inl, inr, Bool, true, false, cond, ◌||◌, Option, Ok, Err, List, [], ◌∷◌, ◌++◌, length, refl, sym, ap, subst, ◌∙◌, append-nil, append_assoc, arith, length-append}
-use Rattle.std.specs.Prelude.{Vec}
-use Rattle.std.specs.declared.alloc.Global.{Global}
+use Rattle.std.proofs.Common.{◌≡◌, ℕ, suc, ◌+◌, ◌-◌, ◌<◌, ◌≤◌, Bool, true, false, cond, ◌||◌, Option, Ok, Err, List, [], ◌∷◌, ◌++◌, length, refl, sym, ap, subst, ◌∙◌, append-nil, append_assoc, arith, length-append}
 use Rattle.std.proofs.lemmas.List.{nil_from_length}
 use Rattle.std.proofs.lemmas.Bool.{false≢true}
 use Rattle.ff_io.specs.Pieces.{Piece, got_of, has_end, is_nil}
 use Rattle.ff_io.specs.Pieces.Piece.{Got, Put}
 use Rattle.ff_io.specs.Port.{Adds, Leaves, AtEnd}
 use Rattle.ff_io.specs.Chunks.{IsChunk, IsReadFail}
-use Rattle.ff_io.specs.Cutting.{has_newline, content, after_line, line_size, Fits, IsUnfinished, HasLine}
-use Rattle.ff_io.specs.Following.{LinesState, ReadsWhileNone, IsNext, Nexts}
+use Rattle.ff_io.specs.Cutting.{has_newline, content, after_line, line_size, Fits, IsUnfinished}
+use Rattle.ff_io.specs.Following.{LinesState, ReadsWhileNone, Nexts}
 use Rattle.ff_io.specs.Gathering.{IsSizeFault, IsCut, IsUncut, IsUngathered, Gathers}
 use Rattle.ff_io.specs.declared.chunk.TheConstants.{MOST_READ_BYTES}
-use Rattle.ff_io.specs.declared.lines.Next.TheVariants.{Line, End}
+use Rattle.ff_io.specs.declared.lines.Next.TheVariants.{End}
 use Rattle.ff_io.specs.declared.lines.LineFail.{LineFail}
 use Rattle.ff_io.specs.declared.lines.LineFail.TheVariants.{TooLong, TooMuch, Read, NoMemory}
-use Rattle.ff_io.proofs.Joins.{got_of-append, has_end-append, Adds-nil, Adds-trans, Leaves-nil, Leaves-trans}
+use Rattle.ff_io.proofs.Joins.{got_of-append, has_end-append, Adds-trans, Leaves-trans}
 use Rattle.ff_io.proofs.CuttingLemmas.{has_newline-after, content-after, after_line-after, content-none, after_line-none}
 use Rattle.ff_io.specs.declared.lines.TheConstants.{MOST_LINE_BYTES}
 
@@ -86,37 +84,6 @@ pub record IsGathering (log_before log_now : Option (List Piece)) (rest_before r
 or_false : (b : Bool) → b ≡ (b || false)
 or_false true = refl
 or_false false = refl
-
--- the first cut, before any read
-pub gathering_start : (log : Option (List Piece)) (rest : Option (List ℕ)) (given : ℕ) (bytes : List ℕ) (ended : Bool) (line chunk : List ℕ) (whole : Bool) → IsCut given bytes line chunk whole
-    → IsGathering log log rest rest given bytes ended line chunk ended whole
-gathering_start log rest given bytes ended line chunk whole cut = record {
-  pieces = [];
-  added = Adds-nil log;
-  left = Leaves-nil rest;
-  at_end = λ e. absurd (false≢true e);
-  reads = tt;
-  cut = subst (λ bs. IsCut given bs line chunk whole) (sym (append-nil bytes)) cut;
-  seen = or_false ended;
-}
-
--- the first cut failed
-pub gathers_not : (log : Option (List Piece)) (rest : Option (List ℕ)) (given : ℕ) (bytes : List ℕ) (ended : Bool) (line chunk : List ℕ) (ended_now : Bool) (fail : LineFail) → IsUncut given bytes fail
-    → Gathers log log rest rest given bytes ended line chunk ended_now (Err fail)
-gathers_not log rest given bytes ended line chunk ended_now fail uncut = record {
-  pieces = [];
-  added = Adds-nil log;
-  left = Leaves-nil rest;
-  at_end = λ e. absurd (false≢true e);
-  reads = tt;
-  answer = subst (λ bs. IsUngathered given bs (ended || false) fail) (sym (append-nil bytes)) (ungathered fail uncut);
-}
-  where
-    ungathered : (f : LineFail) → IsUncut given bytes f → IsUngathered given bytes (ended || false) f
-    ungathered TooLong h = h
-    ungathered TooMuch h = h
-    ungathered Read h = absurd h
-    ungathered NoMemory h = tt
 
 some_bytes : (bytes : List ℕ) → is_nil bytes ≡ false → 0 < length bytes
 some_bytes [] e = absurd (false≢true (sym e))
@@ -251,18 +218,6 @@ module _ {log_before log_mid : Option (List Piece)} {rest_before rest_mid : Opti
         from Read h = absurd h
         from NoMemory h = tt
 
--- the loop is over
-pub gathers_line : (log_before log_now : Option (List Piece)) (rest_before rest_now : Option (List ℕ)) (given : ℕ) (bytes : List ℕ) (ended : Bool) (line chunk : List ℕ) (ended_now whole : Bool)
-    → IsGathering log_before log_now rest_before rest_now given bytes ended line chunk ended_now whole → (whole ≡ false → ended_now ≡ true) → Gathers log_before log_now rest_before rest_now given bytes ended line chunk ended_now (Ok whole)
-gathers_line log_before log_now rest_before rest_now given bytes ended line chunk ended_now whole so_far stopped = record {
-  pieces = so_far.pieces;
-  added = so_far.added;
-  left = so_far.left;
-  at_end = so_far.at_end;
-  reads = so_far.reads;
-  answer = (record { cut = so_far.cut; stopped = λ e. sym so_far.seen ∙ stopped e }, so_far.seen);
-}
-
 -- ---- what is answered
 
 abbrev state : List ℕ → ℕ → Bool → Bool → LinesState
@@ -275,34 +230,6 @@ module _ {log_before log_now : Option (List Piece)} {rest_before rest_now : Opti
 
   abbrev seen : Bool
   seen = ended || has_end gathers.pieces
-
-  size_of : length line + cond whole 1 0 ≡ line_size all
-  size_of = let cut = gathers.answer.0.cut in ap (λ bs. length bs + cond whole 1 0) cut.line_is ∙ ap (λ t. length (content all) + cond t 1 0) cut.whole_is
-
-  -- a line, or the end
-  pub line_given : (vec : Vec ℕ Global) (size : ℕ) → vec.items ≡ line → size ≡ length line + cond whole 1 0 → 0 < size
-      → Nexts log_before log_now rest_before rest_now (state bytes given ended false) (state chunk (given + size) ended_now false) (Ok (Line vec))
-  line_given vec size vec_is size_is some = record {
-    pieces = gathers.pieces;
-    added = gathers.added;
-    left = gathers.left;
-    at_end = gathers.at_end;
-    reads = gathers.reads;
-    answer = record {
-      there = there whole refl;
-      fits = gathers.answer.0.cut.fits;
-      line_is = vec_is ∙ gathers.answer.0.cut.line_is;
-      now_is = ap (λ bs. state bs (given + size) ended_now false) gathers.answer.0.cut.rest_is ∙ ap (λ n. state (after_line all) (given + n) ended_now false) (size_is ∙ size_of) ∙ ap (λ e. state (after_line all) (given + line_size all) e false) gathers.answer.1;
-    };
-  }
-    where
-      there : (w : Bool) → whole ≡ w → HasLine seen all
-      there true e = inl (sym gathers.answer.0.cut.whole_is ∙ e)
-      there false e =
-          let plain : has_newline all ≡ false = sym gathers.answer.0.cut.whole_is ∙ e in
-          let long : length line ≡ length all = ap length (gathers.answer.0.cut.line_is ∙ content-none all plain) in
-          let no_more : size ≡ length line + 0 = size_is ∙ ap (λ t. length line + cond t 1 0) e in
-          inr (gathers.answer.0.stopped e, omega arith)
 
   -- no byte is left at the end
   pub end_given : (size : ℕ) → size ≡ length line + cond whole 1 0 → size ≡ 0
@@ -344,21 +271,3 @@ module _ {log_before log_now : Option (List Piece)} {rest_before rest_now : Opti
 
       held_none : line ++ chunk ≡ []
       held_none = ap (λ bs. bs ++ chunk) no_line ∙ gathers.answer.0.cut.rest_is ∙ after_line-none all plain
-
--- no line was put together
-pub none_given : {log_before log_now : Option (List Piece)} {rest_before rest_now : Option (List ℕ)} {given : ℕ} {bytes : List ℕ} {ended : Bool} {line chunk : List ℕ} {ended_now : Bool} (fail : LineFail) (now : LinesState)
-    → Gathers log_before log_now rest_before rest_now given bytes ended line chunk ended_now (Err fail) → now.failed ≡ true → Nexts log_before log_now rest_before rest_now (state bytes given ended false) now (Err fail)
-none_given {log_before} {log_now} {rest_before} {rest_now} {given} {bytes} {ended} fail now gathers failed = record {
-  pieces = gathers.pieces;
-  added = gathers.added;
-  left = gathers.left;
-  at_end = gathers.at_end;
-  reads = gathers.reads;
-  answer = from fail gathers.answer;
-}
-  where
-    from : (f : LineFail) → IsUngathered given (bytes ++ got_of gathers.pieces) (ended || has_end gathers.pieces) f → IsNext given (bytes ++ got_of gathers.pieces) (ended || has_end gathers.pieces) (Err f) now
-    from TooLong h = (h, failed)
-    from TooMuch h = (h, failed)
-    from Read h = (h, failed)
-    from NoMemory h = failed

@@ -3,7 +3,7 @@ use Rattle.std.proofs.Common.{◌≡◌, ℕ, Bool, true, false, ◌||◌, List,
 use Rattle.std.specs.Io.KnownBytes.{IsAtEnd}
 use Rattle.ff_io.specs.Pieces.{Piece, got_of, put_of, has_end, AllPut}
 use Rattle.ff_io.specs.Pieces.Piece.{Got, Put}
-use Rattle.ff_io.specs.Port.{Adds, Leaves, Gains}
+use Rattle.ff_io.specs.Port.{Adds, Leaves}
 
 -- the bytes got in two calls
 pub got_of-append : (xs ys : List Piece) → got_of (xs ++ ys) ≡ got_of xs ++ got_of ys
@@ -61,11 +61,6 @@ Leaves-nil (Some rest) = refl
 pub Leaves-trans : (before mid now : Option (List ℕ)) (xs ys : List ℕ) → Leaves before mid xs → Leaves mid now ys → Leaves before now (xs ++ ys)
 Leaves-trans before mid None xs ys h k = rw (h, k) refl
 Leaves-trans before mid (Some rest) xs ys h k = rw (h, k) (ap Some (sym (append_assoc xs ys rest)))
-
--- bytes were put twice
-pub Gains-trans : (before mid now : Option (List ℕ)) (xs ys : List ℕ) → Gains before mid xs → Gains mid now ys → Gains before now (xs ++ ys)
-Gains-trans None mid now xs ys h k = rw (k, h) refl
-Gains-trans (Some put) mid now xs ys h k = rw (k, h) (ap Some (append_assoc put xs ys))
 
 -- writes after other pieces get nothing
 pub got_of-then_put : (xs ys : List Piece) → AllPut ys → got_of (xs ++ ys) ≡ got_of xs

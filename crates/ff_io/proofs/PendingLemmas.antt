@@ -6,11 +6,6 @@ use Rattle.std.proofs.Math.Seq.{take-nil}
 use Rattle.std.specs.declared.alloc.Global.{Global}
 use Rattle.ff_io.specs.Pending.{left_over, nonempty, joined, front_piece, without_front, byte_lists, pieces_from, IsPlace}
 
--- from the first byte of a vector on
-pieces_from-zero : (vectors : List (Vec ℕ Global)) → pieces_from vectors 0 ≡ nonempty (byte_lists vectors)
-pieces_from-zero [] = refl
-pieces_from-zero (v ∷ vectors) = refl
-
 -- a piece with bytes left is there
 left_over-some : (bytes : List ℕ) (pieces : List (List ℕ)) → 0 < length bytes → left_over bytes pieces ≡ bytes ∷ pieces
 left_over-some [] pieces some = absurd (omega arith)

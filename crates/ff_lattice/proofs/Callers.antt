@@ -1,19 +1,16 @@
--- What callers cite of a lattice: how its names are spelled, when two are equal, and what lies
--- above a join.
+-- What callers cite of a lattice: how its names are spelled, and when two are equal.
 use Rattle.std.proofs.Common.{◌≡◌, ℕ, ◌<◌, ◌≤◌, inl, inr, zero, suc, true, ◌&&◌, List, [], ◌∷◌, sym, ◌∙◌, ap, subst, arith, length, get_or}
 use Rattle.std.specs.List.{list_all}
 use Rattle.std.specs.Char.{is_ascii_alphabetic}
-use Rattle.std.proofs.lemmas.Bool.{and_parts, and_from, cases_lt, false_from_ne_true, true≢false}
+use Rattle.std.proofs.lemmas.Bool.{and_parts, cases_lt, false_from_ne_true}
 use Rattle.std.proofs.lemmas.Bool.Decides.{nat_tests}
 use Rattle.std.proofs.lemmas.List.{ext_get_or}
 use Rattle.ff_name.specs.Spelling.{stands_in_name}
 use Rattle.ff_lattice.specs.declared.pair.Pair.{Pair}
-use Rattle.ff_lattice.specs.Bounds.{IsJoin}
 use Rattle.ff_lattice.specs.Levels.{IsLatticeOf}
-use Rattle.ff_lattice.specs.Order.{Order, size, leq, join, AtOrBelow, is_level_name, IsOrder}
+use Rattle.ff_lattice.specs.Order.{Order, size, leq, is_level_name, IsOrder}
 use Rattle.ff_lattice.proofs.LevelSets.{same_levels}
 use Rattle.ff_lattice.proofs.Tables.{same_tests}
-use Rattle.ff_lattice.proofs.Words.{join-is}
 
 -- ---- names
 
@@ -46,11 +43,6 @@ name_graphic (b ∷ bs) is (suc k) in_k =
     let parts = and_parts (is_ascii_alphabetic b && list_all stands_in_name bs) _ is in
     let first = and_parts (is_ascii_alphabetic b) (list_all stands_in_name bs) parts.0 in
     rest_graphic bs first.1 k (omega arith)
-
--- and it has some
-pub name_some : (bytes : List ℕ) → is_level_name bytes ≡ true → 0 < length bytes
-name_some [] is = absurd (true≢false (sym is))
-name_some (b ∷ bs) is = omega arith
 
 -- ---- equal lattices
 
@@ -88,20 +80,3 @@ lattice_of_unique names below one other is_one is_other =
     same_tests (leq one a b) (leq other a b)
     (λ held. (is_other.order a b a_in b_in).1 ((is_one.order a b a_in b_in).0 held))
     (λ held. (is_one.order a b a_in b_in).1 ((is_other.order a b a_in b_in).0 held)))
-
--- ---- what lies above a join
-
-module _ (order : Order) (valid : IsOrder order) (a b : ℕ) (in_a : a < size order) (in_b : b < size order) where
-  pub join-bound : IsJoin (AtOrBelow order) (size order) a b (join order a b)
-  join-bound =
-      let found = valid.lattice.joins a b in_a in_b in
-      subst (λ (c : ℕ). IsJoin (AtOrBelow order) (size order) a b c) (join-is order valid a b found.0 found.1) found.1
-
-  -- a level is above the join exactly where it is above both
-  pub leq-join : (l : ℕ) → leq order (join order a b) l ≡ (leq order a l && leq order b l)
-  leq-join l =
-      same_tests (leq order (join order a b) l) (leq order a l && leq order b l)
-      (λ held. and_from (leq order a l) (leq order b l) (valid.transitive a (join order a b) l join-bound.above_first held) (valid.transitive b (join order a b) l join-bound.above_second held))
-      (λ held.
-      let parts = and_parts (leq order a l) (leq order b l) held in
-      join-bound.least l (valid.within a l parts.0) parts.0 parts.1)

@@ -7,7 +7,7 @@ use Rattle.std.proofs.lemmas.List.{get_or-take, length-take-le, take_more}
 use Rattle.ff_lattice.specs.declared.pair.Pair.{Pair}
 use Rattle.ff_lattice.specs.declared.fault.LatticeFault.TheVariants.{Unknown}
 use Rattle.ff_lattice.specs.Levels.{nth, pair_at, IsRepeat, IsLevel, IsKnown, IsAmongFirst, AreApart, IsFault}
-use Rattle.ff_lattice.specs.Rows.{Related, AreRows, IsEqual, HoldPairs, Relates}
+use Rattle.ff_lattice.specs.Rows.{Related, AreRows, HoldPairs, Relates}
 
 -- a name that some name is equal to is that of a level
 pub level_from_any : (names : List (List ℕ)) (text : List ℕ) → list_any (pointwise nat_eq text) names ≡ true → IsLevel names text
@@ -69,22 +69,10 @@ level_is names apart a b in_a in_b same =
       ]
     ]
 
-none_before : (k : ℕ) → k < 0 → ⊥
-none_before k h = omega arith
-
 less_than : (k n : ℕ) → k < n + 1 → (k ≡ n → ⊥) → k < n
 less_than k n h ne = omega arith
 
 -- ---- the pairs so far
-
-pub HoldPairs-none : (names : List (List ℕ)) (below : List Pair) (table : List (List ℕ)) → IsEqual (length names) table → HoldPairs 0 names below table
-HoldPairs-none names below table equal = record {
-  rows = equal.rows;
-  known = λ k none. absurd (omega arith);
-  reflexive = equal.held;
-  sound = λ a b held. inl (equal.sound a b held);
-  held = λ a b _ _ some. absurd (none_before some.0 some.1);
-}
 
 module _ (count : ℕ) (names : List (List ℕ)) (below : List Pair) (old new : List (List ℕ)) (low high : ℕ) (apart : AreApart names) (so_far : HoldPairs count names below old) (in_low : low < length names) (in_high : high < length names) (low_is : nth names low ≡ (pair_at below count).low) (high_is : nth names high ≡ (pair_at below count).high) (relates : Relates old new low high) where
   known_more : (k : ℕ) → k < count + 1 → IsKnown names (pair_at below k)

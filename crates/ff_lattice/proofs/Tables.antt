@@ -1,8 +1,8 @@
 -- Lemmas on tables of a relation: a row for each level.
-use Rattle.std.proofs.Common.{◌≡◌, ℕ, ◌+◌, ◌<◌, ◌≤◌, ◌⊎◌, inl, inr, Bool, true, false, ◌&&◌, ◌||◌, eqb, ltb, List, [], ◌∷◌, ◌++◌, refl, sym, ◌∙◌, ap, subst, arith, cond, length, get_or, set}
-use Rattle.std.proofs.lemmas.Bool.{cases_eq, cases_lt, cond_both, or_cases, or_left, or_right, and_parts, lt-ltb, ltb-true, eq-eqb, eqb-true, false≢true}
+use Rattle.std.proofs.Common.{◌≡◌, ℕ, ◌+◌, ◌<◌, ◌≤◌, ◌⊎◌, inl, inr, Bool, true, false, ◌&&◌, ◌||◌, eqb, ltb, List, [], refl, sym, ◌∙◌, ap, subst, arith, cond, length, get_or, set}
+use Rattle.std.proofs.lemmas.Bool.{cases_eq, cases_lt, cond_both, or_cases, or_left, or_right, and_parts, eq-eqb, eqb-true, false≢true}
 use Rattle.std.proofs.lemmas.Bool.Decides.{nat_tests}
-use Rattle.std.proofs.lemmas.List.{get_or-set_same, get_or-set_other, length-set, get_or_default, get_or_past, get_or_push, get_or_append_left}
+use Rattle.std.proofs.lemmas.List.{get_or-set_same, get_or-set_other, length-set, get_or_default, get_or_past}
 use Rattle.ff_lattice.specs.LevelSet.{has, levels_where, IsLevelSet}
 use Rattle.ff_lattice.specs.LevelBits.{has-levels_where}
 use Rattle.ff_lattice.specs.Rows.{related, Related, AreRows, IsEqual, Relates, Passes, AreTurned}
@@ -15,9 +15,6 @@ made_holds p l in_l passes = has_in_range p l in_l ∙ passes
 
 pub made_passes : (p : ℕ → Bool) (l : ℕ) → has (levels_where p) l ≡ true → p l ≡ true
 made_passes p l held = (and_parts (ltb l 16) (p l) (sym (has-levels_where p l) ∙ held)).1
-
-pub made_within : (p : ℕ → Bool) (l : ℕ) → has (levels_where p) l ≡ true → l < 16
-made_within p l held = ltb-true l 16 (and_parts (ltb l 16) (p l) (sym (has-levels_where p l) ∙ held)).0
 
 pub same_tests : (x y : Bool) → (x ≡ true → y ≡ true) → (y ≡ true → x ≡ true) → x ≡ y
 same_tests true y to from = sym (to refl)
@@ -44,15 +41,6 @@ next_column number r = grind (arith, nat_tests)
 
 other_column : (m number : ℕ) (r s : Bool) → (m ≡ number → ⊥) → (ltb m (number + 1) && r) ≡ ((ltb m number && r) || (eqb m number && s))
 other_column m number r s ne = grind (arith, nat_tests)
-
-all_column : (up : List (List ℕ)) (high number : ℕ) → length up ≤ number → (m : ℕ) → (ltb m number && related up m high) ≡ related up m high
-all_column up high number all m =
-    elim (cases_lt m number) as (λ _. (ltb m number && related up m high) ≡ related up m high) [
-      | inl in_m ↦ ap (λ b. b && related up m high) (lt-ltb m number in_m)
-      | inr far ↦ let past : length up ≤ m = omega arith in
-          let none : related up m high ≡ false = ap (λ (r : List ℕ). has r high) (get_or_past up m [] past) in
-          ap (λ b. ltb m number && b) none ∙ and_false (ltb m number) ∙ sym none
-    ]
 
 -- ---- one row is changed
 
@@ -175,17 +163,6 @@ module _ (old new : List (List ℕ)) (middle : ℕ) (valid : AreRows (length old
 
 -- ---- a table that grows by a row
 
--- what holds of each row, and of the next, holds of each after a push
-pub at_push : (rows : List (List ℕ)) (new : List ℕ) (count : ℕ) (P : ℕ → List ℕ → Type 0) → length rows ≡ count → ((j : ℕ) → j < count → P j (get_or rows j [])) → P count new → (j : ℕ) → j < count + 1 → P j (get_or (rows ++ new ∷ []) j [])
-at_push rows new count P long before here j in_j =
-    elim (cases_eq j count) as (λ _. P j (get_or (rows ++ new ∷ []) j [])) [
-      | inl e ↦ subst (λ (i : ℕ). P i (get_or (rows ++ new ∷ []) i [])) (sym e) (subst (λ (r : List ℕ). P count r) (sym (get_or_push rows new [] count long)) here)
-      | inr ne ↦
-          let low : j < count = omega arith in
-          let in_rows : j < length rows = omega arith in
-          subst (λ (r : List ℕ). P j r) (sym (get_or_append_left rows (new ∷ []) [] j in_rows)) (before j low)
-    ]
-
 -- ---- each level related to itself
 
 -- the set of one level
@@ -289,7 +266,3 @@ column_without up high number levels is levels_are =
     sym (more_column up high number m
     ∙ ap (λ b. (ltb m number && related up m high) || b) (ap (λ b. eqb m number && b) is ∙ and_false (eqb m number))
     ∙ or_false (ltb m number && related up m high)))
-
--- all of them
-pub column_all : (up : List (List ℕ)) (high number : ℕ) → length up ≤ number → levels_where (λ m. ltb m number && related up m high) ≡ column up high
-column_all up high number all = levels_same _ _ (λ m in_m. all_column up high number all m)

@@ -340,9 +340,6 @@ module _ (names : List (List ℕ)) (below : List Pair) (apart : AreApart names) 
   least_names : (P : ℕ → ℕ → Type 0) (a b : ℕ) → IsLeastPair n P a b → AreLeastNames names P (nth names a) (nth names b)
   least_names P a b pair = record { a = a; b = b; pair = pair; low_is = refl; high_is = refl }
 
-  wrong_order : (fault : LatticeFault) → IsFault names below fault → Judged names below
-  wrong_order fault is = a_fault fault is
-
   by_meets : NoPair n (AreCyclic (Related up)) → EachPair n (HasJoin (Related up) n) → PairSearch n (LacksMeet (Related up) n) → Judged names below
   by_meets no_cycle joins (least_at a b pair) =
       a_fault (NoMeet (nth names a) (nth names b)) (fault_from_order names below (table n few start) up apart hold_pairs closes_up (NoMeet (nth names a) (nth names b)) (no_cycle, joins, least_names (LacksMeet (Related up) n) a b pair))

@@ -18,7 +18,7 @@ use Rattle.ff_machine.specs.Net.{Requests, asked}
 use Rattle.ff_machine.specs.Stores.{Stores, Pages}
 use Rattle.ff_machine.specs.State.{Task}
 use Rattle.ff_machine.specs.References.{Made, Grows, made, CodeRefers, ValRefers, ShapeRefers, NodeRefers, PageRefers, ActRefers, DstRefers, RequestsRefer, TouchedRefer, StoresRefer}
-use Rattle.ff_machine.specs.Valid.{IsCode, IsVal, IsRunning, IsTask, valid}
+use Rattle.ff_machine.specs.Valid.{IsVal, IsRunning, IsTask, valid}
 
 -- counts don't fall where nothing was made
 pub as_many : (m : Made) → Grows m m
@@ -47,10 +47,6 @@ module _ (m k : Made) (grows : Grows m k) where
   val_refers_grows (val.Win w) h = omega (arith, h, grows.wins)
   val_refers_grows (val.Node n) h = omega (arith, h, grows.nodes)
   val_refers_grows (val.Code code) h = code_refers_grows code h
-
-  -- a function is valid
-  pub code_grows : (code : Code) → IsCode m code → IsCode k code
-  code_grows code h = (h.0, code_refers_grows code h.1)
 
   -- a value is valid
   pub val_grows : (v : Val) → IsVal m v → IsVal k v

@@ -105,10 +105,6 @@ opened_valid s name opener valid named by room =
       fewer = omega (arith, size, more, valid.windows.own.fewer);
     })
 
--- the same where there is room
-pub open_window_valid : (s : Stores) (name : Option (List ℕ)) (opener : Option WinId) → IsStores s → ForSome name IsUtf8 → ForSome opener (λ w. w.0 < length s.windows.windows) → KeepsIfMade s (stores.open_window s name opener)
-open_window_valid s name opener valid named by = if_room s (stores.has_window_room s) (stores.opened s name opener) (opened_valid s name opener valid named by)
-
 -- documents that are loaded where there is room
 pub load_valid : (s : Stores) (w : WinId) (u : Url) (docs : List Doc) → IsStores s → w.0 < length s.windows.windows → IsWellSpelled u → AllByRecursion IsWellSpelledDoc docs → KeepsIfMade s (stores.load s w u docs)
 load_valid s w u docs valid lives spelled are = if_room s (stores.has_load_room s docs) (stores.loaded s w u docs) (λ room. loaded_valid s u docs valid spelled are room w lives)

@@ -1,12 +1,10 @@
 -- The operands that an operator reads: what holds of each value holds of them.
 use Rattle.std.proofs.Common.{◌≡◌, ℕ, ℤ, Option, Some, None, Result, Err, List, [], ◌∷◌, refl, subst}
 use Rattle.std.specs.List.{AllByRecursion}
-use Rattle.ff_operators.specs.Operands.{with_operands, one_num, two_nums, one_str, two_strs, str_num, str_nums, one_win, win_str, one_node, node_str, node_num, node_str_num, nodes_num, node_code, strs_code}
+use Rattle.ff_operators.specs.Operands.{with_operands, one_num, two_nums, two_strs, str_num, str_nums, one_node, node_str, node_str_num}
 use Rattle.ff_value.specs.declared.fault.Fault.{Fault}
 use Rattle.ff_value.specs.declared.fault.Fault.TheVariants as fault
-use Rattle.ff_value.specs.declared.ids.WinId.{WinId}
 use Rattle.ff_value.specs.declared.ids.NodeId.{NodeId}
-use Rattle.ff_value.specs.declared.value.Code.{Code}
 use Rattle.ff_value.specs.declared.value.Val.{Val}
 use Rattle.ff_value.specs.declared.value.Val.TheVariants as val
 
@@ -24,10 +22,6 @@ module _ (P : Val → Type 0) where
   two_nums_hold (val.Num a ∷ val.Num b ∷ []) o all e = let is : (a, b) ≡ o = cc in subst (λ (x : ℤ × ℤ). P (val.Num x.0) × P (val.Num x.1)) is (all.0, all.1.0)
   two_nums_hold other o all e = cc
 
-  pub one_str_holds : (args : List Val) (o : List ℕ) → AllByRecursion P args → one_str args ≡ Some o → P (val.Str o)
-  one_str_holds (val.Str a ∷ []) o all e = let is : a ≡ o = cc in subst (λ x. P (val.Str x)) is all.0
-  one_str_holds other o all e = cc
-
   pub two_strs_hold : (args : List Val) (o : List ℕ × List ℕ) → AllByRecursion P args → two_strs args ≡ Some o → P (val.Str o.0) × P (val.Str o.1)
   two_strs_hold (val.Str a ∷ val.Str b ∷ []) o all e = let is : (a, b) ≡ o = cc in subst (λ (x : List ℕ × List ℕ). P (val.Str x.0) × P (val.Str x.1)) is (all.0, all.1.0)
   two_strs_hold other o all e = cc
@@ -40,14 +34,6 @@ module _ (P : Val → Type 0) where
   str_nums_hold (val.Str a ∷ val.Num b ∷ val.Num c ∷ []) o all e = let is : (a, b, c) ≡ o = cc in subst (λ (x : List ℕ × ℤ × ℤ). P (val.Str x.0) × P (val.Num x.1) × P (val.Num x.2)) is (all.0, all.1.0, all.1.1.0)
   str_nums_hold other o all e = cc
 
-  pub one_win_holds : (args : List Val) (o : WinId) → AllByRecursion P args → one_win args ≡ Some o → P (val.Win o)
-  one_win_holds (val.Win a ∷ []) o all e = let is : a ≡ o = cc in subst (λ x. P (val.Win x)) is all.0
-  one_win_holds other o all e = cc
-
-  pub win_str_holds : (args : List Val) (o : WinId × List ℕ) → AllByRecursion P args → win_str args ≡ Some o → P (val.Win o.0) × P (val.Str o.1)
-  win_str_holds (val.Win a ∷ val.Str b ∷ []) o all e = let is : (a, b) ≡ o = cc in subst (λ (x : WinId × List ℕ). P (val.Win x.0) × P (val.Str x.1)) is (all.0, all.1.0)
-  win_str_holds other o all e = cc
-
   pub one_node_holds : (args : List Val) (o : NodeId) → AllByRecursion P args → one_node args ≡ Some o → P (val.Node o)
   one_node_holds (val.Node a ∷ []) o all e = let is : a ≡ o = cc in subst (λ x. P (val.Node x)) is all.0
   one_node_holds other o all e = cc
@@ -56,22 +42,6 @@ module _ (P : Val → Type 0) where
   node_str_holds (val.Node a ∷ val.Str b ∷ []) o all e = let is : (a, b) ≡ o = cc in subst (λ (x : NodeId × List ℕ). P (val.Node x.0) × P (val.Str x.1)) is (all.0, all.1.0)
   node_str_holds other o all e = cc
 
-  pub node_num_holds : (args : List Val) (o : NodeId × ℤ) → AllByRecursion P args → node_num args ≡ Some o → P (val.Node o.0) × P (val.Num o.1)
-  node_num_holds (val.Node a ∷ val.Num b ∷ []) o all e = let is : (a, b) ≡ o = cc in subst (λ (x : NodeId × ℤ). P (val.Node x.0) × P (val.Num x.1)) is (all.0, all.1.0)
-  node_num_holds other o all e = cc
-
   pub node_str_num_holds : (args : List Val) (o : NodeId × List ℕ × ℤ) → AllByRecursion P args → node_str_num args ≡ Some o → P (val.Node o.0) × P (val.Str o.1) × P (val.Num o.2)
   node_str_num_holds (val.Node a ∷ val.Str b ∷ val.Num c ∷ []) o all e = let is : (a, b, c) ≡ o = cc in subst (λ (x : NodeId × List ℕ × ℤ). P (val.Node x.0) × P (val.Str x.1) × P (val.Num x.2)) is (all.0, all.1.0, all.1.1.0)
   node_str_num_holds other o all e = cc
-
-  pub nodes_num_hold : (args : List Val) (o : NodeId × NodeId × ℤ) → AllByRecursion P args → nodes_num args ≡ Some o → P (val.Node o.0) × P (val.Node o.1) × P (val.Num o.2)
-  nodes_num_hold (val.Node a ∷ val.Node b ∷ val.Num c ∷ []) o all e = let is : (a, b, c) ≡ o = cc in subst (λ (x : NodeId × NodeId × ℤ). P (val.Node x.0) × P (val.Node x.1) × P (val.Num x.2)) is (all.0, all.1.0, all.1.1.0)
-  nodes_num_hold other o all e = cc
-
-  pub node_code_holds : (args : List Val) (o : NodeId × Code) → AllByRecursion P args → node_code args ≡ Some o → P (val.Node o.0) × P (val.Code o.1)
-  node_code_holds (val.Node a ∷ val.Code b ∷ []) o all e = let is : (a, b) ≡ o = cc in subst (λ (x : NodeId × Code). P (val.Node x.0) × P (val.Code x.1)) is (all.0, all.1.0)
-  node_code_holds other o all e = cc
-
-  pub strs_code_hold : (args : List Val) (o : List ℕ × List ℕ × Code) → AllByRecursion P args → strs_code args ≡ Some o → P (val.Str o.0) × P (val.Str o.1) × P (val.Code o.2)
-  strs_code_hold (val.Str a ∷ val.Str b ∷ val.Code c ∷ []) o all e = let is : (a, b, c) ≡ o = cc in subst (λ (x : List ℕ × List ℕ × Code). P (val.Str x.0) × P (val.Str x.1) × P (val.Code x.2)) is (all.0, all.1.0, all.1.1.0)
-  strs_code_hold other o all e = cc

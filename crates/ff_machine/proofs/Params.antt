@@ -1,5 +1,5 @@
 -- The variables of a new activation: each parameter has its own argument, since parameters differ.
-use Rattle.std.proofs.Common.{◌≡◌, ◌≢◌, ℕ, zero, suc, ◌+◌, ◌<◌, ◌≤◌, Bool, true, false, cond, Some, None, List, [], ◌∷◌, length, slice_get, is_some, option_and_then, slice_index_or, nat_lt, nat_le, All, arith, refl, sym, subst, ap, ◌∙◌}
+use Rattle.std.proofs.Common.{◌≡◌, ◌≢◌, ℕ, zero, suc, ◌+◌, Bool, true, false, cond, Some, None, List, [], ◌∷◌, length, slice_get, is_some, option_and_then, slice_index_or, arith, refl, sym, subst, ap, ◌∙◌}
 use Rattle.std.specs.declared.cmp.Ordering.{Ordering}
 use Rattle.std.specs.declared.cmp.Ordering.TheVariants.{Equal}
 use Rattle.std.specs.Cmp.{eq_by_cmp_equiv}
@@ -8,18 +8,12 @@ use Rattle.std.specs.List.{AllByRecursion, zip}
 use Rattle.std.specs.Ordering.{nat_cmp, eq_by_cmp, is_eq}
 use Rattle.std.specs.FinMap as finmap
 use Rattle.std.proofs.Math.Seq.{get_or-append_seam}
-use Rattle.std.proofs.lemmas.Bool.{and_parts, leb-true}
-use Rattle.std.proofs.lemmas.List.Elements.{recursion_from_All}
 use Rattle.std.proofs.lemmas.List.Sums.{sum_by-append}
 use Rattle.std.proofs.lemmas.Map.Lookups.{exact_bytes}
-use Rattle.ff_tree.specs.Spelled.{AreParams, Differ, IsVar}
+use Rattle.ff_tree.specs.Spelled.{AreParams, Differ}
 use Rattle.ff_value.specs.declared.value.Val.{Val}
 use Rattle.ff_value.specs.declared.ids.ActId.{ActId}
-use Rattle.ff_value.specs.Spelled.{IsWellSpelledVal}
-use Rattle.ff_machine.specs.declared.limits.TheConstants.{MOST_ACTS, MOST_VARS}
-use Rattle.ff_machine.specs.Windows.{Vars, Activation, no_act, act_at, vars_of, holder, holder_within, lookup, count_vars, with_act, may_call}
-use Rattle.ff_machine.specs.Alone.{IsAct}
-use Rattle.ff_machine.specs.References.{Made, ValRefers, ActRefers}
+use Rattle.ff_machine.specs.Windows.{Vars, Activation, no_act, act_at, vars_of, holder, holder_within, lookup, count_vars, with_act}
 use Rattle.ff_machine.proofs.Lists.{nth_holds}
 
 -- Keys.
@@ -67,16 +61,6 @@ param_has (p ∷ ps) (a ∷ vs) d (suc i) x v e f =
     let other : p ≢ x = nth_holds (λ y. p ≢ y) ps i d.0 x e in
     get_first p ps a vs x ∙ ap (λ b. cond b (Some a) (finmap.get (vars_with ps vs) x)) (apart x p (λ h. other (sym h))) ∙ param_has ps vs d.1 i x v e f
 
--- what holds of each parameter and of each argument holds of each variable and of its value
-pub vars_hold : (P : List ℕ → Type 0) (Q : Val → Type 0) (params : List (List ℕ)) (args : List Val) → AllByRecursion P params → AllByRecursion Q args
-    → (x : List ℕ) (v : Val) → finmap.get (vars_with params args) x ≡ Some v → P x × Q v
-vars_hold P Q [] args p q x v e = let none = get_none x in cc
-vars_hold P Q (k ∷ ks) [] p q x v e = let none = get_none x in cc
-vars_hold P Q (k ∷ ks) (a ∷ vs) p q x v e = by (same x k) refl (sym (get_first k ks a vs x) ∙ e) (vars_hold P Q ks vs p.1 q.1 x v) where
-  by : (b : Bool) → same x k ≡ b → cond (same x k) (Some a) (finmap.get (vars_with ks vs) x) ≡ Some v → (finmap.get (vars_with ks vs) x ≡ Some v → P x × Q v) → P x × Q v
-  by true is f rest = let its : a ≡ v = cc in (subst P (sym (same_is x k is)) p.0, subst Q its q.0)
-  by false is f rest = rest (let g : finmap.get (vars_with ks vs) x ≡ Some v = cc in g)
-
 -- a name that is no parameter has no value
 fresh : (p : List ℕ) (params : List (List ℕ)) (args : List Val) → AllByRecursion (λ y. p ≢ y) params → finmap.get (vars_with params args) p ≡ None
 fresh p [] args h = get_none p
@@ -97,20 +81,6 @@ len_vars (p ∷ ps) (a ∷ vs) d e =
 
 -- The activation.
 
--- what holds of each argument holds of the value of each variable, and each variable is one
-pub act_vars : (Q : Val → Type 0) (params : List (List ℕ)) (args : List Val) → AreParams params → All Q args → (x : List ℕ) (v : Val) → finmap.get (vars_with params args) x ≡ Some v → IsVar x × Q v
-act_vars Q params args are all x v e = vars_hold IsVar Q params args are.vars (recursion_from_All Q args all) x v e
-
--- a new activation under one that was made before it is valid
-pub new_act_valid : (number : ℕ) (env : ActId) (params : List (List ℕ)) (args : List Val) → env.0 < number → AreParams params → All IsWellSpelledVal args
-    → IsAct number (record { parent = Some env; vars = vars_with params args })
-new_act_valid number env params args before are all = record { parent = λ p e. let is : env ≡ p = cc in subst (λ (a : ActId). a.0 < number) is before; vars = act_vars IsWellSpelledVal params args are all }
-
--- what its variables refer to was made
-pub new_act_refers : (m : Made) (env : ActId) (params : List (List ℕ)) (args : List Val) → AreParams params → All (ValRefers m) args
-    → ActRefers m (record { parent = Some env; vars = vars_with params args })
-new_act_refers m env params args are all x v e = (act_vars (ValRefers m) params args are all x v e).1
-
 -- a call declares as many variables as it has parameters
 pub called_vars : (acts : List Activation) (env : ActId) (params : List (List ℕ)) (args : List Val) → AreParams params → length params ≡ length args
     → count_vars (with_act acts env params args) ≡ count_vars acts + length params
@@ -118,13 +88,6 @@ called_vars acts env params args are e =
     let new = len_vars params args are.differ e in
     let all = sum_by-append (λ act. finmap.len act.vars) acts (record { parent = Some env; vars = vars_with params args } ∷ []) in
     all ∙ omega (arith, new)
-
--- where there is room for a call, the variables are within their limit after it
-pub called_vars_few : (acts : List Activation) (env : ActId) (params : List (List ℕ)) (args : List Val) → AreParams params → length params ≡ length args → may_call acts (length params) ≡ true
-    → count_vars (with_act acts env params args) ≤ MOST_VARS
-called_vars_few acts env params args are e room =
-    let room_of = (and_parts (nat_lt (length acts) MOST_ACTS) (nat_le (count_vars acts + length params) MOST_VARS) room).1 in
-    subst (λ n. n ≤ MOST_VARS) (sym (called_vars acts env params args are e)) (leb-true _ _ room_of)
 
 -- looked up in the new activation, each parameter has the argument at its place
 pub call_has : (acts : List Activation) (env a : ActId) (params : List (List ℕ)) (args : List Val) (i : ℕ) (x : List ℕ) (v : Val) → AreParams params → a.0 ≡ length acts → slice_get params i ≡ Some x → slice_get args i ≡ Some v

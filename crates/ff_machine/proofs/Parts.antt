@@ -166,9 +166,6 @@ module _ (all : List Node) (under : Option NodeId) (h first a b : ℕ) (tops : L
     by true e = inl (here.0, grind (arith, nat_tests, e))
     by false e = inr (grind (arith, nat_tests, e), let high = here.1 in omega (arith, high))
 
-  in_left : (n : NodeId) → IsIn first a n → IsIn first (a + b) n
-  in_left n here = (here.0, let high = here.1 in omega (arith, high))
-
   in_right : (n : NodeId) → IsIn (first + a) b n → IsIn first (a + b) n
   in_right n here = (let low = here.0 in omega (arith, low), let high = here.1 in omega (arith, high))
 

@@ -181,27 +181,6 @@ window_added w name opener page valid lives opener_lives of_it named few =
       acts = valid.acts;
     }
 
--- a window that shows another page of its own
-pub window_shown : (w : Windows) (n : WinId) (page : PageId) → AreWindows w → n.0 < length w.windows → page.0 < length w.pages → (page_at w page).win ≡ n → AreWindows (windows.page_shown w n page)
-window_shown w n page valid there lives of_it =
-    let shows : Window = record (window_at w n) { page = page } in
-    let wins = slice_set w.windows n.0 shows in
-    let size : length wins ≡ length w.windows = length-set w.windows n.0 shows in
-    let was : IsWindow (length w.windows) (length w.pages) (window_at w n) = valid.windows n.0 no_window there in
-    record {
-      windows = All-set (IsWindow (length wins) (length w.pages)) w.windows n.0 shows
-          (record { name = was.name; opener = λ o e. let made = was.opener o e in omega (arith, made, size); page = lives })
-          (windows_grow (length w.windows) (length wins) (length w.pages) (length w.pages) (omega (arith, size)) (omega arith) w.windows valid.windows);
-      opened = subst (λ (k : ℕ). AreOpen k w.opened) (sym size) valid.opened;
-      pages = valid.pages;
-      own = record {
-        own = λ v lt.
-            at_set (λ j (x : Window). j < length w.windows → (nth_page w.pages x.page).win ≡ nth_win j) w.windows n.0 v.0 shows no_window (λ h. of_it) (λ h. valid.own.own v h) (omega (arith, lt, size));
-        fewer = omega (arith, size, valid.own.fewer);
-      };
-      acts = valid.acts;
-    }
-
 -- a window that closes
 pub window_closed : (w : Windows) (n : WinId) → AreWindows w → AreWindows (windows.closed w n)
 window_closed w n valid = record {

@@ -2,7 +2,7 @@
 use Rattle.std.proofs.Common.{◌≡◌, ℕ, zero, suc, ◌+◌, ◌-◌, ◌<◌, ◌≤◌, Some, List, [], ◌∷◌, ◌++◌, length, take, drop, set, get_or, refl, sym, ap, ◌∙◌, append_assoc, arith}
 use Rattle.std.specs.List.{remove, slice_get}
 use Rattle.std.proofs.lemmas.Option.{get_or_from_slice_get}
-use Rattle.std.proofs.lemmas.List.{take-append-drop, take_at, take_all, take_more, drop_more, length-take-le, length-append, length-drop, set_at, get_or-append_right, get_or-drop}
+use Rattle.std.proofs.lemmas.List.{take_at, take_all, take_more, drop_more, length-take-le, length-append, length-drop, set_at, get_or-append_right, get_or-drop}
 use Rattle.std.proofs.lemmas.List.Edits.{length-remove, get_or-remove_above}
 
 -- a cell is written before or after the front is taken
@@ -19,9 +19,6 @@ half_moved xs i j = take j (remove xs i) ++ drop j xs
 module _ {A : Type 0} (xs : List A) (i : ℕ) (within : i < length xs) where
   fewer : length (remove xs i) + 1 ≡ length xs
   fewer = length-remove xs i within
-
-  pub moved_none : half_moved xs i i ≡ xs
-  moved_none = ap (λ l. l ++ drop i xs) (take_at (take i xs) (drop (suc i) xs) i (length-take-le i xs (omega arith))) ∙ take-append-drop i xs
 
   module _ (j : ℕ) (from : i ≤ j) where
     front : j + 1 ≤ length xs → length (take j (remove xs i)) ≡ j

@@ -1,5 +1,5 @@
 -- The parents that lists of children give, one child after another; and where records have no valid nodes.
-use Rattle.std.proofs.Common.{◌≡◌, ◌≢◌, ℕ, zero, suc, ◌+◌, ◌<◌, ◌≤◌, ◌⊎◌, inl, inr, ⊎_elim, ◌==◌, Bool, true, false, cond, Option, Some, None, IsSome, is_some, List, [], ◌∷◌, ◌++◌, All, count_by, take, length, get_or, set, refl, sym, ap, subst, ◌∙◌, arith, length-set}
+use Rattle.std.proofs.Common.{◌≡◌, ◌≢◌, ℕ, suc, ◌+◌, ◌<◌, ◌≤◌, ◌⊎◌, inl, inr, ⊎_elim, ◌==◌, Bool, true, false, cond, Option, Some, None, IsSome, is_some, List, [], ◌∷◌, All, count_by, take, length, get_or, set, refl, sym, ap, subst, ◌∙◌, arith, length-set}
 use Rattle.std.proofs.Math.ListN.{get_or-map}
 use Rattle.std.proofs.lemmas.Bool.{cases_lt, eqb-true, eq-eqb}
 use Rattle.std.proofs.lemmas.List.{get_or-set_same, get_or-set_other, length-map, take_all}
@@ -177,17 +177,3 @@ module _ (recs : List NodeRec) (n : NodeId) where
           absurd (omega (arith, h.0, ap (λ (q : NodeId). q.0) same)))
           (λ h. twice h.1)
           (are.sound x.0 p e)
-
--- no list was gone over
-pub no_parents : (recs : List NodeRec) (ps : List (Option NodeId)) → length ps ≡ length recs → ((k : ℕ) → parent_at ps k ≡ None) → AreParents recs 0 ps
-no_parents recs ps count none = record {
-  count = count;
-  sound = λ k p e. absurd (none_some (sym (none k) ∙ e));
-  kept = λ p less. absurd (omega (arith, less));
-}
-
-pub none_more : (ps : List (Option NodeId)) → ((k : ℕ) → parent_at ps k ≡ None) → (k : ℕ) → parent_at (ps ++ None ∷ []) k ≡ None
-none_more [] none zero = refl
-none_more [] none (suc k) = refl
-none_more (p ∷ ps) none zero = none 0
-none_more (p ∷ ps) none (suc k) = none_more ps (λ j. none (suc j)) k

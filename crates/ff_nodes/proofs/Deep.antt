@@ -38,9 +38,6 @@ unfolding depth
 climb_begun ps n less = record { there = less; few = omega arith; depth = zero_plus (depth_within (suc MOST_TREE_DEPTH) (bare ps) (record { 0 = n })) }
 
 module _ (ps : List (Option NodeId)) (n : NodeId) (steps at : ℕ) (climbs : Climbs ps n steps at) (more : steps < suc MOST_TREE_DEPTH) where
-  here : NodeId
-  here = record { 0 = at }
-
   left : suc MOST_TREE_DEPTH - steps ≡ suc (MOST_TREE_DEPTH - steps)
   left = omega (arith, more)
 

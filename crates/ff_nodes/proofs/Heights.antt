@@ -3,7 +3,6 @@ use Rattle.std.proofs.Common.{◌≡◌, ℕ, ◌+◌, ◌<◌, ◌≤◌, max, 
 use Rattle.std.proofs.lemmas.List.{map-append}
 use Rattle.ff_tree.specs.Spelled.{most}
 use Rattle.ff_value.specs.declared.ids.NodeId.{NodeId}
-use Rattle.ff_machine.specs.declared.limits.TheConstants.{MOST_TREE_DEPTH}
 use Rattle.ff_machine.specs.Nodes.{Node, Walk, children, depth, height}
 use Rattle.ff_machine.specs.Alone.{AreTrees}
 use Rattle.ff_nodes.proofs.Below.{walk_out}
@@ -14,10 +13,6 @@ most_both : (xs ys : List ℕ) → most (xs ++ ys) ≡ max (most xs) (most ys)
 most_both [] ys = omega arith
 most_both (x ∷ xs) ys = let rest = most_both xs ys in omega (arith, rest)
 
-most_within : (f : NodeId → ℕ) (k : ℕ) → ((n : NodeId) → f n ≤ k) → (ns : List NodeId) → most (map f ns) ≤ k
-most_within f k each [] = omega arith
-most_within f k each (n ∷ ns) = let here = each n in let rest = most_within f k each ns in omega (arith, here, rest)
-
 -- how deep the deepest node of some trees stands
 abbrev pub deepest : List Node → List NodeId → ℕ
 deepest nodes cs = most (map (depth nodes) (flat_map (Walk nodes) cs))
@@ -26,10 +21,6 @@ module _ (nodes : List Node) (trees : AreTrees nodes) where
   -- of a tree it is its root, or one below
   pub height_out : (n : NodeId) → height nodes n ≡ max (depth nodes n) (deepest nodes (children nodes n))
   height_out n = ap (λ ns. most (map (depth nodes) ns)) (walk_out nodes trees n)
-
-  -- none stands too deep
-  pub height_within : (n : NodeId) → height nodes n ≤ MOST_TREE_DEPTH
-  height_within n = most_within (depth nodes) MOST_TREE_DEPTH trees.ends (Walk nodes n)
 
 -- of the trees from a place on it is in the next one, or after it
 deepest_next : (nodes : List Node) (cs : List NodeId) (i : ℕ) (d : NodeId) → i < length cs → deepest nodes (drop i cs) ≡ max (height nodes (get_or cs i d)) (deepest nodes (drop (i + 1) cs))

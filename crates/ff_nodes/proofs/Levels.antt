@@ -1,16 +1,15 @@
 -- Marks that are raised level by level, the deepest first.
-use Rattle.std.proofs.Common.{◌≡◌, ◌≢◌, ℕ, ◌+◌, ◌-◌, ◌<◌, ◌≤◌, ◌⊎◌, inl, inr, ⊎_elim, Some, None, List, All, length, sym, ap, ◌∙◌, arith}
+use Rattle.std.proofs.Common.{◌≡◌, ◌≢◌, ℕ, ◌+◌, ◌-◌, ◌<◌, ◌≤◌, ◌⊎◌, inl, inr, ⊎_elim, Some, None, List, length, sym, ap, ◌∙◌, arith}
 use Rattle.std.proofs.lemmas.Bool.{cases_lt}
 use Rattle.std.proofs.lemmas.List.{get_or_past, length-map}
 use Rattle.ff_value.specs.declared.ids.NodeId.{NodeId}
 use Rattle.ff_machine.specs.Nodes.{Node, no_node, parent, depth}
 use Rattle.ff_machine.specs.Alone.{AreTrees}
-use Rattle.ff_machine.proofs.Depths.{depth_up, depth_top, parent_made}
+use Rattle.ff_machine.proofs.Depths.{depth_up, parent_made}
 use Rattle.ff_nodes.specs.declared.cell.NodeCell.{NodeCell}
-use Rattle.ff_nodes.specs.Cells.{AreMarked, cell_at, no_cell, nodes_of}
-use Rattle.ff_nodes.specs.Laying.{HasOwn}
+use Rattle.ff_nodes.specs.Cells.{AreMarked, cell_at, nodes_of}
 use Rattle.ff_nodes.specs.Raised.{AreMarkedWhere, IsRaised}
-use Rattle.ff_nodes.specs.Recorded.{AreDepths, AreMarkedBelow, AreMarkedFrom}
+use Rattle.ff_nodes.specs.Recorded.{AreMarkedBelow, AreMarkedFrom}
 use Rattle.ff_nodes.proofs.Adopting.{same_id}
 use Rattle.ff_nodes.proofs.RaisedCells.{marked_more, marked_top}
 
@@ -65,18 +64,6 @@ module _ (base : List Node) (deep : ℕ) where
             let higher = depth_up base trees n p up in
             let is = ap (depth base) e in
             ⊎_elim (λ h. absurd (omega (arith, h, is, higher, at))) (λ h. absurd (omega (arith, h.0, is, higher, at))) picked
-
-pub levels_begun : (cells : List NodeCell) (depths : List ℕ) (most : ℕ) → AreDepths (nodes_of cells) depths → All (λ d. d ≤ most) depths → All HasOwn cells → AreMarkedBelow (nodes_of cells) most cells
-levels_begun cells depths most are all own = record {
-  own = λ n less. own n.0 no_cell less;
-  within = λ m q deeper up.
-      let nodes = nodes_of cells in
-      let count : length nodes ≡ length cells = length-map cells (λ (c : NodeCell). c.node) in
-      ⊎_elim
-      (λ below. absurd (omega (arith, deeper, are.each m below, all m.0 0 (omega (arith, below, are.count)))))
-      (λ far. let top = depth_top nodes m (ap (λ (x : Node). x.parent) (get_or_past nodes m.0 no_node far)) in absurd (omega (arith, deeper, top)))
-      (cases_lt m.0 (length nodes));
-}
 
 pub next_level : (base : List Node) (deep : ℕ) (cells : List NodeCell) → 0 < deep → AreMarkedFrom base deep cells → AreMarkedBelow base (deep - 1) cells
 next_level base deep cells some marked = fewer_marked (λ m. deep ≤ depth base m) (λ m. deep - 1 < depth base m) cells (λ m h. omega (arith, h, some)) marked

@@ -32,10 +32,6 @@ new_through a b c xs ys first second = record {
   own = both HasOwn first.more second.more first.own second.own;
 }
 
--- one new cell
-pub new_one : (cells : List NodeCell) (cell : NodeCell) → HasOwn cell → AreNew cells (cells ++ cell ∷ []) (cell.node ∷ [])
-new_one cells cell own = record { more = cell ∷ []; cells = refl; nodes = refl; own = (own, tt) }
-
 -- another cell in the place of the first new one
 pub new_root : (a b : List NodeCell) (x : Node) (ns : List Node) (cell : NodeCell) (at : ℕ) → length a ≡ at → HasOwn cell → AreNew a b (x ∷ ns) → AreNew a (set b at cell) (cell.node ∷ ns)
 new_root a b x ns cell at here own new = by new.more new.cells new.nodes new.own where

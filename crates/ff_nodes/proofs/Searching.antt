@@ -31,12 +31,6 @@ get_after [] ys k left h = ap (slice_get ys) (let is : k ≡ left = omega (arith
 get_after (x ∷ xs) ys zero left h = absurd (omega (arith, h))
 get_after (x ∷ xs) ys (suc k) left h = get_after xs ys k left (omega (arith, h))
 
--- past the last there is none
-pub get_past : {X : Type 0} (xs : List X) (k left : ℕ) → left + length xs ≡ k → slice_get xs k ≡ None
-get_past [] k left h = refl
-get_past (x ∷ xs) zero left h = absurd (omega (arith, h))
-get_past (x ∷ xs) (suc k) left h = get_past xs k left (omega (arith, h))
-
 module _ (nodes : List Node) (trees : AreTrees nodes) (p : NodeId → Bool) where
   -- the walks of some nodes
   abbrev pub walks : List NodeId → List NodeId

@@ -1,13 +1,13 @@
 -- What one turn of a loop over the children of a node finds, and what it leaves.
-use Rattle.std.proofs.Common.{◌≡◌, ℕ, suc, ◌+◌, ◌<◌, ◌≤◌, Bool, true, false, Some, None, List, [], ◌∷◌, ◌++◌, length, filter, get_or, drop, slice_get, refl, sym, subst, ap, ◌∙◌, length-append}
+use Rattle.std.proofs.Common.{◌≡◌, ℕ, suc, ◌+◌, ◌<◌, ◌≤◌, Bool, true, false, Some, None, List, [], ◌∷◌, ◌++◌, length, filter, get_or, drop, slice_get, sym, subst, ap, ◌∙◌, length-append}
 use Rattle.std.specs.Str.{bytes_eq}
 use Rattle.ff_value.specs.declared.ids.NodeId.{NodeId}
 use Rattle.ff_machine.specs.Kinds.{kind_word}
 use Rattle.ff_machine.specs.Shapes.{kind_of, name_of, is_unstarted}
 use Rattle.ff_machine.specs.Nodes.{Node, Walk, node_at, children, depth, is_name, by_name, of_word, scripts, shown}
 use Rattle.ff_machine.specs.Alone.{AreTrees}
-use Rattle.ff_nodes.proofs.Below.{depth_child, shown_out, shown_part}
-use Rattle.ff_nodes.proofs.Searching.{each_next, each_past, get_first, get_after, find_here, find_below, find_in_next, find_after_next, some_here, some_below, some_next}
+use Rattle.ff_nodes.proofs.Below.{depth_child, shown_out}
+use Rattle.ff_nodes.proofs.Searching.{each_past, get_first, get_after, find_here, find_below, find_in_next, find_after_next, some_here, some_below, some_next}
 use Rattle.ff_nodes.proofs.Rest.{named_from, kind_from, scripts_from, shown_from}
 
 module _ (nodes : List Node) (trees : AreTrees nodes) (n : NodeId) where
@@ -48,9 +48,6 @@ module _ (nodes : List Node) (trees : AreTrees nodes) (n : NodeId) where
   pub scripts_past : (i : ℕ) → length (children nodes n) ≤ i → scripts_from nodes (drop i (children nodes n)) ≡ []
   scripts_past i h = ap (filter unstarted) (each_past (Walk nodes) (children nodes n) i h)
 
-  pub shown_past : (i : ℕ) → length (children nodes n) ≤ i → shown_from nodes (drop i (children nodes n)) ≡ []
-  shown_past i h = each_past (shown_part nodes trees) (children nodes n) i h
-
   -- A child: the item at a place of the list that is lent.
   module _ (items : List NodeId) (lent : items ≡ children nodes n) (i : ℕ) (here : i < length items) where
     abbrev pub child : NodeId
@@ -76,12 +73,6 @@ module _ (nodes : List Node) (trees : AreTrees nodes) (n : NodeId) where
 
     pub kind_next : (word : List ℕ) → kind_from nodes word (drop i (children nodes n)) ≡ of_word nodes child word ++ kind_from nodes word (drop (i + 1) (children nodes n))
     kind_next word = some_next nodes trees (of word) (children nodes n) i (record { 0 = 0 }) there ∙ ap (λ (c : NodeId). of_word nodes c word ++ kind_from nodes word (drop (i + 1) (children nodes n))) same
-
-    pub scripts_next : scripts_from nodes (drop i (children nodes n)) ≡ scripts nodes child ++ scripts_from nodes (drop (i + 1) (children nodes n))
-    scripts_next = some_next nodes trees unstarted (children nodes n) i (record { 0 = 0 }) there ∙ ap (λ (c : NodeId). scripts nodes c ++ scripts_from nodes (drop (i + 1) (children nodes n))) same
-
-    pub shown_next : shown_from nodes (drop i (children nodes n)) ≡ shown_part nodes trees child ++ shown_from nodes (drop (i + 1) (children nodes n))
-    shown_next = each_next (shown_part nodes trees) (children nodes n) i (i + 1) (record { 0 = 0 }) refl there ∙ ap (λ (c : NodeId). shown_part nodes trees c ++ shown_from nodes (drop (i + 1) (children nodes n))) same
 
     -- those that are left to count after a child
     pub found_in_next : (word : List ℕ) (left : ℕ) (m : NodeId) → slice_get (of_word nodes child word) left ≡ Some m → slice_get (kind_from nodes word (drop i (children nodes n))) left ≡ Some m

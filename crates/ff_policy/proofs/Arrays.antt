@@ -17,16 +17,9 @@ module _ {V X : Type 0} (shape : V → Option X) where
   pub record Gathers (all : List V) (so_far : List X) (left : List V) : Type 0 where
     pub is : gather all ≡ option_map (λ rest. so_far ++ rest) (gather left)
 
-  nothing_before : (r : Option (List X)) → option_map (λ rest. [] ++ rest) r ≡ r
-  nothing_before None = refl
-  nothing_before (Some xs) = refl
-
   one_before : (so_far : List X) (x : X) (r : Option (List X)) → option_map (λ rest. so_far ++ rest) (option_map (λ xs. x ∷ xs) r) ≡ option_map (λ rest. (so_far ++ x ∷ []) ++ rest) r
   one_before so_far x None = refl
   one_before so_far x (Some xs) = ap Some (sym (append_assoc so_far (x ∷ []) xs))
-
-  pub gather_start : (all : List V) → Gathers all [] all
-  gather_start all = record { is = sym (nothing_before (gather all)) }
 
   pub gather_step : (all : List V) (so_far : List X) (left more : List V) (v : V) (x : X) → Gathers all so_far left → left ≡ v ∷ more → shape v ≡ Some x → Gathers all (so_far ++ x ∷ []) more
   unfolding gather

@@ -28,10 +28,6 @@ ok_same : {X : Type 0} (x y : X) → ◌≡◌ {A = Result X PolicyFault} (Ok x)
 unfolding value_or
 ok_same x y e = ap (value_or x) e
 
-ok_or_some : {X : Type 0} (o : Option X) (fault : PolicyFault) (x : X) → ok_or o fault ≡ Ok x → o ≡ Some x
-ok_or_some None fault x e = absurd (let no : Err fault ≡ Ok x = e in cc)
-ok_or_some (Some y) fault x e = ap Some (ok_same y x e)
-
 at_within : (order : Order) (place text : List ℕ) (l : ℕ) → level_at order place text ≡ Ok l → l < size order
 at_within order place text l is = go (level_named order text) (level_within order text) is
   where

@@ -1,5 +1,5 @@
 -- The values that a policy is printed through, one more at a time.
-use Rattle.std.proofs.Common.{◌≡◌, ℕ, suc, ◌+◌, ◌<◌, ◌≤◌, Bool, true, false, cond, List, [], ◌∷◌, ◌++◌, length, get_or, take, codes, map, flat_map, Vec, BTreeMap, String, Global, Less, Greater, nat_cmp, refl, sym, ap, ap₂, subst, ◌∙◌, arith, append_assoc, append-nil}
+use Rattle.std.proofs.Common.{◌≡◌, ℕ, suc, ◌+◌, ◌<◌, ◌≤◌, List, [], ◌∷◌, ◌++◌, length, get_or, take, codes, map, flat_map, Vec, BTreeMap, String, Global, Less, Greater, nat_cmp, refl, sym, ap, ap₂, subst, ◌∙◌, arith, append_assoc, append-nil}
 use Rattle.std.proofs.lemmas.Cmp.{nat_list_cmp_total}
 use Rattle.std.proofs.lemmas.List.{map-append, take_more, take_all, length-take-le, get_or-take, get_or_read}
 use Rattle.std.proofs.lemmas.List.Concat.{flat_map-append}
@@ -13,7 +13,7 @@ use Rattle.ff_lattice.specs.declared.pair.Pair.{Pair}
 use Rattle.ff_lattice.specs.LevelSet.{below}
 use Rattle.ff_lattice.specs.Order.{Order, size, name}
 use Rattle.ff_policy.specs.Assignment.{Key, Kinds, Assignment, key_at, AreKeys}
-use Rattle.ff_policy.specs.Printing.{strings, is_under, pair_if, pairs_from, pairs_in, pair_data, pairs_data, keys_data, kind_data, kinds_data, data_of}
+use Rattle.ff_policy.specs.Printing.{strings, pairs_from, pairs_in, pair_data, pairs_data, keys_data, kind_data, kinds_data, data_of}
 
 pushed : (vs : List Value) (v : Value) → map view (vs ++ v ∷ []) ≡ map view vs ++ view v ∷ []
 pushed vs v = map-append view vs (v ∷ [])
@@ -57,19 +57,6 @@ adds_next f old now new n given more = record {
 
 pub adds_all : (f : ℕ → List Pair) (old now : List Data) (n m : ℕ) → Adds f old now n → n ≡ m → now ≡ old ++ map pair_data (flat_map f (below m))
 adds_all f old now n m given same = given.is ∙ ap (λ (k : ℕ). old ++ map pair_data (flat_map f (below k))) same
-
--- one pair, or none
-pub added : (order : Order) (a b : ℕ) (vs new : List Value) (v : Value) → is_under order a b ≡ true → view v ≡ pair_data (record { low = name order a; high = name order b }) → new ≡ vs ++ v ∷ []
-    → map view new ≡ map view vs ++ map pair_data (pair_if order a b)
-added order a b vs new v passes value made =
-    let one : Pair = record { low = name order a; high = name order b } in
-    ap (map view) made ∙ pushed vs v ∙ ap (λ (d : Data). map view vs ++ d ∷ []) value
-    ∙ ap (λ (passes : Bool). map view vs ++ map pair_data (cond passes (one ∷ []) [])) (sym passes)
-
-pub passed : (order : Order) (a b : ℕ) (ds : List Data) → is_under order a b ≡ false → ds ≡ ds ++ map pair_data (pair_if order a b)
-passed order a b ds fails =
-    let one : Pair = record { low = name order a; high = name order b } in
-    sym (append-nil ds) ∙ ap (λ (passes : Bool). ds ++ map pair_data (cond passes (one ∷ []) [])) (sym fails)
 
 pub pairs_done : (order : Order) (vs : Vec Value Global) (n : ℕ) → Adds (pairs_from order) [] (map view vs.items) n → n ≡ size order → view (Array vs) ≡ pairs_data (pairs_in order)
 pairs_done order vs n given same = view-Array vs ∙ ap (λ (ds : List Data). array (items_of ds)) (adds_all (pairs_from order) [] (map view vs.items) n (size order) given same)

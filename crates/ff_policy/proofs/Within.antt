@@ -1,11 +1,10 @@
 -- The levels of domains, kinds and outputs are levels of the lattice.
 use Rattle.std.proofs.Common.{◌≡◌, ℕ, suc, ◌<◌, List, [], ◌∷◌, length, Option, Some, None, Bool, true, false, cond, refl, sym, subst, arith, bytes_eq}
 use Rattle.std.specs.List.{find}
-use Rattle.ff_value.specs.declared.kind.Kind.{Kind}
 use Rattle.ff_value.specs.declared.output.Out.{Out}
 use Rattle.ff_value.specs.declared.output.Out.TheVariants as out
 use Rattle.ff_lattice.specs.Order.{size}
-use Rattle.ff_policy.specs.Assignment.{Key, Assignment, key_at, longest, level_or, domain_level, levels_of, level_out, IsWithin, IsAssignment}
+use Rattle.ff_policy.specs.Assignment.{Key, Assignment, key_at, longest, level_or, domain_level, level_out, IsAssignment}
 use Rattle.ff_policy.proofs.Longest.{longest_is}
 
 AreBelow : ℕ → List Key → Type 0
@@ -40,10 +39,6 @@ domain_level_within policy domain valid =
     let n = size policy.order in
     found_below n (λ k. bytes_eq k.key domain) policy.domains (level_or (longest domain policy.domains) policy.other) valid.draft.keys.levels
     (longest_below n domain policy.domains policy.other valid.draft.keys.levels valid.draft.other_within)
-
--- both levels of a kind are levels
-pub kind_within : (policy : Assignment) (kind : Kind) → IsAssignment policy → IsWithin (size policy.order) (levels_of policy.kinds kind)
-kind_within policy kind valid = valid.draft.kinds_within kind
 
 pub level_out_within : (policy : Assignment) (o : Out) → IsAssignment policy → level_out policy o < size policy.order
 unfolding level_out

@@ -1,5 +1,5 @@
 -- New leaders get a fork of the browser of their class, level by level.
-use Rattle.std.proofs.Common.{◌≡◌, ◌≢◌, ℕ, ◌+◌, ◌<◌, ◌≤◌, List, length, get_or, set, refl, sym, ap, ◌∙◌, arith, ◌⊎◌, inl, inr, length-set, get_or-set_same, get_or-set_other}
+use Rattle.std.proofs.Common.{◌≡◌, ◌≢◌, ℕ, ◌+◌, ◌<◌, ◌≤◌, List, length, get_or, set, sym, ap, ◌∙◌, arith, ◌⊎◌, inl, inr, length-set, get_or-set_same, get_or-set_other}
 use Rattle.std.proofs.lemmas.Bool.{cases_lt}
 use Rattle.std.proofs.lemmas.List.{get_or_default}
 use Rattle.ff_reactive.specs.Worlds.{leader, AreLeaders}
@@ -12,9 +12,6 @@ pub record IsForking (first : List Head) (old new : List ℕ) (heads : List Head
   pub stays : (j : ℕ) (d : Head) → leader old j ≡ j → get_or heads j d ≡ get_or first j d
 
 module _ {first : List Head} {old new : List ℕ} where
-  pub forking_start : IsForking first old new first 0
-  forking_start = record { count = refl; done = λ j d none leads. absurd (omega arith); stays = λ j d leads. refl }
-
   -- a level that doesn't lead now
   pub forking_skip : (heads : List Head) (l : ℕ) → IsForking first old new heads l → leader new l ≢ l → IsForking first old new heads (l + 1)
   forking_skip heads l at not_leads = record {

@@ -1,7 +1,7 @@
 -- The parts of a pool as a world of copies: what each change of the parts makes of the world.
-use Rattle.std.proofs.Common.{◌≡◌, ◌≢◌, ℕ, ◌+◌, ◌<◌, ◌≤◌, Bool, true, false, cond, ◌==◌, Option, None, List, [], ◌∷◌, ◌++◌, length, map, All, get_or, set, refl, sym, ap, ap₂, subst, ◌∙◌, arith, length-set, get_or-set_same, get_or-set_other}
+use Rattle.std.proofs.Common.{◌≡◌, ℕ, ◌+◌, ◌<◌, ◌≤◌, Bool, true, false, cond, ◌==◌, Option, List, [], ◌∷◌, ◌++◌, length, map, All, get_or, set, refl, sym, ap, ap₂, subst, ◌∙◌, arith, length-set, get_or-set_same, get_or-set_other}
 use Rattle.std.proofs.lemmas.Bool.{eqb-true, eqb-false}
-use Rattle.std.proofs.lemmas.List.{get_or_default, length-map}
+use Rattle.std.proofs.lemmas.List.{get_or_default}
 use Rattle.std.proofs.lemmas.List.Elements.{All-from_get_or, All-get_or, All-head, All-tail}
 use Rattle.ff_lattice.specs.declared.names.TheConstants.{MOST_LEVELS}
 use Rattle.ff_value.specs.Spelled.{IsWellSpelledInput}
@@ -19,9 +19,9 @@ use Rattle.ff_reactive.proofs.Turns.{settle_quiet}
 use Rattle.ff_reactive.proofs.Classes.{together_parts, new_leader_within, new_leader_together, new_leader_itself, leader-split, length-split}
 use Rattle.ff_reactive.proofs.Worlds.{new_world_ok, arrive_ok, turn_ok, take_ok}
 use Rattle.ff_value.specs.Same.{same_input}
-use Rattle.ff_pool.specs.Heads.{Head, HasArrived, new_head, head_at, outputs_at, step_of, step_head, offer_head, head_turns, head_works, given, gathered_copy, gathered_copies, gathered, class_of, IsWorldOf, IsKept}
+use Rattle.ff_pool.specs.Heads.{Head, HasArrived, new_head, head_at, outputs_at, step_of, step_head, offer_head, head_turns, head_works, given, gathered_copy, gathered_copies, gathered, IsWorldOf, IsKept}
 use Rattle.ff_pool.specs.Pooled.{Pooled, copy_of, seen}
-use Rattle.ff_pool.specs.Restored.{PoolRecs, pool_recs, tops, AreLed, LedBy, HaveBrowsers, IsFresh, IsResting}
+use Rattle.ff_pool.specs.Restored.{pool_recs, tops, AreLed, HaveBrowsers, IsFresh, IsResting}
 use Rattle.ff_pool.proofs.AtRest.{tops_less, tops_lead}
 use Rattle.ff_pool.proofs.Parting.{same_input_decides}
 
@@ -55,9 +55,6 @@ module _ {fuel : ℕ} {heads : List Head} {puts : List (List Out)} {leaders : Li
   spelled_at l lt d =
       subst (λ h. All IsWellSpelledInput h.inbox) (sym (head_default l lt d))
       (subst (λ c. All IsWellSpelledInput c.inbox) (copy-gathered fuel heads puts leaders l lt) (kept.world.ok l lt).inbox_ok)
-
-  pub budget_at : (l : ℕ) → l < length leaders → (head_at fuel heads (leader leaders l)).state.budget ≡ fuel
-  budget_at l lt = ap (λ c. c.state.budget) (sym (copy-gathered fuel heads puts leaders l lt)) ∙ (kept.world.ok l lt).state_ok.budget_is
 
   -- one step of a class
   pub gathered-turn : (heads' : List Head) (puts' : List (List Out)) (l : ℕ) → l < length leaders
@@ -289,12 +286,3 @@ module _ {n fuel : ℕ} {classes : List (List ℕ)} {browsers : List State} {hea
           ap₂ (λ (s : State) ss. s ∷ ss)
           (ap (λ (c : Copy Input Out State). c.state) (at_level l (All-head (λ k. k < length leaders) l ls within)) ∙ ap (λ k. (head_at fuel heads k).state) (All-head (λ k. leader leaders k ≡ k) l ls lead))
           (states_agree ls (All-tail (λ k. k < length leaders) l ls within) (All-tail (λ k. leader leaders k ≡ k) l ls lead))
-
--- no pool at rest has other leaders than its classes have, or more or fewer browsers than classes
-pub not_led : {n fuel : ℕ} {classes : List (List ℕ)} {browsers : List State} (p : Pooled) → LedBy n classes None → IsResting n fuel p → pool_recs p ≢ record { classes = classes; browsers = browsers }
-not_led p none rests e = none p.world.leaders (record { led = rests.valid.led; levels = rests.levels; classes_are = ap (λ (r : PoolRecs). r.classes) e })
-
-pub not_matched : {classes : List (List ℕ)} {browsers : List State} (p : Pooled) → length classes ≢ length browsers → pool_recs p ≢ record { classes = classes; browsers = browsers }
-not_matched p differ e = differ
-    (sym (ap (λ (r : PoolRecs). length r.classes) e) ∙ length-map (tops p.world.leaders) (class_of p.world.leaders)
-    ∙ sym (length-map (tops p.world.leaders) (λ l. (copy_of p l).state)) ∙ ap (λ (r : PoolRecs). length r.browsers) e)

@@ -32,22 +32,9 @@ onward_turn p q r before now then l at lt done counted =
       turns = let e = left-turn (ends q.fuel) q.world l at.valid lt in let f = at.turns in omega (arith, e, f, counted);
     })
 
-pub onward_trans : (p q r : Pooled) (before now then : ℕ) → IsOnward p before q now → IsOnward q now r then → IsOnward p before r then
-onward_trans p q r before now then first second = record {
-  unspent = second.unspent;
-  valid = second.valid;
-  levels = second.levels ∙ first.levels;
-  comes_to = second.comes_to ∙ first.comes_to;
-  turns = first.turns ∙ second.turns;
-}
-
 -- turns that were made in a call that found no memory are among those that were left
 pub onward_within : (p q : Pooled) (before now then n : ℕ) → IsOnward p before q now → then ≤ now + n → n ≤ left q → then ≤ before + left p
 onward_within p q before now then n at made few = let e = at.turns in omega (arith, e, made, few)
-
--- the end
-pub all_rest : (q : Pooled) → IsPool q → ((l : ℕ) → l < size q → leader q.world.leaders l ≡ l → has_work q l ≡ false) → (l : ℕ) → l < size q → has_work q l ≡ false
-all_rest q valid rests l lt = rests_by_leaders (ends q.fuel) q.world valid rests l lt
 
 pub onward_done : (p q : Pooled) (before now : ℕ) → IsOnward p before q now → ((l : ℕ) → l < size q → leader q.world.leaders l ≡ l → has_work q l ≡ false) → (q ≡ drained p) × (now ≡ before + left p)
 onward_done p q before now at rests =

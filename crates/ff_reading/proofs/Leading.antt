@@ -5,7 +5,7 @@ use Rattle.std.specs.Str.{bytes_eq}
 use Rattle.ff_text.specs.declared.items.Span.{Span}
 use Rattle.ff_text.specs.declared.items.Sexp.{Sexp}
 use Rattle.ff_text.specs.declared.items.Sexp.TheVariants as sexp
-use Rattle.ff_forms.specs.Grammar.{Placed, a_head, a_parameter, reading, and_then, head_as, parameter_as, word_as}
+use Rattle.ff_forms.specs.Grammar.{Placed, a_head, reading, and_then, head_as}
 use Rattle.ff_name.specs.Words.{with_word}
 use Rattle.ff_forms.specs.declared.fault.SyntaxFault.{SyntaxFault}
 use Rattle.ff_forms.specs.declared.fault.SyntaxFault.TheVariants as fault
@@ -27,13 +27,3 @@ head_list word_at heads first at parts e = ap (by_table word_at heads) (sym (lis
 
 abbrev pub after_names : List (List ℕ) → Result Placed SyntaxFault → Result (List ℕ) SyntaxFault
 after_names before r = and_then r (λ x. cond (list_any (bytes_eq x.word) before) (Err (fault.Name x.from)) (Ok x.word))
-
-pub parameter_word : (before : List (List ℕ)) (part : Sexp) (at : Span) (word bytes : List ℕ) → part ≡ sexp.Word at word → bytes ≡ word → parameter_as before (word_as at.from bytes) ≡ parameter_as before (reading part)
-parameter_word before part at word bytes e same =
-    ap (λ (bs : List ℕ). after_names before (word_as at.from bs a_parameter)) same ∙ ap (after_names before) (sym (word_layer part at word a_parameter e))
-
-pub parameter_string : (before : List (List ℕ)) (part : Sexp) (at : Span) (text : List ℕ) → part ≡ sexp.Str at text → Err (fault.Place at.from) ≡ parameter_as before (reading part)
-parameter_string before part at text e = ap (after_names before) (sym (string_layer part at text a_parameter e))
-
-pub parameter_list : (before : List (List ℕ)) (part : Sexp) (at : Span) (parts : List Sexp) → part ≡ sexp.List at parts → Err (fault.Place at.from) ≡ parameter_as before (reading part)
-parameter_list before part at parts e = ap (after_names before) (sym (list_layer part at parts a_parameter e))

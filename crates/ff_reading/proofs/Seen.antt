@@ -1,5 +1,5 @@
 -- Parameters that stood before, by the set that is kept of them.
-use Rattle.std.proofs.Common.{◌≡◌, ℕ, Bool, true, false, cond, ◌||◌, bytes_eq, Result, Ok, Err, List, [], ◌∷◌, ◌++◌, ◌⊎◌, inl, inr, refl, sym, ap, ◌∙◌}
+use Rattle.std.proofs.Common.{◌≡◌, ℕ, Bool, true, false, cond, ◌||◌, bytes_eq, Ok, Err, List, [], ◌∷◌, ◌++◌, inl, inr, refl, sym, ap, ◌∙◌}
 use Rattle.std.specs.Bool.{one_answer}
 use Rattle.std.proofs.lemmas.List.Folds.{list_any-append}
 use Rattle.std.proofs.lemmas.Slice.Eq.{bytes_eq-Decides}
@@ -7,9 +7,8 @@ use Rattle.std.specs.List.{list_any}
 use Rattle.std.specs.Ordering.{is_eq, nat_cmp}
 use Rattle.std.specs.Cmp.Lexicographic.{slice_cmp, texts_ties}
 use Rattle.std.specs.BTreeSet.{BTreeSet, contains, Updates}
-use Rattle.ff_forms.specs.Grammar.{Gives, Placed, and_then, parameter_as, word_as, a_variable, a_parameter}
+use Rattle.ff_forms.specs.Grammar.{Gives, Placed, and_then, parameter_as, word_as, a_variable}
 use Rattle.ff_forms.specs.Words.{is_variable}
-use Rattle.ff_forms.specs.declared.fault.SyntaxFault.{SyntaxFault}
 use Rattle.ff_forms.specs.declared.fault.SyntaxFault.TheVariants as fault
 use Rattle.ff_reading.specs.Seen.{HasSeen}
 
@@ -58,7 +57,3 @@ seen_more seen new names more name has updates is = λ word.
     ∙ one_or (list_any (bytes_eq word) names) (bytes_eq word name)
     ∙ sym (list_any-append (bytes_eq word) names (name ∷ []))
     ∙ sym (ap (list_any (bytes_eq word)) is)
-
--- the names stay
-pub seen_same : (seen new : BTreeSet (List ℕ)) (names after : List (List ℕ)) → HasSeen seen names → new.keys ≡ seen.keys → after ≡ names → HasSeen new after
-seen_same seen new names after has same is = λ word. ap (list_any (λ k. is_eq (slice_cmp nat_cmp word k))) same ∙ has word ∙ sym (ap (list_any (bytes_eq word)) is)

@@ -9,7 +9,6 @@ use Rattle.ff_value.specs.declared.ids.WinId.{WinId}
 use Rattle.ff_value.specs.declared.ids.PageId.{PageId}
 use Rattle.ff_machine.specs.Windows.{Windows, no_window, no_page, window_at, page_at, is_win, is_open, is_live, place, named}
 use Rattle.ff_machine.specs.Alone.{IsWindow, IsPage}
-use Rattle.ff_machine.specs.References.{PageRefers, made}
 use Rattle.ff_machine.specs.Stores.{Stores}
 use Rattle.ff_machine.specs.Valid.{IsStores}
 use Rattle.ff_machine.proofs.Utf8.{IsUtf8-printed}
@@ -20,10 +19,6 @@ module _ (s : Stores) (valid : IsStores s) where
   -- the page that a window shows
   pub shown_lives : (w : WinId) → w.0 < length s.windows.windows → (window_at s.windows w).page.0 < length s.windows.pages
   shown_lives w h = let is : IsWindow (length s.windows.windows) (length s.windows.pages) (window_at s.windows w) = valid.windows.windows w.0 no_window h in is.page
-
-  -- the window of a page
-  pub own_lives : (p : PageId) → p.0 < length s.windows.pages → (page_at s.windows p).win.0 < length s.windows.windows
-  own_lives p h = let is : PageRefers (made s) (page_at s.windows p) = valid.refer.pages p.0 no_page h in is.win
 
   -- the address of a page
   pub url_spelled : (p : PageId) → p.0 < length s.windows.pages → IsWellSpelled (page_at s.windows p).url

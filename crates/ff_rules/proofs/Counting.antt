@@ -3,7 +3,6 @@ use Rattle.std.proofs.Common.{◌≡◌, ℕ, zero, suc, ◌+◌, ◌-◌, ◌<�
 use Rattle.std.proofs.lemmas.Bool.{cases_eq, eq-eqb, ne_eqb}
 use Rattle.std.proofs.lemmas.List.Sums.{sum_by-append}
 use Rattle.ff_reactive.specs.Runs.{entries}
-use Rattle.ff_reactive.proofs.Lists.{entries-append}
 use Rattle.ff_value.specs.declared.input.Input.{Input}
 use Rattle.ff_policy.specs.Assignment.{Assignment}
 use Rattle.ff_route.specs.Route.{offers}
@@ -30,17 +29,9 @@ module _ (p : Assignment) where
   left_more rules [] i = refl
   left_more rules (j ∷ is) i = left_more (left_then p j rules) is i
 
-  pub offers_more : (rules : List Rule) (is : List Input) (i : Input) → all_offers p rules (is ++ i ∷ []) ≡ all_offers p rules is ++ offers_after p rules is i ∷ []
-  unfolding all_offers
-  offers_more rules is i = entries-append (offers_after p rules) [] is (i ∷ [])
-
   pub left_start : (rules : List Rule) → left_after p rules [] ≡ rules
   unfolding left_after
   left_start rules = refl
-
-  pub offers_start : (rules : List Rule) → all_offers p rules [] ≡ []
-  unfolding all_offers
-  offers_start rules = refl
 
   -- rules stay as many
   length-left_then : (i : Input) (rules : List Rule) → length (left_then p i rules) ≡ length rules

@@ -1,9 +1,8 @@
 -- The first rule of use makes the offers.
-use Rattle.std.proofs.Common.{◌≡◌, ℕ, zero, suc, ◌+◌, ◌<◌, Bool, true, false, Result, Ok, Err, cond, not, ◌&&◌, ◌==◌, Option, List, [], ◌∷◌, ◌++◌, length, map, get_or, set, bytes_eq, refl, sym, ap, ◌∙◌, arith}
+use Rattle.std.proofs.Common.{◌≡◌, ℕ, zero, suc, ◌<◌, Bool, true, false, Result, Ok, Err, cond, not, ◌&&◌, ◌==◌, List, [], ◌∷◌, length, get_or, set, bytes_eq, refl, sym, ap, ◌∙◌, arith}
 use Rattle.std.specs.Prelude.{OnOk}
 use Rattle.std.specs.List.{list_any}
 use Rattle.std.proofs.lemmas.Bool.{eqb-true, eq-eqb}
-use Rattle.std.proofs.lemmas.List.{map-append}
 use Rattle.std.proofs.lemmas.List.Folds.{list_any_at, list_any_none}
 use Rattle.ff_reactive.specs.Copies.{below}
 use Rattle.ff_reactive.proofs.Below.{length-below, get_or-below}
@@ -12,7 +11,7 @@ use Rattle.ff_value.specs.declared.input.Input.{Input}
 use Rattle.ff_value.specs.Kinds.{word_of, kind_of}
 use Rattle.ff_policy.specs.Assignment.{Assignment}
 use Rattle.ff_route.specs.Route.{offers}
-use Rattle.ff_rules.specs.Offering.{rule_offer, rule_offers, differs, is_of_use, released, one_less, left_then, left_of}
+use Rattle.ff_rules.specs.Offering.{rule_offers, differs, is_of_use, released, one_less, left_then, left_of}
 use Rattle.ff_rules.specs.declared.rule.Rule.{Rule}
 
 module _ (p : Assignment) (i : Input) where
@@ -87,11 +86,6 @@ pub left_is : (rules : List Rule) (j : ℕ) (d : Rule) → j < length rules → 
 left_is [] j d within = absurd (omega arith)
 left_is (rule ∷ rules) zero d within = refl
 left_is (rule ∷ rules) (suc j) d within = left_is rules j d (omega (arith, within))
-
--- one offer more
-pub offers_more : (p : Assignment) (rule : Rule) (i : Input) (so_far : List (Option Input)) (n : ℕ) (one : Option Input) → so_far ≡ map (rule_offer p rule i) (below n) → one ≡ rule_offer p rule i n → so_far ++ one ∷ [] ≡ map (rule_offer p rule i) (below (n + 1))
-offers_more p rule i so_far n one is offer = ap (λ os. os ++ one ∷ []) is ∙ ap (λ o. map (rule_offer p rule i) (below n) ++ o ∷ []) offer ∙ sym (map-append (rule_offer p rule i) (below n) (n ∷ []))
-    ∙ ap (λ m. map (rule_offer p rule i) (below m)) (let next : suc n ≡ n + 1 = omega arith in next)
 
 -- what holds whatever the answer is
 pub whatever : {A E : Type 0} {P : Type 0} (r : Result A E) → P → OnOk r P

@@ -1,8 +1,8 @@
 -- Rules are read line by line.
-use Rattle.std.proofs.Common.{◌≡◌, ◌≢◌, ◌⊎◌, inl, inr, ℕ, ◌+◌, ◌<◌, ◌≤◌, Bool, true, false, Option, Some, None, Result, Ok, Err, List, [], ◌∷◌, ◌++◌, length, nat_eq, All, refl, sym, ap, subst, ◌∙◌, append-nil, append_assoc, arith, IfOk, IfErr}
+use Rattle.std.proofs.Common.{◌≡◌, ◌≢◌, ◌⊎◌, inl, inr, ℕ, ◌+◌, ◌<◌, ◌≤◌, Bool, true, false, Option, Some, None, Result, Ok, Err, List, [], ◌∷◌, ◌++◌, length, nat_eq, All, refl, sym, ap, subst, ◌∙◌, append-nil, append_assoc, arith}
 use Rattle.std.proofs.lemmas.Bool.{eqb-true, eq-eqb, true≢false}
 use Rattle.std.proofs.lemmas.List.{length_push}
-use Rattle.std.proofs.lemmas.List.Elements.{All-nil, All-push}
+use Rattle.std.proofs.lemmas.List.Elements.{All-push}
 use Rattle.ff_contract.specs.Answering.{Answers}
 use Rattle.ff_io.specs.Cutting.{content, after_line}
 use Rattle.ff_lattice.specs.Order.{Order}
@@ -47,10 +47,6 @@ abbrev pub behind : List Rule → Result (List Rule) ReleaseFault → Result (Li
 behind rules (Ok more) = Ok (rules ++ more)
 behind rules (Err which) = Err which
 
-behind_none : (answer : Result (List Rule) ReleaseFault) → behind [] answer ≡ answer
-behind_none (Ok more) = refl
-behind_none (Err which) = refl
-
 behind_one : (rules : List Rule) (rule : Rule) (answer : Result (List Rule) ReleaseFault) → behind rules (in_front rule answer) ≡ behind (rules ++ rule ∷ []) answer
 behind_one rules rule (Ok more) = ap (λ rs. Ok rs) (sym (append_assoc rules (rule ∷ []) more))
 behind_one rules rule (Err which) = refl
@@ -61,14 +57,6 @@ pub record IsReading (order : Order) (bytes : List ℕ) (rules : List Rule) (res
   pub few : length rules ≤ MOST_RULES
   pub counted : number + length rest ≤ length bytes + 1
   pub within : All (IsRuleOf order) rules
-
-pub reading_start : (order : Order) (bytes : List ℕ) (rules : List Rule) → rules ≡ [] → IsReading order bytes rules bytes 1
-reading_start order bytes rules none = subst (λ rs. IsReading order bytes rs bytes 1) (sym none) (record {
-  on = λ answer reads. subst (Reads order 1 0 bytes) (sym (behind_none answer)) reads;
-  few = omega arith;
-  counted = omega arith;
-  within = All-nil (IsRuleOf order);
-})
 
 module _ (order : Order) (bytes : List ℕ) (rules : List Rule) (rest line more : List ℕ) (number : ℕ) (at : IsReading order bytes rules rest number) (some : 0 < length rest) (line_is : line ≡ content rest) (more_is : more ≡ after_line rest) where
   gives_content : (answer : Result (Option Rule) ReleaseFault) → GivesRule order number line answer → GivesRule order number (content rest) answer
@@ -139,15 +127,6 @@ pub all_lines : (order : Order) (bytes : List ℕ) (answer : Result (List Rule) 
 all_lines order bytes answer within reads = by_lines answer within reads
 
 module _ (order : Order) (bytes : List ℕ) where
-  pub found_ok : (result : Result (List Rule) ReleaseFail) → IsFound (ReadsRules order bytes) result → IfOk result (λ rules. ReadsRules order bytes (Ok rules))
-  found_ok (Ok rules) found = found
-  found_ok (Err fail) found = tt
-
-  pub found_err : (result : Result (List Rule) ReleaseFail) → IsFound (ReadsRules order bytes) result → IfErr result (λ fail. (which : ReleaseFault) → fail ≡ Fault which → ReadsRules order bytes (Err which))
-  found_err (Ok rules) found = tt
-  found_err (Err (Fault other)) found = λ which same. subst (λ f. IsFound (ReadsRules order bytes) (Err f)) same found
-  found_err (Err NoMemory) found = λ which same. cc
-
   pub only_found : (result : Result (List Rule) ReleaseFail) → IsFound (ReadsRules order bytes) result → (rules : List Rule) → ReadsRules order bytes (Ok rules) → Answers result (Ok rules) (Err NoMemory)
   only_found (Ok others) found rules reads = inl (let same = reads_rules_once order bytes (Ok others) (Ok rules) found reads in cc)
   only_found (Err (Fault which)) found rules reads = let same = reads_rules_once order bytes (Err which) (Ok rules) found reads in cc

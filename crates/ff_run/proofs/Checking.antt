@@ -10,12 +10,6 @@ use Rattle.ff_run.specs.Checked.{level_line, check_text}
 abbrev named : Order → ℕ → List ℕ
 named order k = 32 ∷ name order k
 
-abbrev names : Order → ℕ → ℕ → List ℕ
-names order l n = flat_map (λ k. 32 ∷ name order k) (filter (λ k. leq order k l) (below n))
-
-abbrev lines_below : Order → ℕ → List ℕ
-lines_below order n = flat_map (level_line order) (below n)
-
 suc_is : (l : ℕ) → suc l ≡ l + 1
 suc_is l = omega arith
 

@@ -114,14 +114,6 @@ module _ (p : Assignment) (start before draws : ℕ) (pool : Pooled) (text : Lis
   pub drawing_at_most : (inputs : ℕ) → k ≤ inputs → AtMostDrawn p start inputs before turns
   drawing_at_most inputs low = let counted = on.counted in at_most p start k inputs before turns on.drawn low on.are_drawn (omega arith)
 
-  pub drawing_done : (inputs : ℕ) (bytes : List ℕ) → k ≡ inputs → bytes ≡ text → RanDrawn p start inputs before turns (λ t. bytes ≡ t)
-  drawing_done inputs bytes all same = record {
-    drawn = on.drawn;
-    are_drawn = subst (λ n. AreDrawn p.order start n on.drawn) all on.are_drawn;
-    counted = on.counted;
-    held = same ∙ on.text_is;
-  }
-
   module _ (next : ℕ) (i : Input) (following_is : next ≡ following draws) (drawn : IsDrawn p.order next i) where
     -- one input more
     one_more : AreDrawn p.order start (suc k) (on.drawn ++ i ∷ [])

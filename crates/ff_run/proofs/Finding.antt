@@ -28,9 +28,6 @@ known_from a b same name (inr told) = inr (told.0, sym same ∙ told.1)
 pub failed_from : (before mid now : ShelfTold) → IsLater before mid → (name : List ℕ) → FetchFailed name mid now → FetchFailed name before now
 failed_from before mid now later name rose = let less = later.faults name in omega (arith, less, rose)
 
-pub later_from : (before mid now : ShelfTold) → IsLater before mid → IsLater mid now → IsLater before now
-later_from before mid now first second = record { files = second.files ∙ first.files; faults = λ name. let a = first.faults name in let b = second.faults name in omega (arith, a, b) }
-
 module _ {X : Type 0} (built_in : X) (most : ℕ) (Gives : List ℕ → X → Type 0) (IsBad : List ℕ → Status → Type 0) where
   pub no_memory : (before now : ShelfTold) (name : List ℕ) → Refuses built_in most Gives IsBad before now name NoMemory
   no_memory before now name = Refuses.no_memory

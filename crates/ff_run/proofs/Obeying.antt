@@ -1,6 +1,6 @@
 -- A command is obeyed under the policy that was found, by the rules that were found, or there is
 -- none.
-use Rattle.std.proofs.Common.{◌≡◌, ◌≢◌, ℕ, inl, inr, Option, Result, Ok, Err, List, [], refl, subst, ◌∙◌, String, Global}
+use Rattle.std.proofs.Common.{◌≡◌, ◌≢◌, ℕ, inl, inr, Option, Result, Ok, Err, List, [], refl, subst, ◌∙◌}
 use Rattle.ff_io.specs.Counts.{Rose}
 use Rattle.ff_io.specs.Port.{Told}
 use Rattle.ff_io.specs.Shelf.{ShelfTold}
@@ -13,7 +13,6 @@ use Rattle.ff_saved.specs.declared.fault.SavedFault.TheVariants as saved
 use Rattle.ff_session.specs.Giving.{Gives}
 use Rattle.ff_session.specs.Works.{Duty, Exchanged, IsWritten}
 use Rattle.ff_release.specs.Releasing.{release_duty}
-use Rattle.ff_run.specs.Words.{AreCommand}
 use Rattle.ff_run.specs.Names.{NamesBad, Refuses, IsLater, FetchedOrFailed, IsFetchedOrFails}
 use Rattle.ff_run.specs.Policies.{IsBadPolicy, RefusesPolicy, Under}
 use Rattle.ff_run.specs.Rules.{AreBadRules, AreRulesOf, NamesRulesFault, RefusesRules}
@@ -26,7 +25,7 @@ use Rattle.ff_run.specs.declared.states.TheConstants as states
 use Rattle.ff_run.specs.Status.{IsEarly, IsUnfailing}
 use Rattle.ff_status.specs.Words.{IsGood, error_line}
 use Rattle.ff_status.specs.declared.status.TraceFault.{TraceFault}
-use Rattle.ff_run.specs.Run.{Suits, Performs, PerformsBy, Obeys, NothingFailed, IsUntouched}
+use Rattle.ff_run.specs.Run.{Performs, PerformsBy, Obeys, NothingFailed, IsUntouched}
 use Rattle.ff_run.specs.declared.words.Command.{Command}
 use Rattle.ff_run.specs.declared.words.Command.TheVariants as command
 use Rattle.ff_status.specs.declared.status.Status.{Status}
@@ -34,19 +33,6 @@ use Rattle.ff_status.specs.declared.status.Status.TheVariants.{Done, Leaks, Usag
 use Rattle.ff_run.proofs.Finding.{bad_from, failed_from, stands_from}
 
 -- ---- the words
-
-pub suits_command : (words : List (String Global)) (status : Status) → status ≢ Usage → AreCommand words → Suits status words
-suits_command words Usage other are = absurd (other refl)
-suits_command words Done other are = are
-suits_command words Leaks other are = are
-suits_command words (Policy fault) other are = are
-suits_command words (Trace number fault) other are = are
-suits_command words ReadFault other are = are
-suits_command words WriteFault other are = are
-suits_command words ShelfFault other are = are
-suits_command words NoMemory other are = are
-suits_command words (Saved fault) other are = are
-suits_command words (Release fault) other are = are
 
 -- no bytes fail to be fetched
 pub no_shelf_policy : (bytes : List ℕ) → IsBadPolicy bytes ShelfFault → ⊥

@@ -1,6 +1,6 @@
 -- Stores that are made of their parts, each of which was made of its records.
-use Rattle.std.proofs.Common.{◌≡◌, ◌≢◌, Option, Some, None, Result, Ok, Err, List, IfOk, sym, ap, ap₂, ◌∙◌}
-use Rattle.ff_machine.specs.Alone.{AreNodes, AreWindows, IsJar, AreRequests}
+use Rattle.std.proofs.Common.{◌≡◌, Option, Some, None, Result, Ok, Err, List, IfOk, sym, ap, ap₂, ◌∙◌}
+use Rattle.ff_machine.specs.Alone.{AreNodes, AreRequests}
 use Rattle.ff_machine.specs.Net.{Jar, Requests}
 use Rattle.ff_machine.specs.Nodes.{Node}
 use Rattle.ff_machine.specs.Stores.{Stores}
@@ -13,19 +13,6 @@ use Rattle.ff_save.proofs.Asked.{same_requests}
 use Rattle.ff_save.proofs.Stored.{same_nodes, same_windows, same_cookies}
 
 module _ (recs : StoresRecs) where
-  -- no stores have these records where no part has its own
-  pub no_nodes : ((v : List Node) → AreNodes v → node_recs v ≢ recs.nodes) → (s : Stores) → AreUntouched s → stores_recs s ≢ recs
-  no_nodes none s is same = none s.nodes is.0.nodes (ap (λ (r : StoresRecs). r.nodes) same)
-
-  pub no_windows : ((v : Windows) → AreWindows v → windows_recs v ≢ recs.windows) → (s : Stores) → AreUntouched s → stores_recs s ≢ recs
-  no_windows none s is same = none s.windows is.0.windows (ap (λ (r : StoresRecs). r.windows) same)
-
-  pub no_jar : ((v : Jar) → IsJar v → cookie_recs v ≢ recs.cookies) → (s : Stores) → AreUntouched s → stores_recs s ≢ recs
-  no_jar none s is same = none s.jar is.0.jar (ap (λ (r : StoresRecs). r.cookies) same)
-
-  pub no_requests : ((v : Requests) → AreRequests v → ask_recs v ≢ recs.asks) → (s : Stores) → AreUntouched s → stores_recs s ≢ recs
-  no_requests none s is same = none s.requests is.0.requests (ap (λ (r : StoresRecs). r.asks) same)
-
   module _ (nodes : List Node) (windows : Windows) (jar : Jar) (requests : Requests) (are_nodes : AreNodes nodes) (are_requests : AreRequests requests)
       (nodes_have : node_recs nodes ≡ recs.nodes) (windows_have : windows_recs windows ≡ recs.windows) (jar_has : cookie_recs jar ≡ recs.cookies) (requests_have : ask_recs requests ≡ recs.asks) where
     recs_are : (s : Stores) → parts_of s ≡ record { nodes = nodes; windows = windows; jar = jar; requests = requests; mass = recs.mass } → stores_recs s ≡ recs

@@ -1,5 +1,5 @@
 -- What bytes are by the pool that was made of them, or by what they are the text of no pool.
-use Rattle.std.proofs.Common.{◌≡◌, ◌≤◌, ◌<◌, ℕ, true, ◌&&◌, Option, Some, None, List, [], ◌∷◌, ◌++◌, length, codes, sym, ap, subst, ◌∙◌, arith}
+use Rattle.std.proofs.Common.{◌≡◌, ◌≤◌, ℕ, true, ◌&&◌, Option, Some, None, List, [], ◌∷◌, ◌++◌, length, codes, sym, ap, subst, ◌∙◌}
 use Rattle.std.specs.Str.{IsUtf8}
 use Rattle.std.proofs.lemmas.Bool.{and_parts}
 use Rattle.std.proofs.lemmas.List.Elements.{All-head, All-tail}
@@ -29,10 +29,6 @@ use Rattle.ff_save.proofs.Saving.{good, no_pool, one_pool, none_restored, anothe
 use Rattle.ff_save.proofs.SameText.{all_fit}
 use Rattle.ff_save.proofs.Texts.{first_line, later_lines}
 
--- too many bytes
-pub too_long : (p : Assignment) (bytes : List ℕ) → MOST_SAVED_BYTES < length bytes → (pool : Pooled) → ¬ IsSaved p bytes pool
-too_long p bytes long pool saved = let fits = saved.whole.fits in omega (arith, long, fits, ap length saved.text)
-
 module _ (p : Assignment) (valid : IsAssignment p) (utf8 : IsUtf8 (printed p)) (bytes : List ℕ) where
   -- no lines of a saved text
   pub no_lines : (found : Option Gathering) → Gathers p.order p.fuel bytes found → found ≡ None → (pool : Pooled) → ¬ IsSaved p bytes pool
@@ -41,12 +37,6 @@ module _ (p : Assignment) (valid : IsAssignment p) (utf8 : IsUtf8 (printed p)) (
   module _ (found : Option Gathering) (held : Gathering) (gathers : Gathers p.order p.fuel bytes found) (is : found ≡ Some held) where
     text : HasText p.order p.fuel bytes held
     text = subst (Gathers p.order p.fuel bytes) is gathers
-
-    pub fuel_some : 1 ≤ held.fuel
-    fuel_some = subst (λ f. 1 ≤ f) (sym text.holds.fuel_is) valid.some_fuel
-
-    pub fuel_few : held.fuel ≤ 1000000
-    fuel_few = subst (λ f. f ≤ 1000000) (sym text.holds.fuel_is) valid.little_fuel
 
     module _ (n : ℕ) (n_is : n ≡ size p.order) (made : Option Pooled) (restores : (g : Gathered) → Holds held.fuel g held → Restores (IsResting n held.fuel) saved_recs (saved_of g) made) where
       restored : Restores (IsResting (size p.order) p.fuel) saved_recs (saved_of text.all) made

@@ -36,9 +36,6 @@ row head parts first rest = prints_as (joined (word head ∷ parts)) (joined_hea
 last : {p q : Printer} (part : Sexp) → Prints p q (after_blank part) → Prints p q (after_blanks (part ∷ []))
 last part prints = prints_as (after_blanks (part ∷ [])) (append-nil (after_blank part)) prints
 
-pub row_of_none : {p q : Printer} (head : List ℕ) → Prints p q head → Prints p q (joined (word head ∷ []))
-row_of_none head prints = prints_as (joined (word head ∷ [])) (spelled-Word (span 0 0) head) prints
-
 pub row_of_one : {p q r : Printer} (head : List ℕ) (a : Sexp) → Prints p q head → Prints q r (after_blank a) → Prints p r (joined (word head ∷ a ∷ []))
 row_of_one head a first one = row head (a ∷ []) first (last a one)
 
@@ -95,10 +92,6 @@ one_more_at item xs i d inside before here =
     ∙ flat_map-append (λ y. after_blank (item y)) (take i xs) (get_or xs i d ∷ [])
     ∙ ap (λ bs. each_after_blank item (take i xs) ++ bs) (append-nil (after_blank (item (get_or xs i d)))))
     (then before here)
-
--- one item, or none
-pub one_item : {p q : Printer} {X : Type 0} (item : X → Sexp) (x : X) → Prints p q (after_blank (item x)) → Prints p q (each_after_blank item (x ∷ []))
-one_item item x prints = prints_as (each_after_blank item (x ∷ [])) (append-nil (after_blank (item x))) prints
 
 -- more of them
 pub and_more : {p q r : Printer} {X : Type 0} (item : X → Sexp) (xs ys : List X) → Prints p q (each_after_blank item xs) → Prints q r (each_after_blank item ys) → Prints p r (each_after_blank item (xs ++ ys))

@@ -1,21 +1,14 @@
 -- Where copies stand, inputs leave them: each browser valid and quiet, and levels that are one copy
 -- with one browser.
-use Rattle.std.proofs.Common.{◌≡◌, ℕ, ◌+◌, true, Option, Some, None, List, [], ◌∷◌, ◌++◌, All, refl}
-use Rattle.std.specs.List.{cons_option}
-use Rattle.std.proofs.lemmas.List.Elements.{All-nil, All-cons, All-head, All-tail}
-use Rattle.ff_reactive.specs.Runs.{Machine, after_from}
+use Rattle.std.proofs.Common.{◌≡◌, ℕ, ◌+◌, true, Some, List, ◌++◌, All, refl}
 use Rattle.ff_reactive.specs.Copies.{multi}
 use Rattle.ff_reactive.specs.Sharing.{work}
-use Rattle.ff_reactive.specs.Standings.{Standing, Offering, fresh, run, work_of, given_from, given, state_after}
+use Rattle.ff_reactive.specs.Standings.{Standing, Offering, fresh, run, work_of}
 use Rattle.ff_reactive.proofs.Standings.{run_rest, run_fresh, work_fresh}
-use Rattle.ff_value.specs.Spelled.{IsWellSpelledInput}
 use Rattle.ff_value.specs.declared.input.Input.{Input}
 use Rattle.ff_machine.specs.State.{State}
 use Rattle.ff_machine.specs.Valid.{IsState}
-use Rattle.ff_machine.specs.Machine.{browser}
-use Rattle.ff_laws.proofs.States.{handled_state}
 use Rattle.ff_value.specs.Same.{same_input}
-use Rattle.ff_pool.proofs.Gathering.{ends}
 use Rattle.ff_policy.specs.Assignment.{Assignment, IsAssignment}
 use Rattle.ff_session.specs.Levels.{levels, machine}
 use Rattle.ff_session.proofs.Lawful.{lawful}
@@ -23,35 +16,11 @@ use Rattle.ff_reactive.specs.Given.{IsSecureAsOffered}
 use Rattle.ff_reactive.proofs.Given.{secured_as_offered}
 use Rattle.ff_trace.specs.Lines.{IsInputOf}
 use Rattle.ff_session.specs.Multi.{run_text, seen_by, stands_after}
-use Rattle.ff_session.proofs.Feeding.{seen_spelled}
 
 -- a valid and quiet browser
 pub record IsAtRest (fuel : ℕ) (s : State) : Type 0 where
   pub state : IsState fuel s
   pub quiet : s.quiet ≡ true
-
--- well spelled inputs leave it so
-pub stays_at_rest : (fuel : ℕ) (s : State) (is : List Input) → IsAtRest fuel s → All IsWellSpelledInput is → IsAtRest fuel (after_from (browser fuel) s is)
-stays_at_rest fuel s [] at good = at
-stays_at_rest fuel s (i ∷ is) at good =
-    let here = All-head IsWellSpelledInput i is good in
-    stays_at_rest fuel ((browser fuel).handle s i).after is
-    (record { state = handled_state fuel (fuel + 1) s i at.state here; quiet = (ends fuel).begin_ends s i at.state here })
-    (All-tail IsWellSpelledInput i is good)
-
--- what a level is offered of well spelled inputs is well spelled
-given_spelled : (p : Assignment) (l : ℕ) (before is : List Input) → All (IsInputOf p.order) is → All IsWellSpelledInput (given_from (seen_by p) l before is)
-given_spelled p l before [] good = All-nil IsWellSpelledInput
-given_spelled p l before (i ∷ is) good = onto (seen_by p before l i) refl (given_spelled p l (before ++ i ∷ []) is (All-tail (IsInputOf p.order) i is good))
-  where
-    onto : (o : Option Input) → seen_by p before l i ≡ o → All IsWellSpelledInput (given_from (seen_by p) l (before ++ i ∷ []) is) → All IsWellSpelledInput (cons_option o (given_from (seen_by p) l (before ++ i ∷ []) is))
-    onto None e rest = rest
-    onto (Some x) e rest = All-cons IsWellSpelledInput x (given_from (seen_by p) l (before ++ i ∷ []) is) (seen_spelled p before i (All-head (IsInputOf p.order) i is good) l x e) rest
-
--- so the browsers of all levels stay at rest
-pub browsers_stay : (p : Assignment) (from : Standing State) (l : ℕ) (is : List Input) → IsAtRest p.fuel (from.states l) → All (IsInputOf p.order) is → IsAtRest p.fuel ((stands_after p from is).states l)
-unfolding state_after
-browsers_stay p from l is at good = stays_at_rest p.fuel (from.states l) (given (seen_by p) l is) at (given_spelled p l [] is good)
 
 -- a run goes on from where its copies stand
 pub goes_on : (p : Assignment) (from : Standing State) (is js : List Input)

@@ -78,15 +78,6 @@ module _ (s : State) (i : Input) (before : ℕ) (now : State) (outs : List Out) 
   pub outputs_done : now.quiet ≡ true → outs ≡ (handled s i).outputs
   outputs_done quiet = (handling_done (reactor s.budget) (s.budget + 1) s i [] now outs at.made at.settling quiet).0
 
-  pub state_done : now.quiet ≡ true → now ≡ (handled s i).after
-  state_done quiet = (handling_done (reactor s.budget) (s.budget + 1) s i [] now outs at.made at.settling quiet).1
-
-  pub turns_done : now.quiet ≡ true → turns ≡ before + (handled s i).turns
-  turns_done quiet = at.counted ∙ ap (λ n. before + n) (handling_done (reactor s.budget) (s.budget + 1) s i [] now outs at.made at.settling quiet).2
-
-  pub ready_done : now.quiet ≡ true → IsReady s.budget now
-  ready_done quiet = record { budget_is = at.valid.budget_is; quiet = quiet }
-
   -- and each turn brings it nearer
   pub handling_falls : now.quiet ≡ false → turns_left (reactor s.budget) (λ t. t.fuel) (turn now).after < turns_left (reactor s.budget) (λ t. t.fuel) now
   handling_falls busy = turns_left_falls (keeps s.budget) (fuelled s.budget) now at.valid busy
@@ -101,10 +92,6 @@ plain_taken p s now i is at ready made = record {
   ready = record { budget_is = ready.budget_is ∙ at.ready.budget_is; quiet = ready.quiet };
   at = made ∙ ap (λ h. h.after) (handled_is p s i at.ready) ∙ ap (λ t. ((machine p).handle t i).after) at.at ∙ sym (after_more (machine p) is i);
 }
-
--- what it put, and its turns
-pub plain_outputs : (p : Assignment) (s : State) (i : Input) (is : List Input) → IsPlainAt p s is → handled s i ≡ (machine p).handle (after (machine p) is) i
-plain_outputs p s i is at = handled_is p s i at.ready ∙ ap (λ t. (machine p).handle t i) at.at
 
 -- a new browser
 pub fresh_plain : (p : Assignment) (s : State) (fuel : ℕ) → fuel ≡ p.fuel → s ≡ empty fuel → IsPlainAt p s []

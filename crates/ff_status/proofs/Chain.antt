@@ -1,6 +1,5 @@
 -- The answers of a function that puts one text after another, and stops at the first failure.
-use Rattle.std.proofs.Common.{◌≡◌, ℕ, List, [], ◌∷◌, ◌++◌, Option, Result, Ok, Err, OnOk, OnErr, refl, flat_map}
-use Rattle.ff_text.specs.Printed.{quoted, spelled_byte}
+use Rattle.std.proofs.Common.{ℕ, List, ◌++◌, Option, Result, Ok, Err, OnOk, OnErr}
 use Rattle.ff_status.specs.Putting.{Puts, Stops}
 use Rattle.ff_status.proofs.Sending.{puts_both, stops_first, stops_second}
 
@@ -27,7 +26,3 @@ stopped_after (Err e) now high second p s = stops_second _ _ _ _ _ _ _ _ p s
 pub failed : {T E P : Type 0} (answer : Result T E) → P → OnErr answer P
 failed (Ok x) p = tt
 failed (Err e) p = p
-
-pub quoted-is : (value : List ℕ) → quoted value ≡ 34 ∷ (flat_map spelled_byte value ++ 34 ∷ [])
-unfolding quoted
-quoted-is value = refl

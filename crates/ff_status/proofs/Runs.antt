@@ -1,11 +1,11 @@
 -- The value of a string, put in runs of bytes that stand for themselves, with the escapes between
 -- them.
-use Rattle.std.proofs.Common.{◌≡◌, ◌<◌, ◌+◌, ℕ, List, [], ◌∷◌, ◌++◌, Option, length, take, drop, get_or, refl, sym, ap, ◌∙◌, subst, arith, append_assoc, append-nil, flat_map}
+use Rattle.std.proofs.Common.{◌≡◌, ◌<◌, ◌+◌, ℕ, List, [], ◌∷◌, ◌++◌, Option, length, take, drop, get_or, sym, ap, ◌∙◌, subst, append_assoc, append-nil, flat_map}
 use Rattle.std.proofs.lemmas.List.{take_more, take-append-drop}
 use Rattle.std.proofs.lemmas.List.Concat.{flat_map-append}
 use Rattle.ff_text.specs.Printed.{spelled_byte}
 use Rattle.ff_status.specs.Putting.{Puts, Stops}
-use Rattle.ff_status.proofs.Sending.{puts_nothing, puts_both, stops_first, stops_second}
+use Rattle.ff_status.proofs.Sending.{puts_both, stops_first, stops_second}
 
 -- a value is spelled from its two parts
 pub spelled_cut : (value : List ℕ) (i : ℕ) → flat_map spelled_byte value ≡ flat_map spelled_byte (take i value) ++ flat_map spelled_byte (drop i value)
@@ -44,9 +44,6 @@ pub record SpelledSoFar (before now : Option (List ℕ)) (low high : ℕ) (value
   pub joined : done ++ left ≡ value
   pub puts : Puts before now low high (flat_map spelled_byte done)
 
-pub spelled_none : (now : Option (List ℕ)) (count : ℕ) (value : List ℕ) → SpelledSoFar now now count count value value
-spelled_none now count value = record { done = []; joined = refl; puts = puts_nothing now count }
-
 pub spelled_run : (before mid now : Option (List ℕ)) (low count high : ℕ) (value left after : List ℕ) (n : ℕ)
     → SpelledSoFar before mid low count value left → Puts mid now count high (flat_map spelled_byte (take n left)) → after ≡ drop n left
     → SpelledSoFar before now low high value after
@@ -56,14 +53,3 @@ spelled_run before mid now low count high value left after n so_far puts e = rec
   puts = subst (Puts before now low high) (sym (flat_map-append spelled_byte so_far.done (take n left)))
       (puts_both before mid now low count high (flat_map spelled_byte so_far.done) (flat_map spelled_byte (take n left)) so_far.puts puts);
 }
-
-pub spelled_all : (before now : Option (List ℕ)) (low high : ℕ) (value left : List ℕ) → SpelledSoFar before now low high value left → length left ≡ 0
-    → Puts before now low high (flat_map spelled_byte value)
-spelled_all before now low high value [] so_far none = subst (λ l. Puts before now low high (flat_map spelled_byte l)) (sym (append-nil so_far.done) ∙ so_far.joined) so_far.puts
-spelled_all before now low high value (b ∷ left) so_far none = absurd (omega arith)
-
-pub spelled_stops : (before mid now : Option (List ℕ)) (low count high : ℕ) (value left : List ℕ)
-    → SpelledSoFar before mid low count value left → Stops mid now count high (flat_map spelled_byte left) → Stops before now low high (flat_map spelled_byte value)
-spelled_stops before mid now low count high value left so_far stops =
-    subst (Stops before now low high) (sym (flat_map-append spelled_byte so_far.done left) ∙ ap (flat_map spelled_byte) so_far.joined)
-    (stops_second before mid now low count high (flat_map spelled_byte so_far.done) (flat_map spelled_byte left) so_far.puts stops)

@@ -1,22 +1,13 @@
 -- Texts that are put one after another.
-use Rattle.std.proofs.Common.{◌≡◌, ◌≤◌, ◌<◌, ℕ, List, [], ◌∷◌, ◌++◌, Option, Some, None, Result, Ok, Err, OnOk, OnErr, length, take, drop, refl, sym, ap, ◌∙◌, subst, arith, append_assoc, append-nil, length-append}
+use Rattle.std.proofs.Common.{◌≡◌, ◌≤◌, ◌<◌, ℕ, List, [], ◌++◌, Option, Some, None, Result, Ok, Err, OnOk, OnErr, length, take, drop, refl, sym, ap, ◌∙◌, arith, append_assoc, append-nil, length-append}
 use Rattle.std.proofs.lemmas.List.{take-append-drop}
 use Rattle.std.specs.Prelude.{option_map}
-use Rattle.ff_io.specs.Counts.{Rose}
 use Rattle.ff_io.specs.Port.{Gains}
 use Rattle.ff_status.specs.Putting.{Puts, Stops, Reported}
-
-Gains-nil : (now : Option (List ℕ)) → Gains now now []
-Gains-nil None = refl
-Gains-nil (Some put) = ap Some (sym (append-nil put))
 
 Gains-both : (before mid now : Option (List ℕ)) (first second : List ℕ) → Gains before mid first → Gains mid now second → Gains before now (first ++ second)
 Gains-both None mid now first second g h = h ∙ ap (option_map (λ put. put ++ second)) g
 Gains-both (Some put) mid now first second g h = h ∙ ap (option_map (λ put. put ++ second)) g ∙ ap Some (append_assoc put first second)
-
--- nothing was put
-pub puts_nothing : (now : Option (List ℕ)) (count : ℕ) → Puts now now count count []
-puts_nothing now count = record { gained = Gains-nil now; later = omega arith }
 
 -- two texts, one after the other
 pub puts_both : (before mid now : Option (List ℕ)) (low count high : ℕ) (first second : List ℕ) → Puts before mid low count first → Puts mid now count high second → Puts before now low high (first ++ second)
@@ -70,9 +61,6 @@ pub record SoFar (before now : Option (List ℕ)) (low high : ℕ) (bytes left :
   pub gained : Gains before now done
   pub later : low ≤ high
 
-pub so_far_none : (now : Option (List ℕ)) (count : ℕ) (bytes : List ℕ) → SoFar now now count count bytes bytes
-so_far_none now count bytes = record { done = []; joined = refl; gained = Gains-nil now; later = omega arith }
-
 pub so_far_more : (before mid now : Option (List ℕ)) (low count high : ℕ) (bytes left after : List ℕ) (n : ℕ)
     → SoFar before mid low count bytes left → Gains mid now (take n left) → count ≤ high → after ≡ drop n left → SoFar before now low high bytes after
 so_far_more before mid now low count high bytes left after n so_far gained later e = record {
@@ -80,23 +68,6 @@ so_far_more before mid now low count high bytes left after n so_far gained later
   joined = append_assoc so_far.done (take n left) after ∙ ap (λ l. so_far.done ++ l) (ap (λ l. take n left ++ l) e ∙ take-append-drop n left) ∙ so_far.joined;
   gained = Gains-both before mid now so_far.done (take n left) so_far.gained gained;
   later = omega (arith, so_far.later);
-}
-
-pub so_far_all : (before now : Option (List ℕ)) (low high : ℕ) (bytes left : List ℕ) → SoFar before now low high bytes left → length left ≡ 0 → Puts before now low high bytes
-so_far_all before now low high bytes [] so_far none = record {
-  gained = subst (Gains before now) (sym (append-nil so_far.done) ∙ so_far.joined) so_far.gained;
-  later = so_far.later;
-}
-so_far_all before now low high bytes (b ∷ left) so_far none = absurd (omega arith)
-
-pub so_far_stops : (before mid now : Option (List ℕ)) (low count high : ℕ) (bytes left : List ℕ)
-    → SoFar before mid low count bytes left → Gains mid now [] → count ≤ high → Rose count high → Stops before now low high bytes
-so_far_stops before mid now low count high bytes left so_far gained later rose = record {
-  front = so_far.done;
-  part = record { rest = left; joined = so_far.joined };
-  gained = subst (Gains before now) (append-nil so_far.done) (Gains-both before mid now so_far.done [] so_far.gained gained);
-  later = omega (arith, so_far.later);
-  rose = omega (arith, so_far.later);
 }
 
 -- of an empty text nothing is left

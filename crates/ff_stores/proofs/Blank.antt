@@ -1,5 +1,5 @@
 -- A blank page has no scripts.
-use Rattle.std.proofs.Common.{◌≡◌, ℕ, suc, ◌+◌, ◌≤◌, arith, Bool, false, cond, None, List, [], ◌∷◌, ◌++◌, length, filter, refl, ap, ◌∙◌}
+use Rattle.std.proofs.Common.{◌≡◌, ℕ, suc, ◌+◌, arith, Bool, false, cond, None, List, [], ◌∷◌, ◌++◌, length, filter, refl, ap, ◌∙◌}
 use Rattle.std.specs.Prelude.{flat_map}
 use Rattle.std.proofs.lemmas.List.{get_or_push}
 use Rattle.ff_steps.specs.Rises.{RisesBy}

@@ -1,5 +1,5 @@
 -- Changes that keep stores valid, as the calls of the stores below say them.
-use Rattle.std.proofs.Common.{◌≡◌, ℕ, ◌<◌, cond, Option, Some, None, List, [], ◌∷◌, length, is_some, slice_get, sym, ap, subst, ◌∙◌}
+use Rattle.std.proofs.Common.{◌≡◌, ℕ, ◌<◌, cond, Option, Some, None, List, [], ◌∷◌, length, is_some, sym, subst}
 use Rattle.std.specs.Prelude.{MatchOption}
 use Rattle.std.specs.Str.{IsUtf8}
 use Rattle.ff_name.specs.Spelling.{IsDomain}
@@ -15,7 +15,7 @@ use Rattle.ff_machine.specs.declared.records.Pending.{Pending}
 use Rattle.ff_machine.specs.Net as net
 use Rattle.ff_machine.specs.Nodes as nodes
 use Rattle.ff_machine.specs.Windows as windows
-use Rattle.ff_machine.specs.Windows.{Windows, page_at, first_ready}
+use Rattle.ff_machine.specs.Windows.{Windows}
 use Rattle.ff_machine.specs.Stores as stores
 use Rattle.ff_machine.specs.Stores.{Stores}
 use Rattle.ff_machine.specs.Operators.{unless, does}
@@ -45,24 +45,8 @@ pub answer_valid : (s : Stores) (domain : List ℕ) (k : ℕ) (o : Option Pendin
 answer_valid s domain k None new valid h = subst (λ (r : net.Requests). IsStores (record s { requests = r })) (sym h) valid
 answer_valid s domain k (Some p) new valid h = subst (λ (r : net.Requests). IsStores (record s { requests = r })) (sym h) ((answered_valid s domain k valid).stores)
 
--- it is the one that is taken out
-pub answer_taken : (s : Stores) (domain : List ℕ) (k : ℕ) (o : Option Pending) (new : net.Requests) → o ≡ slice_get (net.asked s.requests domain) k
-    → MatchOption o (new ≡ s.requests) (λ _. new ≡ net.answered s.requests domain k)
-    → MatchOption o ((stores.take_answer s domain k ≡ None) × (record s { requests = new } ≡ s)) (λ p. stores.take_answer s domain k ≡ Some (p, record s { requests = new }))
-answer_taken s domain k None new is h = (ap (stores.taken_out s domain k) (sym is), ap (λ (r : net.Requests). record s { requests = r }) h)
-answer_taken s domain k (Some p) new is h =
-    ap (stores.taken_out s domain k) (sym is) ∙ ap (λ (r : net.Requests). let o : Option (Pending × Stores) = Some (p, record s { requests = r }) in o) (sym h)
-
 -- a queue from which a script is taken, if it begins with one
 pub pop_valid : (s : Stores) (page : PageId) (o : Option Expr) (new : Windows) → IsStores s → page.0 < length s.windows.pages
     → MatchOption o (new ≡ s.windows) (λ _. new ≡ windows.popped s.windows page) → IsStores (record s { windows = new })
 pop_valid s page None new valid lives h = subst (λ (w : Windows). IsStores (record s { windows = w })) (sym h) valid
 pop_valid s page (Some body) new valid lives h = subst (λ (w : Windows). IsStores (record s { windows = w })) (sym h) ((popped_valid s page valid lives).stores)
-
--- it is the one that is taken
-pub pop_taken : (s : Stores) (page : PageId) (o : Option Expr) (new : Windows) → o ≡ first_ready (page_at s.windows page).queue
-    → MatchOption o (new ≡ s.windows) (λ _. new ≡ windows.popped s.windows page)
-    → MatchOption o ((stores.popped_of s (Some page) ≡ None) × (record s { windows = new } ≡ s)) (λ body. stores.popped_of s (Some page) ≡ Some ((page, body), record s { windows = new }))
-pop_taken s page None new is h = (ap (stores.popped_script s page) (sym is), ap (λ (w : Windows). record s { windows = w }) h)
-pop_taken s page (Some body) new is h =
-    ap (stores.popped_script s page) (sym is) ∙ ap (λ (w : Windows). let o : Option ((PageId × Expr) × Stores) = Some ((page, body), record s { windows = w }) in o) (sym h)

@@ -1,11 +1,8 @@
-pub mod Begun
 pub mod Blank
 pub mod Changed
 pub mod Joined
-pub mod Loaded
 pub mod Opening
 pub mod Ready
-pub mod Sent
 pub mod Showing
 pub mod Copying
 pub mod Shown

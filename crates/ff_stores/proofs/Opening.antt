@@ -1,51 +1,24 @@
 -- A window that is opened where there is room, and what is asked for then.
-use Rattle.std.proofs.Common.{◌≡◌, ℕ, ◌<◌, Bool, true, false, Option, Some, None, List, [], ◌∷◌, ◌++◌, Result, Ok, Err, All, length, refl, sym, ap, subst, ◌∙◌, append-nil, append_assoc}
+use Rattle.std.proofs.Common.{◌≡◌, ℕ, ◌<◌, Bool, true, false, Option, Some, None, List, [], ◌∷◌, ◌++◌, Result, Err, All, length, refl, sym, ap, subst, ◌∙◌}
 use Rattle.std.specs.Prelude.{◌||◌}
 use Rattle.std.specs.List.{list_any}
-use Rattle.std.proofs.lemmas.Bool.{false≢true, eqb-true}
+use Rattle.std.proofs.lemmas.Bool.{eqb-true}
 use Rattle.std.proofs.lemmas.List.Elements.{All-head, All-tail}
-use Rattle.ff_contract.proofs.Sequence.{front_first, front_second, front_none}
+use Rattle.ff_contract.proofs.Sequence.{front_first, front_none}
 use Rattle.ff_reactive.specs.Turns.{Stepped}
 use Rattle.ff_value.specs.declared.ids.WinId.{WinId}
 use Rattle.ff_value.specs.declared.output.Out.{Out}
 use Rattle.ff_machine.specs.Answers.{Makes, MakesIfRoom}
 use Rattle.ff_machine.specs.Windows.{is_win, is_open}
-use Rattle.ff_machine.specs.Stores.{Stores, and_then, or_nothing}
+use Rattle.ff_machine.specs.Stores.{Stores, and_then}
 use Rattle.ff_machine.specs.Valid.{IsStores}
 
 module _ (E : Type 0) (s : Stores) (puts : List Out) (next : Stores → Stepped Out Stores) (s' : Stores) (puts' : List Out) where
-  -- there was no room for the first step
-  pub no_room : (X : Type 0) (x : X) (o : Option (Stepped Out Stores)) → MakesIfRoom s s' puts puts' o (let r : Result Bool E = Ok false in r)
-      → Makes s s' puts puts' (and_then s o next) (let r : Result X E = Ok x in r)
-  no_room X x None h = (h.1, h.2 ∙ sym (append-nil puts))
-  no_room X x (Some step) h = absurd (false≢true h.0)
-
   -- the first step was refused memory
   pub room_refused : (X : Type 0) (e : E) (o : Option (Stepped Out Stores)) → MakesIfRoom s s' puts puts' o (let r : Result Bool E = Err e in r)
       → Makes s s' puts puts' (and_then s o next) (let r : Result X E = Err e in r)
   room_refused X e None h = front_none puts puts' [] h
   room_refused X e (Some step) h = front_first puts puts' step.outputs (next step.after).outputs (step.outputs ++ (next step.after).outputs) refl h
-
-  -- the first step was made, and then the next
-  pub both_made : (X : Type 0) (r : Result X E) (o : Option (Stepped Out Stores)) (mid : Stores) (mid_puts : List Out) → MakesIfRoom s mid puts mid_puts o (let q : Result Bool E = Ok true in q)
-      → Makes mid s' mid_puts puts' (next mid) r → Makes s s' puts puts' (and_then s o next) r
-  both_made X r None mid mid_puts h m = absurd (false≢true (sym h.0))
-  both_made X (Ok x) (Some step) mid mid_puts h m =
-      let at = rw h.1 at m in
-      (at.0, at.1 ∙ ap (λ os. os ++ (next step.after).outputs) h.2 ∙ append_assoc puts step.outputs (next step.after).outputs)
-  both_made X (Err e) (Some step) mid mid_puts h m =
-      let at = rw h.1 at m in
-      front_second puts mid_puts puts' step.outputs (next step.after).outputs (step.outputs ++ (next step.after).outputs) refl h.2 at
-
-  -- a step that is made where there is room
-  pub or_made : (X : Type 0) (x : X) (b : Bool) (o : Option (Stepped Out Stores)) → MakesIfRoom s s' puts puts' o (let r : Result Bool E = Ok b in r) → Makes s s' puts puts' (or_nothing s o) (let r : Result X E = Ok x in r)
-  or_made X x b None h = (h.1, h.2 ∙ sym (append-nil puts))
-  or_made X x b (Some step) h = (h.1, h.2)
-
-  -- and is refused memory
-  pub or_refused : (X : Type 0) (e : E) (o : Option (Stepped Out Stores)) → MakesIfRoom s s' puts puts' o (let r : Result Bool E = Err e in r) → Makes s s' puts puts' (or_nothing s o) (let r : Result X E = Err e in r)
-  or_refused X e None h = front_none puts puts' [] h
-  or_refused X e (Some step) h = h
 
 among : (n : ℕ) (w : WinId) (ws : List WinId) → All (λ v. v.0 < n) ws → list_any (is_win w) ws ≡ true → w.0 < n
 among n w [] all e = cc

@@ -1,6 +1,5 @@
 -- Scripts that are started one after another.
 use Rattle.std.proofs.Common.{◌≡◌, ℕ, ◌+◌, ◌<◌, ◌≤◌, Bool, true, false, cond, ◌==◌, List, [], ◌∷◌, ◌++◌, length, drop, get_or, refl, sym, ap, subst, ◌∙◌, append-nil, append_assoc, arith, add-one, drop-cons, length-set}
-use Rattle.std.proofs.Math.Seq.{drop-length}
 use Rattle.std.proofs.lemmas.Bool.{eq-eqb}
 use Rattle.ff_contract.specs.Appending.{AppendsFront}
 use Rattle.ff_contract.proofs.Sequence.{front_first, front_second}
@@ -12,12 +11,11 @@ use Rattle.ff_value.specs.declared.output.Out.{Out}
 use Rattle.ff_machine.specs.declared.records.Shape.{Shape}
 use Rattle.ff_machine.specs.declared.records.Shape.TheVariants as shape
 use Rattle.ff_machine.specs.Nodes.{node_at, scripts, started, Walk}
-use Rattle.ff_machine.specs.Shapes.{is_unstarted}
 use Rattle.ff_machine.specs.Stores as stores
 use Rattle.ff_machine.specs.Stores.{Stores, start_one, start_each}
 use Rattle.ff_machine.specs.Valid.{IsStores}
 use Rattle.ff_laws.proofs.Sums.{if_so}
-use Rattle.ff_laws.proofs.Starting.{AreUnstarted, filter_unstarted, others_unstarted, unstarted_lives}
+use Rattle.ff_laws.proofs.Starting.{AreUnstarted, filter_unstarted, others_unstarted}
 use Rattle.ff_laws.proofs.Walks.{times, scripts_once}
 
 chosen_pages : (n : ℕ) (b : Bool) (x y : Stepped Out Stores) → length x.after.windows.pages ≡ n → length y.after.windows.pages ≡ n → length (cond b x y).after.windows.pages ≡ n
@@ -70,14 +68,6 @@ module _ (page : PageId) (all : List NodeId) (first : Stores) (puts : List Out) 
   left_is : drop i all ≡ n ∷ drop (i + 1) all
   left_is = next_is all i d n within is
 
-  -- it wasn't started
-  pub next_unstarted : is_unstarted (node_at now.nodes n).shape ≡ true
-  next_unstarted = (subst (AreUnstarted now.nodes) left_is so.left).0
-
-  -- it was made
-  pub next_lives : n.0 < length now.nodes
-  next_lives = unstarted_lives now.nodes n next_unstarted
-
   once_left : (m : NodeId) → times m (n ∷ drop (i + 1) all) ≤ 1
   once_left m = subst (λ (ns : List NodeId). times m ns ≤ 1) left_is (so.once m)
 
@@ -108,12 +98,3 @@ module _ (page : PageId) (all : List NodeId) (first : Stores) (puts : List Out) 
       let rest = (start_each page (drop (i + 1) all) (start_one page n now).after).outputs in
       let total = rw left_is at so.total_is in
       rw total (front_second puts so_far more so.done (one ++ rest) (so.done ++ (one ++ rest)) refl so.so_far_is (front_first so_far more one rest (one ++ rest) refl f))
-
--- all were started
-pub started_all : (page : PageId) (all : List NodeId) (first : Stores) (puts : List Out) (now : Stores) (so_far : List Out) → IsStarting page all first puts (length all) now so_far
-    → (now ≡ (start_each page all first).after) × (so_far ≡ puts ++ (start_each page all first).outputs)
-started_all page all first puts now so_far so =
-    let none : drop (length all) all ≡ [] = drop-length all in
-    let total = rw none at so.total_is in
-    let after = rw none at so.after_is in
-    (sym after, so.so_far_is ∙ ap (λ os. puts ++ os) (sym (total ∙ append-nil so.done)))

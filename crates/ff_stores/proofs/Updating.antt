@@ -1,20 +1,16 @@
 -- What the user sees of the open windows, put one after another.
-use Rattle.std.proofs.Common.{◌≡◌, ℕ, ◌+◌, ◌<◌, ◌≤◌, Bool, true, false, cond, Some, None, List, [], ◌∷◌, ◌++◌, length, drop, get_or, slice_get, refl, sym, ap, subst, ◌∙◌, append-nil, append_assoc, arith, add-one, drop-cons, ⊎_elim}
+use Rattle.std.proofs.Common.{◌≡◌, ℕ, ◌+◌, ◌≤◌, Bool, true, false, cond, Some, None, List, [], ◌∷◌, ◌++◌, length, drop, get_or, slice_get, refl, sym, ap, ◌∙◌, append-nil, append_assoc, arith, add-one, drop-cons, ⊎_elim}
 use Rattle.std.specs.FinSet as finset
 use Rattle.std.specs.Ordering.{nat_cmp}
 use Rattle.std.proofs.lemmas.Bool.{cases_lt}
 use Rattle.std.proofs.lemmas.Option.{get_or_from_slice_get, slice_get-get_or, slice_get_within}
 use Rattle.std.proofs.lemmas.List.{drop_all}
-use Rattle.ff_contract.specs.Appending.{AppendsFront}
-use Rattle.ff_contract.proofs.Sequence.{front_done}
 use Rattle.ff_value.specs.declared.ids.WinId.{WinId}
 use Rattle.ff_value.specs.declared.output.Out.{Out}
 use Rattle.ff_value.specs.declared.output.Out.TheVariants as out
 use Rattle.ff_machine.specs.Nodes as nodes
 use Rattle.ff_machine.specs.Windows.{page_at, window_at}
 use Rattle.ff_machine.specs.Stores.{Stores, updates_from}
-use Rattle.ff_machine.specs.Valid.{IsStores}
-use Rattle.ff_machine.specs.declared.limits.TheConstants.{MOST_WINDOWS}
 
 -- what is put of one window at a place
 abbrev pub update : Stores → ℕ → WinId → List Out
@@ -30,10 +26,6 @@ pub record IsUpdating (s : Stores) (puts : List Out) (i : ℕ) (so_far : List Ou
   pub so_far_is : so_far ≡ puts ++ done
   pub total_is : updates_from s 0 s.windows.opened ≡ done ++ updates_from s i (drop i s.windows.opened)
   pub within : i ≤ length s.windows.opened
-
--- at the beginning
-pub updating_none : (s : Stores) (puts : List Out) → IsUpdating s puts 0 puts
-updating_none s puts = record { done = []; so_far_is = sym (append-nil puts); total_is = refl; within = omega arith }
 
 module _ (s : Stores) (puts : List Out) (i : ℕ) (so_far : List Out) (so : IsUpdating s puts i so_far) where
   -- one window more
@@ -52,10 +44,6 @@ module _ (s : Stores) (puts : List Out) (i : ℕ) (so_far : List Out) (so : IsUp
         within = omega (arith, lt);
       }
 
-  -- memory was refused
-  pub updating_refused : (more : List Out) → more ≡ so_far → AppendsFront puts more (updates_from s 0 s.windows.opened)
-  updating_refused more same = front_done puts more (updates_from s 0 s.windows.opened) so.done (updates_from s i (drop i s.windows.opened)) (same ∙ so.so_far_is) so.total_is
-
   -- all were put
   pub updating_all : slice_get s.windows.opened i ≡ None → so_far ≡ puts ++ updates_from s 0 s.windows.opened
   updating_all none =
@@ -65,22 +53,6 @@ module _ (s : Stores) (puts : List Out) (i : ℕ) (so_far : List Out) (so : IsUp
       so.so_far_is ∙ ap (λ os. puts ++ os) (sym (total ∙ append-nil so.done)) where
         is_none : (w : WinId) → Some w ≡ None → ⊥
         is_none w e = cc
-
--- A place among the open windows.
-
-module _ (s : Stores) (i : ℕ) (w : WinId) (valid : IsStores s) (is : slice_get s.windows.opened i ≡ Some w) where
-  -- its window was made
-  pub opened_lives : w.0 < length s.windows.windows
-  opened_lives =
-      let lt = slice_get_within s.windows.opened i w is in
-      let here = get_or_from_slice_get s.windows.opened i w w is in
-      subst (λ (v : WinId). v.0 < length s.windows.windows) here (valid.windows.opened.there i w lt)
-
-  -- it is below so many
-  pub few_places : i < MOST_WINDOWS
-  few_places =
-      let lt = slice_get_within s.windows.opened i w is in
-      let few = valid.windows.opened.few in omega (arith, lt, few)
 
 -- where nothing was changed nothing is put
 pub none_updated : (s : Stores) → s.touched ≡ finset.empty → (at : ℕ) (ws : List WinId) → updates_from s at ws ≡ []

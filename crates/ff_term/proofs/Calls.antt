@@ -49,9 +49,6 @@ mutual
 pub without-calls : (e : Running) → insides e ≡ 0 → CallsStandAround e
 without-calls e h = let p = at_most_all e in omega arith
 
-without-calls-among : (es : Runnings) → insides_among es ≡ 0 → AmongStandAround es
-without-calls-among es h = let p = at_most_among es in omega arith
-
 -- an expression of which nothing is evaluated
 pub whole-around : (x : Expr) → CallsStandAround (whole x)
 whole-around x = without-calls (whole x) (source x).insides

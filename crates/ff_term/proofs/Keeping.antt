@@ -16,10 +16,6 @@ chosen_list : (b : Bool) (P : Runnings → Type 0) (x y : Runnings) → P x → 
 chosen_list true P x y p q = p
 chosen_list false P x y p q = q
 
-cond_same : (b : Bool) (x y z : ℕ) → x ≡ z → y ≡ z → cond b x y ≡ z
-cond_same true x y z p q = p
-cond_same false x y z p q = q
-
 many-cond : (b : Bool) (x y : Runnings) (n : ℕ) → how_many x ≡ n → how_many y ≡ n → how_many (cond b x y) ≡ n
 many-cond true x y n p q = p
 many-cond false x y n p q = q

@@ -1,5 +1,5 @@
 -- Which words are numbers below 2 ^ 32.
-use Rattle.std.proofs.Common.{◌≡◌, ◌<◌, ◌≤◌, ◌^◌, ◌↔◌, ℕ, Bool, true, false, ◌&&◌, nat_lt, List, Option, Some, None, cond, refl, sym, ap, ◌∙◌, subst, arith}
+use Rattle.std.proofs.Common.{◌≡◌, ◌<◌, ◌^◌, ◌↔◌, ℕ, Bool, true, false, ◌&&◌, nat_lt, List, Option, Some, None, cond, refl, sym, ap, ◌∙◌, subst, arith}
 use Rattle.std.specs.Str.{bytes_eq}
 use Rattle.std.specs.Str.Parse.{digits_value}
 use Rattle.std.proofs.lemmas.Bool.{and_parts}
@@ -19,12 +19,6 @@ is_number text = nat_lt (digits_value 10 text) 4294967296 && bytes_eq (nat_text 
 below_test : (n : ℕ) → n < 2 ^ 32 → nat_lt n 4294967296 ≡ true
 below_test n small = grind (arith, nat_tests)
 
-above_test : (n : ℕ) → 2 ^ 32 ≤ n → nat_lt n 4294967296 ≡ false
-above_test n large = grind (arith, nat_tests)
-
-below_from : (n : ℕ) → nat_lt n 4294967296 ≡ true → n < 2 ^ 64
-below_from n test = grind (arith, nat_tests)
-
 small_from : (n : ℕ) → nat_lt n 4294967296 ≡ true → n < 2 ^ 32
 small_from n test = grind (arith, nat_tests)
 
@@ -38,28 +32,8 @@ number_spelled n text small e =
     let low : nat_lt n 4294967296 ≡ true = below_test n small in
     rw value (rw (low, same) refl)
 
-pub number_large : (n : ℕ) (text : List ℕ) → n < 2 ^ 64 → 2 ^ 32 ≤ n → text ≡ nat_text n → number_of text ≡ None
-number_large n text small large e =
-    let value : digits_value 10 text ≡ n = value_of n text small e in
-    let high : nat_lt n 4294967296 ≡ false = above_test n large in
-    rw value (rw high refl)
-
-pub number_none : (text : List ℕ) → ((n : ℕ) → n < 2 ^ 64 → text ≡ nat_text n → ⊥) → number_of text ≡ None
-number_none text none = go (is_number text) refl where
-  go : (t : Bool) → is_number text ≡ t → cond t (Some (digits_value 10 text)) None ≡ None
-  go true e =
-      let parts = and_parts (nat_lt (digits_value 10 text) 4294967296) (bytes_eq (nat_text (digits_value 10 text)) text) e in
-      absurd (none (digits_value 10 text) (below_from (digits_value 10 text) parts.0) (sym ((bytes_eq-Decides (nat_text (digits_value 10 text)) text).0 parts.1)))
-  go false e = refl
-
-pub number_of_none : (text : List ℕ) (answer : Option ℕ) → IsNatOf text answer → answer ≡ None → number_of text ≡ None
-number_of_none text answer is e = number_none text (λ n small at. let found : answer ≡ Some n = (is.spelled n small).1 at in cc)
-
 pub number_of_small : (text : List ℕ) (answer : Option ℕ) (n : ℕ) → IsNatOf text answer → answer ≡ Some n → n < 2 ^ 32 → number_of text ≡ Some n
 number_of_small text answer n is e small = number_spelled n text small ((is.spelled n (omega (arith, small))).0 e)
-
-pub number_of_large : (text : List ℕ) (answer : Option ℕ) (n : ℕ) → IsNatOf text answer → answer ≡ Some n → n < 2 ^ 64 → 2 ^ 32 ≤ n → number_of text ≡ None
-number_of_large text answer n is e small large = number_large n text small large ((is.spelled n small).0 e)
 
 number_back : (text : List ℕ) (n : ℕ) → number_of text ≡ Some n → (n < 2 ^ 32) × (text ≡ nat_text n)
 number_back text n e = go (is_number text) refl e where

@@ -110,11 +110,6 @@ all_placed P p (q ∷ others) one all = go (key_below q p) refl (all_placed P p 
   go true e rest = rw e (all.0, rest)
   go false e rest = rw e (one, all)
 
--- a fact of each pair holds of each in the order of their keys
-pub all_ordered : (P : Pair → Type 0) (pairs : List Pair) → AllByRecursion P pairs → AllByRecursion P (in_key_order pairs)
-all_ordered P [] all = tt
-all_ordered P (p ∷ pairs) all = all_placed P p (in_key_order pairs) all.0 (all_ordered P pairs all.1)
-
 all_wider : (P Q : Pair → Type 0) → ((p : Pair) → P p → Q p) → (pairs : List Pair) → AllByRecursion P pairs → AllByRecursion Q pairs
 all_wider P Q each [] all = tt
 all_wider P Q each (p ∷ pairs) all = (each p all.0, all_wider P Q each pairs all.1)

@@ -6,7 +6,7 @@ use Rattle.std.proofs.lemmas.List.{get_or-map, get_or_default}
 use Rattle.ff_reactive.specs.Runs.{joined, after_from, plain_from}
 use Rattle.ff_reactive.specs.Turns.{settle, machine_of}
 use Rattle.ff_reactive.specs.Worlds.{Copy, leader, levels, each, new_copy, copy_at, offer, offered, stepped, step_copy, emptied, settled, finish, left, split, new_world, world_arrive, world_turn, world_take, world_drain, world_left}
-use Rattle.ff_reactive.proofs.Below.{get_or-each, each_agree, each_is, each_more, sum_agree_below}
+use Rattle.ff_reactive.proofs.Below.{get_or-each, each_agree, each_is, sum_agree_below}
 use Rattle.ff_reactive.proofs.Classes.{length-split}
 use Rattle.ff_reactive.proofs.Worlds.{copy-arrive, copy-turn, copy-take, copy-drain, copy-new, levels-new}
 use Rattle.ff_machine.specs.Machine.{reactor}
@@ -129,7 +129,3 @@ kept_push (x ∷ ks) k puts = ap₂ (λ ps ws. under (cut x.counts ps) x.pool �
 pub length_kept : (ks : List Kept) (puts : List (List Out)) → length (kept_worlds ks puts) ≡ length ks
 length_kept [] puts = refl
 length_kept (k ∷ ks) puts = ap suc (length_kept ks puts)
-
--- no outputs, for one level more
-pub none_more : (n : ℕ) → none_put n ++ [] ∷ [] ≡ none_put (n + 1)
-none_more n = sym (each_more (λ l. []) n)

@@ -1,5 +1,5 @@
 -- The outputs of one level after another are taken from a pool, and go behind those beside it.
-use Rattle.std.proofs.Common.{◌≡◌, ℕ, ◌+◌, ◌<◌, Bool, true, false, cond, ◌==◌, List, [], ◌++◌, length, set, refl, sym, ap, subst, ◌∙◌, append_assoc, append-nil, arith, length-set, get_or-set_same, get_or-set_other}
+use Rattle.std.proofs.Common.{◌≡◌, ℕ, ◌+◌, ◌<◌, Bool, true, false, cond, ◌==◌, List, [], ◌++◌, length, set, refl, sym, ap, subst, ◌∙◌, append_assoc, arith, length-set, get_or-set_same, get_or-set_other}
 use Rattle.std.proofs.lemmas.Bool.{eqb-true, eqb-false}
 use Rattle.ff_machine.specs.Machine.{reactor}
 use Rattle.ff_pool.specs.Pooled as pooled
@@ -7,7 +7,7 @@ use Rattle.ff_pool.specs.Pooled.{Pooled, taken, copy_of}
 use Rattle.ff_reactive.specs.Worlds.{levels, emptied}
 use Rattle.ff_reactive.proofs.Worlds.{copy-take, leaders-take}
 use Rattle.ff_stream.specs.Owed.{Begins}
-use Rattle.ff_travel.specs.Beside.{put_at, under, HasGathered}
+use Rattle.ff_travel.specs.Beside.{put_at, under}
 use Rattle.ff_travel.proofs.Beside.{behind-take}
 use Rattle.ff_value.specs.declared.output.Out.{Out}
 
@@ -20,23 +20,6 @@ pub record IsGathering (before : Pooled) (puts_before : List (List Out)) (now : 
   pub levels : pooled.size now ≡ pooled.size before
   pub count : length puts_now ≡ length puts_before
   pub more : (k : ℕ) → k < length puts_before → Begins (put_at puts_now k) (put_at puts_before k)
-
-none_below : {X : Type 0} (k : ℕ) → k < 0 → X
-none_below k lt = absurd (none k lt)
-  where
-    none : (n : ℕ) → n < 0 → ⊥
-    none n below = omega (arith, below)
-
-pub gather_start : (pool : Pooled) (puts : List (List Out)) → IsGathering pool puts pool puts 0
-gather_start pool puts = record {
-  same = refl;
-  taken = λ k lt in_it. none_below k lt;
-  fuel = refl;
-  unspent = refl;
-  levels = refl;
-  count = refl;
-  more = λ k lt. ([], sym (append-nil (put_at puts k)));
-}
 
 module _ (before : Pooled) (puts_before : List (List Out)) (now next : Pooled) (puts_now puts_next : List (List Out)) (l : ℕ) (outs : List Out)
     (at : IsGathering before puts_before now puts_now l) (in_it : l < pooled.size now) (counts : length puts_before ≡ pooled.size before)
@@ -75,16 +58,3 @@ module _ (before : Pooled) (puts_before : List (List Out)) (now next : Pooled) (
     count = ap length laid ∙ length-set puts_now l (put_at puts_now l ++ outs) ∙ at.count;
     more = λ k lt. subst (λ ps. Begins (put_at ps k) (put_at puts_before k)) (sym laid) (more_at k (k == l) refl (at.more k lt));
   }
-
--- all levels
-pub gathered : (before : Pooled) (puts_before : List (List Out)) (now : Pooled) (puts_now : List (List Out)) (l : ℕ) → IsGathering before puts_before now puts_now l → l ≡ pooled.size before
-    → HasGathered before puts_before now puts_now
-gathered before puts_before now puts_now l at all = record {
-  same = at.same;
-  taken = λ k lt. at.taken k (let e = at.levels in omega (arith, e, all, lt)) lt;
-  fuel = at.fuel;
-  unspent = at.unspent;
-  levels = at.levels;
-  count = at.count;
-  more = at.more;
-}

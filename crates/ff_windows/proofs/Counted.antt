@@ -1,5 +1,5 @@
 -- How many pages have a queue that begins with a script, after each change.
-use Rattle.std.proofs.Common.{◌≡◌, ℕ, zero, suc, ◌+◌, ◌<◌, ◌≤◌, Bool, true, false, List, [], ◌∷◌, length, get_or, set, is_some, refl, ap, ◌∙◌, arith}
+use Rattle.std.proofs.Common.{◌≡◌, ℕ, ◌+◌, ◌<◌, ◌≤◌, Bool, true, false, List, [], ◌∷◌, length, get_or, set, is_some, ap, ◌∙◌, arith}
 use Rattle.std.proofs.lemmas.List.{get_or-set_same}
 use Rattle.std.proofs.lemmas.List.Sums.{sum_by-cons, sum_by-set}
 use Rattle.ff_machine.specs.Windows.{Page, no_page, first_ready}
@@ -9,28 +9,14 @@ use Rattle.ff_windows.specs.Queues.{one_if, count_ready}
 abbrev pub counts : Page → ℕ
 counts page = one_if (is_some (first_ready page.queue))
 
-zero_if : (b : Bool) → one_if b ≡ 0 → b ≡ false
-zero_if true h = absurd (omega (arith, h))
-zero_if false h = refl
-
 at_most_one : (b : Bool) → one_if b ≤ 1
 at_most_one true = omega arith
 at_most_one false = omega arith
-
--- where none is counted, no queue begins with one
-pub none_ready : (pages : List Page) → count_ready pages ≡ 0 → (i : ℕ) → is_some (first_ready (get_or pages i no_page).queue) ≡ false
-none_ready [] h i = refl
-none_ready (page ∷ pages) h zero = zero_if (is_some (first_ready page.queue)) (omega (arith, h, sum_by-cons counts page pages))
-none_ready (page ∷ pages) h (suc i) = none_ready pages (omega (arith, h, sum_by-cons counts page pages)) i
 
 -- no more are counted than there are pages
 pub ready_few : (pages : List Page) → count_ready pages ≤ length pages
 ready_few [] = omega arith
 ready_few (page ∷ pages) = omega (arith, sum_by-cons counts page pages, at_most_one (is_some (first_ready page.queue)), ready_few pages)
-
--- one of them is within the count
-pub one_within : (pages : List Page) (i : ℕ) → i < length pages → counts (get_or pages i no_page) ≤ count_ready pages
-one_within pages i l = omega (arith, sum_by-set counts pages i no_page no_page l)
 
 -- so there is room to count one more
 pub one_more : (pages : List Page) (ready most : ℕ) → ready ≡ count_ready pages → length pages ≤ most → most < 4294967295 → ready < 4294967295

@@ -7,7 +7,7 @@ use Rattle.std.specs.Cmp.{Equal-is, eq_by_cmp_equiv, nat_cmp_total, nat_eq_equiv
 use Rattle.std.specs.BTreeSet.{BTreeSet, contains, Updates}
 use Rattle.std.specs.FinMap as finmap
 use Rattle.std.proofs.lemmas.List.{append-nil, drop_more, take_more, take-append-drop, map-append}
-use Rattle.std.proofs.lemmas.List.Elements.{All-push, All-get_or, filter_map-append}
+use Rattle.std.proofs.lemmas.List.Elements.{All-push, filter_map-append}
 use Rattle.std.proofs.lemmas.List.Folds.{list_any-append}
 use Rattle.std.proofs.lemmas.Map.Keys.{IsDistinct-push}
 use Rattle.ff_tree.specs.declared.tree.Expr.{Expr}
@@ -94,9 +94,6 @@ module _ (queue : List Entry) (i : ℕ) (x : Entry) (within : i < length queue) 
 
   whole : queue ≡ take i queue ++ x ∷ drop (i + 1) queue
   whole = sym (take-append-drop i queue) ∙ ap (λ (ys : List Entry). take i queue ++ ys) (drop_more queue i x within ∙ ap (λ y. y ∷ drop (i + 1) queue) (sym is))
-
-  pub entry_there : (next : ℕ) → All (IsEntry next) queue → IsEntry next x
-  entry_there next all = subst (IsEntry next) (sym is) (All-get_or (IsEntry next) queue i x within all)
 
   pub entry_more : (next : ℕ) → All (IsEntry next) (take i queue) → IsEntry next x → All (IsEntry next) (take (i + 1) queue)
   entry_more next so_far here = subst (All (IsEntry next)) (sym more) (All-push (IsEntry next) (take i queue) x so_far here)
