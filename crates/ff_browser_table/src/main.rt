@@ -61,18 +61,37 @@ fn run<C: Ledger>(rt: &HostRuntime, blank: Blank) -> Result<()>
         trees: Trees::new(rt.alloc()),
         scripts: Scripts::new(rt.alloc()),
     };
+    follow_all(rt, &mut left, &mut copies)
+}
+
+/// Prints each line and what comes of it. What the lines leave is lent, so that the proof drops it at
+/// no way out of the loop.
+fn follow_all<C: Ledger>(rt: &HostRuntime, left: &mut Left, copies: &mut Steps<C>) -> Result<()> {
     let mut part = Part::Frames;
     for line in rt.lines(rt.alloc()) {
-        let line = line?;
-        match line.as_str().strip_prefix("== ") {
-            Some(heading) => {
-                println!(rt; "== {heading}")?;
-                part = part_of(heading)?;
-            }
-            None => follow(rt, &mut left, part, line.as_str(), &mut copies)?,
-        }
+        part = take(rt, left, part, line?.as_str(), copies)?;
     }
     Ok(())
+}
+
+/// Prints a line and what comes of it; gives the part of the line after it.
+fn take<C: Ledger>(
+    rt: &HostRuntime,
+    left: &mut Left,
+    part: Part,
+    line: &str,
+    copies: &mut Steps<C>,
+) -> Result<Part> {
+    match line.strip_prefix("== ") {
+        Some(heading) => {
+            println!(rt; "== {heading}")?;
+            part_of(heading)
+        }
+        None => {
+            follow(rt, left, part, line, copies)?;
+            Ok(part)
+        }
+    }
 }
 
 /// The part that a heading begins.
