@@ -59,6 +59,28 @@ fn windows(browser: &Browser) -> usize {
 type Story = (u32, u32, usize, usize, usize, usize);
 
 /// A browser takes an input, and a fork of it one more.
+fn story_of<C: Ledger, L: Ledger>(
+    alloc: Global,
+    browser: &mut Browser,
+    copies: &mut Steps<C>,
+    turns: &mut Steps<L>,
+) -> Result<Story, NoMemory> {
+    let mut outs = Vec::new(alloc);
+    let mut more = Vec::new(alloc);
+    let first = open(browser, &mut outs, copies, turns)?;
+    let mut fork = browser.fork(copies)?;
+    let second = open(&mut fork, &mut more, copies, turns)?;
+    Ok((
+        first,
+        second,
+        windows(browser),
+        windows(&fork),
+        outs.len(),
+        more.len(),
+    ))
+}
+
+/// The story of a new browser.
 fn fork_goes_on<C: Ledger, L: Ledger>(
     alloc: Global,
     copies: Blank,
@@ -73,20 +95,8 @@ fn fork_goes_on<C: Ledger, L: Ledger>(
 {
     let mut copies = Steps::<C>::new(copies);
     let mut turns = Steps::<L>::new(turns);
-    let mut outs = Vec::new(alloc);
     let mut browser = Browser::new(alloc, 5);
-    let first = open(&mut browser, &mut outs, &mut copies, &mut turns)?;
-    let mut fork = browser.fork(&mut copies)?;
-    let mut more = Vec::new(alloc);
-    let second = open(&mut fork, &mut more, &mut copies, &mut turns)?;
-    Ok((
-        first,
-        second,
-        windows(&browser),
-        windows(&fork),
-        outs.len(),
-        more.len(),
-    ))
+    story_of(alloc, &mut browser, &mut copies, &mut turns)
 }
 
 /// Prints the story.

@@ -51,6 +51,37 @@ fn verdicts_of(alloc: Global, auditor: &Auditor) -> Result<Vec<Verdict>, NoMemor
     Ok(verdicts)
 }
 
+/// Both programs take the inputs of the lines.
+fn hear_all<C: Ledger, L: Ledger>(
+    alloc: Global,
+    auditor: &mut Auditor,
+    lines: &[String],
+    copies: &mut Steps<C>,
+    turns: &mut Steps<L>,
+) -> Result<(), NoMemory>
+    requires { (is : List Input) × IsFed auditor.old is }
+    ensures { OnOk result ((is : List Input) × IsFed auditor.new is) }
+{
+    for line in lines {
+        hear(alloc, auditor, line.as_str(), copies, turns)?;
+    }
+    Ok(())
+}
+
+/// What an audit has found.
+fn found(alloc: Global, auditor: &Auditor) -> Result<Findings, NoMemory>
+    requires { (is : List Input) × IsFed auditor.now is }
+{
+    let mut report = Vec::new(alloc);
+    auditor.report(&mut report)?;
+    Ok(Findings {
+        verdicts: verdicts_of(alloc, auditor)?,
+        leaks: auditor.leaks(),
+        report,
+        spent: auditor.spent(),
+    })
+}
+
 /// Audits the lines.
 fn audit<C: Ledger, L: Ledger>(
     alloc: Global,
@@ -68,17 +99,8 @@ fn audit<C: Ledger, L: Ledger>(
     let mut copies = Steps::<C>::new(copies);
     let mut turns = Steps::<L>::new(turns);
     let mut auditor = Auditor::new(alloc, Policy::builtin(alloc)?)?;
-    for line in lines {
-        hear(alloc, &mut auditor, line.as_str(), &mut copies, &mut turns)?;
-    }
-    let mut report = Vec::new(alloc);
-    auditor.report(&mut report)?;
-    Ok(Findings {
-        verdicts: verdicts_of(alloc, &auditor)?,
-        leaks: auditor.leaks(),
-        report,
-        spent: auditor.spent(),
-    })
+    hear_all(alloc, &mut auditor, lines, &mut copies, &mut turns)?;
+    found(alloc, &auditor)
 }
 
 /// A line that one of the programs puts, or none.

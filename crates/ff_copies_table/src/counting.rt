@@ -118,6 +118,24 @@ fn turns_of<C: Ledger, L: Ledger>(
     Ok(count)
 }
 
+/// The turns that the inputs of the lines take in a pool, each by itself.
+fn counted<C: Ledger, L: Ledger>(
+    alloc: Global,
+    policy: &Policy,
+    lines: &[String],
+    pool: &mut Pool,
+    copies: &mut Steps<C>,
+    turns: &mut Steps<L>,
+) -> Result<Vec<u32>, NoMemory> {
+    let mut counts = Vec::new(alloc);
+    for line in lines {
+        if let Some(input) = input_of(alloc, policy, line.as_str())? {
+            counts.push(turns_of(alloc, policy, &input, pool, copies, turns)?)?;
+        }
+    }
+    Ok(counts)
+}
+
 /// The turns that the inputs of these lines take, each by itself.
 pub fn count<C: Ledger, L: Ledger>(
     alloc: Global,
@@ -136,12 +154,5 @@ pub fn count<C: Ledger, L: Ledger>(
     let mut turns = Steps::<L>::new(turns);
     let policy = Policy::builtin(alloc)?;
     let mut pool = Pool::new(alloc, 2, policy.fuel())?;
-    let mut counts = Vec::new(alloc);
-    for line in lines {
-        if let Some(input) = input_of(alloc, &policy, line.as_str())? {
-            let made = turns_of(alloc, &policy, &input, &mut pool, &mut copies, &mut turns)?;
-            counts.push(made)?;
-        }
-    }
-    Ok(counts)
+    counted(alloc, &policy, lines, &mut pool, &mut copies, &mut turns)
 }

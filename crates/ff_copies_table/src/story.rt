@@ -275,11 +275,41 @@ fn play<C: Ledger, L: Ledger>(
 ) -> Result<Ending, NoMemory> {
     let events = events_of(alloc, policy, lines)?;
     let mut pool = Pool::new(alloc, 2, policy.fuel())?;
-    if !is_of_two(&pool) {
+    play_all(&events, &mut pool, copies, turns)?;
+    end_of(alloc, policy, &mut pool)
+}
+
+/// Lets a pool of two levels play all events.
+fn play_all<C: Ledger, L: Ledger>(
+    events: &[Event],
+    pool: &mut Pool,
+    copies: &mut Steps<C>,
+    turns: &mut Steps<L>,
+) -> Result<(), NoMemory>
+    requires { All (IsEvent 2) events.now }
+{
+    if !is_of_two(pool) {
         return Err(AllocError);
     }
-    pool.play(events.as_slice(), copies, turns)?;
-    end_of(alloc, policy, &mut pool)
+    pool.play(events, copies, turns)
+}
+
+/// What is told of a story that goes on in these pools.
+fn told_of<C: Ledger, L: Ledger>(
+    alloc: Global,
+    policy: &Policy,
+    lines: &[String],
+    pools: &mut Pools,
+    copies: &mut Steps<C>,
+    turns: &mut Steps<L>,
+) -> Result<Told, NoMemory> {
+    let classes = follow_all(alloc, policy, lines, pools, copies, turns)?;
+    Ok(Told {
+        lines: classes,
+        pool: end_of(alloc, policy, &mut pools.pool)?,
+        fork: end_of(alloc, policy, &mut pools.kept)?,
+        played: play(alloc, policy, lines, copies, turns)?,
+    })
 }
 
 /// Tells a story.
@@ -300,13 +330,7 @@ fn tell<C: Ledger, L: Ledger>(
     let mut turns = Steps::<L>::new(turns);
     let policy = Policy::builtin(alloc)?;
     let mut pools = new_pools(alloc, policy.fuel())?;
-    let told = follow_all(alloc, &policy, lines, &mut pools, &mut copies, &mut turns)?;
-    Ok(Told {
-        lines: told,
-        pool: end_of(alloc, &policy, &mut pools.pool)?,
-        fork: end_of(alloc, &policy, &mut pools.kept)?,
-        played: play(alloc, &policy, lines, &mut copies, &mut turns)?,
-    })
+    told_of(alloc, &policy, lines, &mut pools, &mut copies, &mut turns)
 }
 
 /// Prints what is told of a pool in the end, below a heading.
