@@ -1,11 +1,13 @@
 //! The lines, one after another.
 ghost use Rattle.std.specs.Prelude.{◌≡◌, ◌<◌};
 
+use crate::cutting::print_cuts;
 use crate::gathering::{add, add_many};
 use crate::printing::print_rows;
 use crate::spoiling::print_spoiled;
 use crate::texts::print_text;
 use anyhow::Result;
+use ff_name::NoMemory;
 use ff_policy::Policy;
 use ff_save::restore_stores;
 use ff_saved::Draft;
@@ -14,14 +16,14 @@ use std::alloc::Global;
 use std::mem;
 use std::sync::ledger::{Blank, Ledger};
 
-/// The rows that were gathered, and the lines of a text.
+/// What was read of a case: its policy, the rows that were gathered, the lines of a text, and those
+/// of a trace.
 #[derive(Drop)]
-struct Table<C: Ledger> {
-    alloc: Global,
+struct Case {
     policy: Policy,
     draft: Draft,
     lines: Vec<String>,
-    copies: Steps<C>,
+    trace: Vec<String>,
 }
 
 /// Follows each line.
@@ -30,53 +32,88 @@ pub fn run<C: Ledger>(rt: &HostRuntime, blank: Blank) -> Result<()>
     requires parts { blank.parts ≡ C.parts }
     requires some { 0 < blank.parts }
 {
-    let alloc = rt.alloc();
-    let mut table = Table::<C> {
-        alloc,
-        policy: Policy::builtin(alloc)?,
-        draft: Draft::new(alloc),
-        lines: Vec::new(alloc),
-        copies: Steps::new(blank),
-    };
-    for line in rt.lines(alloc) {
-        let line = line?;
-        table.follow(rt, line.as_str())?;
+    let mut copies = Steps::<C>::new(blank);
+    let mut case = Case::new(rt.alloc())?;
+    follow_all(rt, &mut case, &mut copies)
+}
+
+/// Follows each line. What is read of a case is lent, so that the proof drops it at no way out of
+/// the loop.
+fn follow_all<C: Ledger>(rt: &HostRuntime, case: &mut Case, copies: &mut Steps<C>) -> Result<()> {
+    for line in rt.lines(rt.alloc()) {
+        case.follow(rt, line?.as_str(), copies)?;
     }
     Ok(())
 }
 
-impl<C: Ledger> Table<C> {
+impl Case {
+    /// A case of which nothing was read.
+    fn new(alloc: Global) -> Result<Case, NoMemory> {
+        Ok(Case {
+            policy: Policy::builtin(alloc)?,
+            draft: Draft::new(alloc),
+            lines: Vec::new(alloc),
+            trace: Vec::new(alloc),
+        })
+    }
+
     /// Follows a line.
-    fn follow(&mut self, rt: &HostRuntime, line: &str) -> Result<()> {
+    fn follow<C: Ledger>(
+        &mut self,
+        rt: &HostRuntime,
+        line: &str,
+        copies: &mut Steps<C>,
+    ) -> Result<()> {
+        let alloc = rt.alloc();
         let (word, rest) = line.split_once(' ').unwrap_or((line, ""));
         match word {
             "#" => {
                 println!(rt; "{line}")?;
-                self.draft = Draft::new(self.alloc);
+                *self = Case::new(alloc)?;
                 Ok(())
             }
-            "stores" => self.make_stores(rt, false),
-            "rows" => self.make_stores(rt, true),
-            "|" => {
-                self.lines.push(String::from_str(self.alloc, rest)?)?;
+            "under" => {
+                self.policy = Policy::read(alloc, rest.as_bytes())?;
                 Ok(())
             }
-            "text" => {
-                let lines = mem::replace(&mut self.lines, Vec::new(self.alloc));
-                print_text(rt, &self.policy, lines.as_slice(), &mut self.copies)
-            }
-            "spoil" => {
-                let lines = mem::replace(&mut self.lines, Vec::new(self.alloc));
-                print_spoiled(rt, &self.policy, lines.as_slice(), &mut self.copies)
-            }
+            "|" => Ok(self.lines.push(String::from_str(alloc, rest)?)?),
+            ">" => Ok(self.trace.push(String::from_str(alloc, rest)?)?),
+            "stores" => self.make_stores(rt, false, copies),
+            "rows" => self.make_stores(rt, true, copies),
+            "text" | "spoil" | "cut" => self.try_text(rt, word, copies),
             _ => self.take(rt, line),
         }
     }
 
+    /// Does what a word says with the lines of a text, and forgets them.
+    fn try_text<C: Ledger>(
+        &mut self,
+        rt: &HostRuntime,
+        word: &str,
+        copies: &mut Steps<C>,
+    ) -> Result<()> {
+        let alloc = rt.alloc();
+        let lines = mem::replace(&mut self.lines, Vec::new(alloc));
+        match word {
+            "text" => print_text(rt, &self.policy, lines.as_slice(), copies),
+            "spoil" => print_spoiled(rt, &self.policy, lines.as_slice(), copies),
+            _ => {
+                let trace = mem::replace(&mut self.trace, Vec::new(alloc));
+                print_cuts(rt, &self.policy, lines.as_slice(), trace.as_slice())
+            }
+        }
+    }
+
     /// Says whether stores are made of what was gathered, and prints their rows.
-    fn make_stores(&mut self, rt: &HostRuntime, shown: bool) -> Result<()> {
-        let recs = mem::replace(&mut self.draft, Draft::new(self.alloc)).finish()?;
-        match restore_stores(self.alloc, &recs, &mut self.copies)? {
+    fn make_stores<C: Ledger>(
+        &mut self,
+        rt: &HostRuntime,
+        shown: bool,
+        copies: &mut Steps<C>,
+    ) -> Result<()> {
+        let alloc = rt.alloc();
+        let recs = mem::replace(&mut self.draft, Draft::new(alloc)).finish()?;
+        match restore_stores(alloc, &recs, copies)? {
             Some(stores) => {
                 println!(rt; "  stores")?;
                 if shown {
@@ -93,10 +130,11 @@ impl<C: Ledger> Table<C> {
 
     /// Gathers a row, or one of many, and prints it with what is wrong with it.
     fn take(&mut self, rt: &HostRuntime, line: &str) -> Result<()> {
+        let alloc = rt.alloc();
         let lattice = self.policy.lattice();
         let wrong = match line.strip_prefix("many ") {
-            Some(rest) => add_many(self.alloc, &mut self.draft, rest, lattice)?,
-            None => add(self.alloc, &mut self.draft, line, lattice)?,
+            Some(rest) => add_many(alloc, &mut self.draft, rest, lattice)?,
+            None => add(alloc, &mut self.draft, line, lattice)?,
         };
         if let Some(wrong) = wrong {
             println!(rt; "  {line}: {wrong}")?;

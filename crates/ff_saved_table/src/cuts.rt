@@ -16,10 +16,10 @@ pub fn resumed(
     alloc: Global,
     policy: &Policy,
     from: &[u8],
-    trace: Vec<u8>,
+    trace: &[u8],
 ) -> Result<Vec<u8>, NoMemory> {
     let mut pieces = Vec::new(alloc);
-    pieces.push(trace)?;
+    pieces.push(Vec::from_slice(alloc, trace)?)?;
     let mut port = MemPort::new(alloc, pieces, Vec::new(alloc), Vec::new(alloc), 65_536);
     go_on::<Brand, Brand>(alloc, policy, from, &mut port, Blank::new(1), Blank::new(1));
     Vec::from_slice(alloc, port.put_bytes())
@@ -64,14 +64,4 @@ pub fn cut_text(alloc: Global, text: &[u8]) -> Result<(Vec<u8>, Vec<u8>), NoMemo
         }
     }
     Ok((before, saved))
-}
-
-/// The lines, each with its newline.
-pub fn joined(alloc: Global, lines: &[String]) -> Result<Vec<u8>, NoMemory> {
-    let mut text = Vec::new(alloc);
-    for line in lines {
-        text.extend_from_slice(line.as_bytes())?;
-        text.push(b'\n')?;
-    }
-    Ok(text)
 }

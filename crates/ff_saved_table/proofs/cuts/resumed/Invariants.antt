@@ -1,4 +1,4 @@
-use Rattle.ff_resume_table.proofs.cuts.resumed.Given as goal
+use Rattle.ff_saved_table.proofs.cuts.resumed.Given as goal
 
 abbrev pub ghosts-go_on-C-Ledger : goal.ghosts-go_on-C-Ledger
 ghosts-go_on-C-Ledger a = record { name = a.copies.name; parts = a.copies.parts }
