@@ -44,10 +44,16 @@ use case::{Case, Part};
 
 fn main(rt: HostRuntime) -> Result<()> {
     let mut case = Case::new(rt.alloc());
+    take_all(&rt, &mut case)
+}
+
+/// Takes each line of the input. The case is lent, so that the proof drops it at no way out of the
+/// loop.
+fn take_all(rt: &HostRuntime, case: &mut Case) -> Result<()> {
     for line in rt.lines(rt.alloc()) {
         let line = line?;
         if !line.as_str().is_empty() {
-            take(&rt, &mut case, line.as_str())?;
+            take(rt, case, line.as_str())?;
         }
     }
     Ok(())
