@@ -1,5 +1,6 @@
 //! The lines, one after another.
 ghost use Rattle.std.specs.Prelude.{◌≡◌, ◌<◌};
+ghost use Rattle.ff_stores_table.specs.Counted.{AreCounted};
 
 use crate::queues::Queues;
 use crate::reading::{parted, range};
@@ -20,6 +21,19 @@ pub fn run<C: Ledger>(rt: &HostRuntime, blank: Blank) -> Result<()>
     let mut copies = Steps::<C>::new(blank);
     let mut case = Case::new(rt.alloc());
     let mut queues = Queues::new(rt.alloc());
+    follow_all(rt, &mut case, &mut queues, &mut copies)
+}
+
+/// Follows each line. The case and the queues are lent, so that the proof drops them at no way out
+/// of the loop.
+fn follow_all<C: Ledger>(
+    rt: &HostRuntime,
+    case: &mut Case,
+    queues: &mut Queues,
+    copies: &mut Steps<C>,
+) -> Result<()>
+    requires { AreCounted queues.old }
+{
     for line in rt.lines(rt.alloc()) {
         let line = line?;
         println!(rt; "{line}")?;
@@ -27,12 +41,12 @@ pub fn run<C: Ledger>(rt: &HostRuntime, blank: Blank) -> Result<()>
         let answer = match word {
             "##" => continue,
             "#" => {
-                case = Case::new(rt.alloc());
-                queues = Queues::new(rt.alloc());
+                *case = Case::new(rt.alloc());
+                *queues = Queues::new(rt.alloc());
                 continue;
             }
-            "queue" => queues::take(rt.alloc(), &mut queues, rest, &mut copies)?,
-            _ => follow(rt.alloc(), &mut case, line.as_str(), &mut copies)?,
+            "queue" => queues::take(rt.alloc(), queues, rest, copies)?,
+            _ => follow(rt.alloc(), case, line.as_str(), copies)?,
         };
         println!(rt; "  {answer}")?;
     }
