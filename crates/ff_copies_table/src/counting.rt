@@ -4,6 +4,7 @@
 ghost use Rattle.std.specs.Prelude.{◌≡◌, ◌<◌, false, IfOk, IfSome};
 ghost use Rattle.ff_lattice.specs.Order.{size as count_levels};
 ghost use Rattle.ff_reactive.specs.Worlds.{OfferOk, AreOffers};
+ghost use Rattle.ff_value.specs.Offers.{offered};
 ghost use Rattle.ff_value.specs.Spelled.{IsWellSpelledInput};
 ghost use Rattle.ff_trace.specs.Lines.{IsInputOf};
 
@@ -13,8 +14,8 @@ use ff_policy::Policy;
 use ff_pool::{NoMemory, Pool};
 use ff_route::sees;
 use ff_steps::Steps;
-use ff_trace::read_input;
-use ff_value::{Input, Offers};
+use ff_trace::{Room, read_input};
+use ff_value::{Input, Offer, Offers};
 use std::alloc::{AllocError, Global};
 use std::sync::ledger::{Blank, Ledger};
 
@@ -23,16 +24,37 @@ const MOST_STEPS: u32 = 20_000;
 
 /// What a level is offered of an input.
 #[tactic(auto, using(crate::proofs::Offered::seen_ok))]
-fn offer(alloc: Global, policy: &Policy, l: u8, input: &Input) -> Result<Option<Input>, NoMemory>
+fn offer(alloc: Global, policy: &Policy, l: u8, input: &Input) -> Result<Offer, NoMemory>
     requires level { l < count_levels policy.now.order }
     requires input { IsInputOf policy.now.order input.now }
-    ensures { IfOk result (OfferOk IsWellSpelledInput) }
+    ensures { IfOk result (λ offer. OfferOk IsWellSpelledInput (offered input.now offer)) }
 {
     sees(alloc, policy, Level(l), input)
 }
 
+/// These offers of an input to the two levels.
+pub(crate) fn two_offers<'a>(
+    alloc: Global,
+    input: &'a Input,
+    low: Offer,
+    high: Offer,
+) -> Result<Offers<'a>, NoMemory>
+    requires low { OfferOk IsWellSpelledInput (offered input.now low) }
+    requires high { OfferOk IsWellSpelledInput (offered input.now high) }
+    ensures { IfOk result (λ offers. AreOffers IsWellSpelledInput 2 offers) }
+{
+    let mut offers = Vec::new(alloc);
+    offers.push(low)?;
+    offers.push(high)?;
+    Ok(Offers::of(input, offers))
+}
+
 /// What the two levels are offered of an input.
-pub(crate) fn offers(alloc: Global, policy: &Policy, input: &Input) -> Result<Offers, NoMemory>
+pub(crate) fn offers<'a>(
+    alloc: Global,
+    policy: &Policy,
+    input: &'a Input,
+) -> Result<Offers<'a>, NoMemory>
     requires input { IsInputOf policy.now.order input.now }
     ensures { IfOk result (λ offers. AreOffers IsWellSpelledInput 2 offers) }
 {
@@ -41,10 +63,7 @@ pub(crate) fn offers(alloc: Global, policy: &Policy, input: &Input) -> Result<Of
     }
     let low = offer(alloc, policy, 0, input)?;
     let high = offer(alloc, policy, 1, input)?;
-    let mut offers = Offers::new(alloc);
-    offers.push(low)?;
-    offers.push(high)?;
-    Ok(offers)
+    two_offers(alloc, input, low, high)
 }
 
 /// The input of a line, if it holds one.
@@ -58,7 +77,8 @@ pub(crate) fn input_of(
     if line.len() > 65_536 {
         return Err(AllocError);
     }
-    match read_input(alloc, line.as_bytes(), policy.lattice()) {
+    let mut room = Room::new(alloc);
+    match read_input(alloc, &mut room, line.as_bytes(), policy.lattice()) {
         Ok(input) => Ok(input),
         Err(_) => Err(AllocError),
     }

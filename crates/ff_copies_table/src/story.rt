@@ -10,21 +10,23 @@
 //! | `drain COUNT` | the pool is drained, so many steps of a class at a time; in the one call each level makes so many |
 //! | `fork` | a fork of the pool is kept, in place of the one before |
 //! | `swap` | the story goes on with the fork, and the pool is kept in its place |
-ghost use Rattle.std.specs.Prelude.{◌≡◌, ◌<◌, ◌≤◌, All, IfOk, OnOk, false};
+ghost use Rattle.std.specs.Prelude.{◌≡◌, ◌<◌, ◌≤◌, All, IfOk, IfSome, OnOk, false};
 ghost use Rattle.ff_core.specs.declared.browser.TheConstants.{MOST_BUDGET};
 ghost use Rattle.ff_lattice.specs.Order.{size as count_levels};
 ghost use Rattle.ff_value.specs.Spelled.{IsWellSpelledInput};
+ghost use Rattle.ff_trace.specs.Lines.{IsInputOf};
+ghost use Rattle.ff_copies_table.specs.Story.{IsLineOf};
 ghost use Rattle.ff_reactive.specs.Worlds.{OfferOk, AreOffers};
 ghost use Rattle.ff_pool.specs.Events.{IsEvent};
 
-use crate::counting::{input_of, offers};
+use crate::counting::{input_of, offers, two_offers};
 use crate::{Classes, classes, is_of_two, show_classes};
 use ff_name::Level;
 use ff_policy::Policy;
 use ff_pool::{Event, NoMemory, Pool};
 use ff_steps::Steps;
 use ff_trace::print_out;
-use ff_value::{Input, Offers};
+use ff_value::{Input, Offer, Offers};
 use std::alloc::{AllocError, Global};
 use std::marker::Brand;
 use std::sync::ledger::{Blank, Ledger};
@@ -57,30 +59,27 @@ struct Told {
     played: Ending,
 }
 
-/// What the two levels are offered where the higher one alone is offered something.
-fn for_high(alloc: Global, input: Input) -> Result<Offers, NoMemory>
-    requires { IsWellSpelledInput input }
-    ensures { IfOk result (λ offers. AreOffers IsWellSpelledInput 2 offers) }
-{
-    let mut offers = Offers::new(alloc);
-    offers.push(None)?;
-    offers.push(Some(input))?;
-    Ok(offers)
+/// A line of a story, with the input that it offers, if it offers one.
+#[derive(Drop)]
+struct Line<'a> {
+    text: &'a str,
+    input: Option<Input>,
 }
 
-/// What the two levels are offered by a line.
-fn offers_of(alloc: Global, policy: &Policy, word: &str, rest: &str) -> Result<Offers, NoMemory>
+/// What the two levels are offered of the input of a line.
+fn offers_of<'a>(
+    alloc: Global,
+    policy: &Policy,
+    word: &str,
+    input: &'a Input,
+) -> Result<Offers<'a>, NoMemory>
+    requires { IsInputOf policy.now.order input.now }
     ensures { IfOk result (λ offers. AreOffers IsWellSpelledInput 2 offers) }
 {
-    match input_of(alloc, policy, rest)? {
-        Some(input) => {
-            if word == "high" {
-                for_high(alloc, input)
-            } else {
-                offers(alloc, policy, &input)
-            }
-        }
-        None => Err(AllocError),
+    if word == "high" {
+        two_offers(alloc, input, Offer::Nothing, Offer::Whole)
+    } else {
+        offers(alloc, policy, input)
     }
 }
 
@@ -146,7 +145,10 @@ fn arrive<C: Ledger>(
     if !is_of_two(pool) {
         return Err(AllocError);
     }
-    let offers = offers_of(alloc, policy, word, rest)?;
+    let Some(input) = input_of(alloc, policy, rest)? else {
+        return Err(AllocError);
+    };
+    let offers = offers_of(alloc, policy, word, &input)?;
     pool.arrive(&offers, copies)
 }
 
@@ -187,17 +189,46 @@ fn follow_all<C: Ledger, L: Ledger>(
     Ok(told)
 }
 
-/// Puts the events of a line behind the others. A fork is none.
-fn add_events(
-    alloc: Global,
-    policy: &Policy,
-    line: &str,
-    events: &mut Vec<Event>,
-) -> Result<(), NoMemory>
-    requires { All (IsEvent 2) events.old.items }
-    ensures { OnOk result (All (IsEvent 2) events.new.items) }
+/// The input of a line that offers one.
+fn input_in(alloc: Global, policy: &Policy, line: &str) -> Result<Option<Input>, NoMemory>
+    ensures { IfOk result (λ input. IfSome input (IsInputOf policy.now.order)) }
 {
     let (word, rest) = line.split_once(' ').unwrap_or((line, ""));
+    match word {
+        "fork" | "swap" | "turn" | "drain" => Ok(None),
+        _ => input_of(alloc, policy, rest),
+    }
+}
+
+/// The lines with the inputs that they offer, which the events of a pool borrow.
+fn lines_of<'a>(
+    alloc: Global,
+    policy: &Policy,
+    lines: &'a [String],
+) -> Result<Vec<Line<'a>>, NoMemory>
+    ensures { IfOk result (λ lines. All (IsLineOf policy.now.order) lines.items) }
+{
+    let mut read = Vec::new(alloc);
+    for line in lines {
+        let text = line.as_str();
+        let input = input_in(alloc, policy, text)?;
+        read.push(Line { text, input })?;
+    }
+    Ok(read)
+}
+
+/// Puts the events of a line behind the others. A fork is none.
+fn add_events<'a>(
+    alloc: Global,
+    policy: &Policy,
+    line: &'a Line<'_>,
+    events: &mut Vec<Event<'a>>,
+) -> Result<(), NoMemory>
+    requires line { IsLineOf policy.now.order line.now }
+    requires events { All (IsEvent 2) events.old.items }
+    ensures { OnOk result (All (IsEvent 2) events.new.items) }
+{
+    let (word, rest) = line.text.split_once(' ').unwrap_or((line.text, ""));
     match word {
         "fork" | "swap" => Ok(()),
         "turn" => {
@@ -209,16 +240,19 @@ fn add_events(
             add_turns(0, count, events)?;
             add_turns(1, count, events)
         }
-        _ => {
-            let offers = offers_of(alloc, policy, word, rest)?;
-            events.push(Event::Arrive(offers))?;
-            Ok(())
-        }
+        _ => match &line.input {
+            Some(input) => {
+                let offers = offers_of(alloc, policy, word, input)?;
+                events.push(Event::Arrive(offers))?;
+                Ok(())
+            }
+            None => Err(AllocError),
+        },
     }
 }
 
 /// Puts so many steps of a level behind the other events.
-fn add_turns(level: u8, count: u32, events: &mut Vec<Event>) -> Result<(), NoMemory>
+fn add_turns(level: u8, count: u32, events: &mut Vec<Event<'_>>) -> Result<(), NoMemory>
     requires level { level < 2 }
     requires events { All (IsEvent 2) events.old.items }
     ensures { OnOk result (All (IsEvent 2) events.new.items) }
@@ -230,12 +264,17 @@ fn add_turns(level: u8, count: u32, events: &mut Vec<Event>) -> Result<(), NoMem
 }
 
 /// The events of all lines.
-fn events_of(alloc: Global, policy: &Policy, lines: &[String]) -> Result<Vec<Event>, NoMemory>
+fn events_of<'a>(
+    alloc: Global,
+    policy: &Policy,
+    lines: &'a [Line<'_>],
+) -> Result<Vec<Event<'a>>, NoMemory>
+    requires { All (IsLineOf policy.now.order) lines.now }
     ensures { IfOk result (λ events. All (IsEvent 2) events.items) }
 {
     let mut events = Vec::new(alloc);
     for line in lines {
-        add_events(alloc, policy, line.as_str(), &mut events)?;
+        add_events(alloc, policy, line, &mut events)?;
     }
     Ok(events)
 }
@@ -273,7 +312,8 @@ fn play<C: Ledger, L: Ledger>(
     copies: &mut Steps<C>,
     turns: &mut Steps<L>,
 ) -> Result<Ending, NoMemory> {
-    let events = events_of(alloc, policy, lines)?;
+    let lines = lines_of(alloc, policy, lines)?;
+    let events = events_of(alloc, policy, &lines)?;
     let mut pool = Pool::new(alloc, 2, policy.fuel())?;
     play_all(&events, &mut pool, copies, turns)?;
     end_of(alloc, policy, &mut pool)
@@ -281,7 +321,7 @@ fn play<C: Ledger, L: Ledger>(
 
 /// Lets a pool of two levels play all events.
 fn play_all<C: Ledger, L: Ledger>(
-    events: &[Event],
+    events: &[Event<'_>],
     pool: &mut Pool,
     copies: &mut Steps<C>,
     turns: &mut Steps<L>,

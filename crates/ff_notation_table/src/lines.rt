@@ -4,7 +4,7 @@ use crate::spelling::whole_lines;
 use anyhow::{Result, bail};
 use ff_lattice::Lattice;
 use ff_text::MOST_BYTES;
-use ff_trace::{print_input, read_input};
+use ff_trace::{Room, print_input, read_input};
 use ff_value::{Input, NoMemory};
 use std::alloc::Global;
 
@@ -14,7 +14,8 @@ pub fn line(alloc: Global, bytes: &[u8]) -> Result<String> {
         bail!("a line is too long");
     }
     let lattice = Lattice::two(alloc)?;
-    match read_input(alloc, bytes, &lattice) {
+    let mut room = Room::new(alloc);
+    match read_input(alloc, &mut room, bytes, &lattice) {
         Ok(Some(input)) => {
             if !is_copied(&input)? {
                 bail!("an input isn't its copy");

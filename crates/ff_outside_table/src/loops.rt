@@ -23,10 +23,19 @@ impl Reader for Firsts {
 
     type Fault = usize;
 
+    type Room = ();
+
     ghost gives = { λ reader line answer.
         answer ≡ (if nat_le (length line) 3 then Ok (slice_get line 0) else Err (length line)) };
 
-    fn read(&self, _alloc: Global, line: &[u8]) -> Result<Result<Option<u8>, usize>, AllocError> {
+    fn room(&self, _alloc: Global) {}
+
+    fn read(
+        &self,
+        _alloc: Global,
+        _room: &mut (),
+        line: &[u8],
+    ) -> Result<Result<Option<u8>, usize>, AllocError> {
         if line.len() <= 3 {
             Ok(Ok(line.first().copied()))
         } else {

@@ -78,17 +78,12 @@ module _ {fuel : ℕ} {spent : Bool} {heads : List Head} {puts : List (List Out)
           ap (λ w. record { fuel = fuel; spent = false; world = w }) (gathered-turn kept heads' puts' l level heads_step puts_step)
           ∙ ap (λ q. turned q l) plain_view
 
-  module _ {xs heads' xs' : List Head} {ls leaders' : List ℕ} {os offers : List (Option Input)} (heads_are : xs ≡ heads) (leaders_are : ls ≡ leaders) (offers_are : os ≡ offers)
-      (heads_to : heads' ≡ xs') (leaders_to : leaders' ≡ split same_input ls os) (long : length xs' ≡ length xs) (done : (d : Head) → HasArrived ls os xs xs' d) where
-    parted : leaders' ≡ split same_input leaders offers
-    parted = leaders_to ∙ ap (λ js. split same_input js os) leaders_are ∙ ap (split same_input leaders) offers_are
-
+  module _ {xs heads' xs' : List Head} {leaders' : List ℕ} (offers : List (Option Input)) (heads_are : xs ≡ heads) (heads_to : heads' ≡ xs') (parted : leaders' ≡ split same_input leaders offers)
+      (long : length xs' ≡ length xs) (done : (d : Head) → HasArrived leaders offers xs xs' d) where
     arrived_heads : HasArrived leaders offers heads heads' (new_head fuel)
     arrived_heads =
         subst (λ hs. HasArrived leaders offers heads hs (new_head fuel)) (sym heads_to)
-        (subst (λ hs. HasArrived leaders offers hs xs' (new_head fuel)) heads_are
-        (subst (λ zs. HasArrived leaders zs xs xs' (new_head fuel)) offers_are
-        (subst (λ js. HasArrived js os xs xs' (new_head fuel)) leaders_are (done (new_head fuel)))))
+        (subst (λ hs. HasArrived leaders offers hs xs' (new_head fuel)) heads_are (done (new_head fuel)))
 
     pub arrive_kept : (p.spent ≡ false → AreOffersTo p offers) → IsKept fuel heads' puts leaders'
     arrive_kept good =

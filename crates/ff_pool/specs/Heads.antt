@@ -89,6 +89,10 @@ gathered fuel heads puts leaders = record { copies = gathered_copies fuel heads 
 abbrev pub IsWorldOf : ℕ → World Input Out State → Type 0
 IsWorldOf fuel w = IsWorld (reactor fuel) (fuel + 1) IsWellSpelledInput (IsState fuel) w
 
+-- each level that leads now has the head of the one that led it before
+abbrev pub HasForked : List ℕ → List ℕ → List Head → List Head → Type 0
+HasForked before leaders old new = (l : ℕ) (d : Head) → l < length before → leader leaders l ≡ l → slice_index_or new l d ≡ slice_index_or old (leader before l) d
+
 -- the leaders after an arrival have the heads of those that led them, with their offers; d stands
 -- past the ends of the lists
 abbrev pub HasArrived : List ℕ → List (Option Input) → List Head → List Head → Head → Type 0

@@ -21,7 +21,7 @@ impl Pool {
     /// and the class of a level are the levels that were offered the same as it each time.
     pub fn play<C: Ledger, L: Ledger>(
         &mut self,
-        events: &[Event],
+        events: &[Event<'_>],
         copies: &mut Steps<C>,
         turns: &mut Steps<L>,
     ) -> Result<(), NoMemory>
@@ -48,7 +48,7 @@ impl Pool {
     /// One event.
     fn happen<C: Ledger, L: Ledger>(
         &mut self,
-        event: &Event,
+        event: &Event<'_>,
         copies: &mut Steps<C>,
         turns: &mut Steps<L>,
     ) -> Result<(), NoMemory>

@@ -193,10 +193,11 @@ impl Pool {
     }
 
     /// Puts each level's offer, where there is one, behind the inputs that wait for it. Levels of a
-    /// class with different offers part. After want of memory the pool is spent.
+    /// class with different offers part, and each class copies the input that it is offered once.
+    /// After want of memory the pool is spent.
     pub fn arrive<C: Ledger>(
         &mut self,
-        offers: &Offers,
+        offers: &Offers<'_>,
         copies: &mut Steps<C>,
     ) -> Result<(), NoMemory>
         requires { self.old.spent ≡ false → AreOffersTo self.old offers.now }
@@ -210,14 +211,13 @@ impl Pool {
             return Err(AllocError);
         }
         self.spent = true;
-        let leaders = arrive_heads(
+        arrive_heads(
             self.alloc,
             self.heads.as_mut_slice(),
-            self.leaders.as_slice(),
-            offers.as_slice(),
+            &mut self.leaders,
+            offers,
             copies,
         )?;
-        self.leaders = leaders;
         self.spent = false;
         Ok(())
     }

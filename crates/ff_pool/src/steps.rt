@@ -1,17 +1,18 @@
 //! Steps of classes over the parts of a pool.
 ghost use Rattle.std.specs.Prelude.{◌≡◌, ◌+◌, ◌<◌, ◌≤◌, ℕ, [], false, length, slice_index_or, slice_set, All, IfOk, OnOk, OnErr};
+ghost use Rattle.std.specs.Option.{option_copied};
 ghost use Rattle.ff_value.specs.Spelled.{IsWellSpelledInput};
 ghost use Rattle.ff_core.specs.Copies.{turning};
 ghost use Rattle.ff_reactive.specs.Worlds.{leader, offer, split, AreLeaders};
 ghost use Rattle.ff_value.specs.Same.{same_input};
-ghost use Rattle.ff_pool.specs.Heads.{Head, HasArrived, IsClassStepped, MayCount, step_of, step_head, offer_head, head_works, head_turns, given};
+ghost use Rattle.ff_pool.specs.Heads.{Head, HasArrived, HasForked, IsClassStepped, MayCount, step_of, step_head, offer_head, head_works, head_turns, given};
 
-use crate::classes::split;
+use crate::classes::{split, stay};
 use crate::group::Group;
 use crate::outs::Outs;
 use ff_core::{Browser, NoMemory};
 use ff_steps::Steps;
-use ff_value::{Input, Out};
+use ff_value::{Input, Offers, Out};
 use std::alloc::Global;
 use std::sync::ledger::Ledger;
 
@@ -80,6 +81,9 @@ fn give_class(
     requires { length puts.old ≡ length leaders.now }
     ensures { OnOk result (puts.new ≡ given puts.old leaders.now top outs.now) }
 {
+    if outs.is_empty() {
+        return Ok(());
+    }
     for k in 0..leaders.len() {
         if leaders[k] == top {
             puts[k].append(outs)?;
@@ -107,25 +111,50 @@ pub(crate) fn browser_of<'a>(heads: &'a [Group], leaders: &[usize], l: usize) ->
 }
 
 /// The offers arrive: the leaders part, new ones get forks of the browsers that led them, and each
-/// class gets its offer. Answers the new leaders.
+/// class gets its offer.
 pub(crate) fn arrive_heads<C: Ledger>(
     alloc: Global,
     heads: &mut [Group],
-    leaders: &[usize],
-    offers: &[Option<Input>],
+    leaders: &mut Vec<usize>,
+    offers: &Offers<'_>,
     copies: &mut Steps<C>,
-) -> Result<Vec<usize>, NoMemory>
-    requires heads { length heads.old ≡ length leaders.now }
-    requires count { length offers.now ≡ length leaders.now }
-    requires led { AreLeaders leaders.now }
-    ensures leaders { IfOk result (λ new. new.items ≡ split same_input leaders.now offers.now) }
-    ensures arrived { OnOk result ((d : Head) → HasArrived leaders.now offers.now heads.old heads.new d) }
+) -> Result<(), NoMemory>
+    requires heads { length heads.old ≡ length leaders.old.items }
+    requires count { length offers.now ≡ length leaders.old.items }
+    requires led { AreLeaders leaders.old.items }
+    ensures leaders { OnOk result (leaders.new.items ≡ split same_input leaders.old.items offers.now) }
+    ensures levels { length leaders.new.items ≡ length leaders.old.items }
+    ensures arrived { OnOk result ((d : Head) → HasArrived leaders.old.items offers.now heads.old heads.new d) }
     ensures copies { copies.new ≡ copies.old }
 {
-    let new = split(alloc, leaders, offers)?;
-    fork_heads(heads, leaders, new.as_slice(), copies)?;
-    offer_heads(heads, new.as_slice(), offers)?;
-    Ok(new)
+    part_heads(alloc, heads, leaders, offers, copies)?;
+    offer_heads(heads, leaders.as_slice(), offers)
+}
+
+/// Classes whose levels are offered different things part, and new leaders get forks of the browsers
+/// that led them. Where none parts, this takes no memory.
+fn part_heads<C: Ledger>(
+    alloc: Global,
+    heads: &mut [Group],
+    leaders: &mut Vec<usize>,
+    offers: &Offers<'_>,
+    copies: &mut Steps<C>,
+) -> Result<(), NoMemory>
+    requires heads { length heads.old ≡ length leaders.old.items }
+    requires count { length offers.now ≡ length leaders.old.items }
+    requires led { AreLeaders leaders.old.items }
+    ensures leaders { OnOk result (leaders.new.items ≡ split same_input leaders.old.items offers.now) }
+    ensures levels { length leaders.new.items ≡ length leaders.old.items }
+    ensures forked { OnOk result (HasForked leaders.old.items leaders.new.items heads.old heads.new) }
+    ensures copies { copies.new ≡ copies.old }
+{
+    if stay(leaders.as_slice(), offers) {
+        return Ok(());
+    }
+    let new = split(alloc, leaders.as_slice(), offers)?;
+    fork_heads(heads, leaders.as_slice(), new.as_slice(), copies)?;
+    *leaders = new;
+    Ok(())
 }
 
 /// Each level that leads a class now and led none before gets a fork of the browser and the inbox
@@ -139,7 +168,7 @@ fn fork_heads<C: Ledger>(
     requires heads { length heads.old ≡ length old.now }
     requires count { length new.now ≡ length old.now }
     requires led { AreLeaders old.now }
-    ensures forked { OnOk result ((l : ℕ) (d : Head) → l < length old.now → leader new.now l ≡ l → slice_index_or heads.new l d ≡ slice_index_or heads.old (leader old.now l) d) }
+    ensures forked { OnOk result (HasForked old.now new.now heads.old heads.new) }
     ensures copies { copies.new ≡ copies.old }
 {
     for l in 0..new.len() {
@@ -168,26 +197,22 @@ fn fork_head<C: Ledger>(
 }
 
 /// Each class gets the offer of its leader.
-fn offer_heads(
-    heads: &mut [Group],
-    leaders: &[usize],
-    offers: &[Option<Input>],
-) -> Result<(), NoMemory>
+fn offer_heads(heads: &mut [Group], leaders: &[usize], offers: &Offers<'_>) -> Result<(), NoMemory>
     requires heads { length heads.old ≡ length leaders.now }
     requires count { length offers.now ≡ length leaders.now }
     ensures { OnOk result ((l : ℕ) (d : Head) → l < length leaders.now → leader leaders.now l ≡ l → slice_index_or heads.new l d ≡ offer_head (slice_index_or heads.old l d) (offer offers.now l)) }
 {
     for l in 0..leaders.len() {
         if leaders[l] == l {
-            offer_head(&mut heads[l], &offers[l])?;
+            offer_head(&mut heads[l], offers.to(l))?;
         }
     }
     Ok(())
 }
 
 /// What is offered waits, where there is something.
-fn offer_head(head: &mut Group, offer: &Option<Input>) -> Result<(), NoMemory>
-    ensures { OnOk result (head.new ≡ offer_head head.old offer.now) }
+fn offer_head(head: &mut Group, offer: Option<&Input>) -> Result<(), NoMemory>
+    ensures { OnOk result (head.new ≡ offer_head head.old (option_copied offer.entry)) }
 {
     match offer {
         Some(input) => head.offer(input.copy()?),

@@ -9,6 +9,8 @@ use Rattle.ff_reactive.specs.Laws.{IsWord}
 use Rattle.ff_lattice.specs.Order.{size, leq, name}
 use Rattle.ff_lattice.proofs.Callers.{name_graphic}
 use Rattle.ff_value.specs.declared.input.Input.{Input}
+use Rattle.ff_value.specs.declared.offers.Offer.{Offer}
+use Rattle.ff_value.specs.Offers.{offered, all_offered}
 use Rattle.ff_value.specs.declared.output.Out.{Out}
 use Rattle.ff_value.specs.Spelled.{IsWellSpelledInput}
 use Rattle.ff_policy.specs.Assignment.{Assignment, IsAssignment, presence, content, level_out}
@@ -99,6 +101,8 @@ module _ (policy : Assignment) where
   names_differ k l valid k_is l_is same = valid.draft.order_is.apart k l k_is l_is same
 
   -- one offer more
-  pub offers_more : (i : Input) (so_far : List (Option Input)) (n : ℕ) (one : Option Input) → so_far ≡ map (λ l. sees policy l i) (below n) → one ≡ sees policy n i → so_far ++ one ∷ [] ≡ map (λ l. sees policy l i) (below (n + 1))
-  offers_more i so_far n one is seen = ap (λ os. os ++ one ∷ []) is ∙ ap (λ o. map (λ l. sees policy l i) (below n) ++ o ∷ []) seen ∙ sym (map-append (λ l. sees policy l i) (below n) (n ∷ []))
+  pub offers_more : (i : Input) (so_far : List Offer) (n : ℕ) (one : Offer) → all_offered i so_far ≡ map (λ l. sees policy l i) (below n) → offered i one ≡ sees policy n i
+      → all_offered i (so_far ++ one ∷ []) ≡ map (λ l. sees policy l i) (below (n + 1))
+  offers_more i so_far n one is seen = map-append (offered i) so_far (one ∷ []) ∙ ap (λ os. os ++ offered i one ∷ []) is ∙ ap (λ o. map (λ l. sees policy l i) (below n) ++ o ∷ []) seen
+      ∙ sym (map-append (λ l. sees policy l i) (below n) (n ∷ []))
       ∙ ap (λ m. map (λ l. sees policy l i) (below m)) (let next : suc n ≡ n + 1 = omega arith in next)

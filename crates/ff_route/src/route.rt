@@ -1,13 +1,14 @@
-ghost use Rattle.std.specs.Prelude.{◌≡◌, ◌<◌, ◌↔◌, None, Ok, IfOk, IsTrue};
-ghost use Rattle.ff_lattice.specs.Order.{size};
-ghost use Rattle.ff_policy.specs.Assignment.{level_out};
+ghost use Rattle.std.specs.Prelude.{◌≡◌, ◌<◌, ◌↔◌, true, None, Ok, IfOk, IsTrue};
+ghost use Rattle.ff_lattice.specs.Order.{leq, size};
+ghost use Rattle.ff_value.specs.Offers.{offered};
+ghost use Rattle.ff_policy.specs.Assignment.{content, level_out, presence};
 ghost use Rattle.ff_route.specs.Route as spec;
 ghost use Rattle.ff_route.specs.Route.{IsTagged, sees, mask, mask_act};
 
 use crate::NoMemory;
 use ff_name::{Level, Text, Url};
 use ff_policy::Policy;
-use ff_value::{Act, Cookies, Input, Offers, Out, Resp};
+use ff_value::{Act, Cookies, Input, Offer, Offers, Out, Resp};
 use std::alloc::Global;
 
 /// What is left of an input for a level that may know that there was one and not what it says: its
@@ -42,40 +43,64 @@ fn mask_act(alloc: Global, act: &Act) -> Result<Act, NoMemory>
 
 /// What the level sees of an input: the input, its tag too, where the input's content is at or below
 /// that level; else the masked input where its presence is; and else nothing. Its one refusal is
-/// want of memory, where something is seen.
+/// want of memory, where the masked input is seen.
 #[tactic(auto, unfolding(crate::specs::Route::sees))]
-pub fn sees(
+pub fn sees(alloc: Global, policy: &Policy, l: Level, input: &Input) -> Result<Offer, NoMemory>
+    requires level { l.0 < size policy.now.order }
+    requires tag { IsTagged policy.now.order input.now }
+    ensures value { IfOk result (λ seen. offered input.now seen ≡ sees policy.now l.0 input.now) }
+    // What isn't seen, and what is seen whole, is answered without memory.
+    ensures unseen { sees policy.now l.0 input.now ≡ None → result ≡ Ok Offer.Nothing }
+    ensures whole { leq policy.now.order (content policy.now input.now) l.0 ≡ true → result ≡ Ok Offer.Whole }
+{
+    let whole_from = policy.content(input);
+    let masked_from = policy.presence(input);
+    seen_at(alloc, policy, l, input, whole_from, masked_from)
+}
+
+/// What a level sees of an input that is seen whole from one level on, and masked from another.
+#[tactic(auto, unfolding(crate::specs::Route::sees))]
+fn seen_at(
     alloc: Global,
     policy: &Policy,
     l: Level,
     input: &Input,
-) -> Result<Option<Input>, NoMemory>
+    whole_from: Level,
+    masked_from: Level,
+) -> Result<Offer, NoMemory>
     requires level { l.0 < size policy.now.order }
-    requires tag { IsTagged policy.now.order input.now }
-    ensures value { IfOk result (λ seen. seen ≡ sees policy.now l.0 input.now) }
-    // What isn't seen is answered without memory.
-    ensures unseen { sees policy.now l.0 input.now ≡ None → result ≡ Ok None }
+    requires whole_from { whole_from.0 ≡ content policy.now input.now }
+    requires masked_from { masked_from.0 ≡ presence policy.now input.now }
+    requires whole_within { whole_from.0 < size policy.now.order }
+    requires masked_within { masked_from.0 < size policy.now.order }
+    ensures value { IfOk result (λ seen. offered input.now seen ≡ sees policy.now l.0 input.now) }
+    ensures unseen { sees policy.now l.0 input.now ≡ None → result ≡ Ok Offer.Nothing }
+    ensures whole { leq policy.now.order (content policy.now input.now) l.0 ≡ true → result ≡ Ok Offer.Whole }
 {
-    if policy.lattice().leq(policy.content(input), l) {
-        return Ok(Some(input.copy()?));
+    if policy.lattice().leq(whole_from, l) {
+        return Ok(Offer::Whole);
     }
-    if policy.lattice().leq(policy.presence(input), l) {
-        return Ok(Some(mask(alloc, input)?));
+    if policy.lattice().leq(masked_from, l) {
+        return Ok(Offer::Other(mask(alloc, input)?));
     }
-    Ok(None)
+    Ok(Offer::Nothing)
 }
 
-/// What each level sees of an input, in the order of the levels. Its one refusal is want of memory.
+/// What each level sees of an input, in the order of the levels. The input is lent. Its one refusal
+/// is want of memory.
 #[tactic(auto, using(crate::proofs::Fits::offers_more))]
-pub fn offers(alloc: Global, policy: &Policy, input: &Input) -> Result<Offers, NoMemory>
+pub fn offers<'a>(alloc: Global, policy: &Policy, input: &'a Input) -> Result<Offers<'a>, NoMemory>
     requires { IsTagged policy.now.order input.now }
     ensures { IfOk result (λ offers. offers ≡ spec.offers policy.now input.now) }
 {
-    let mut offers = Offers::new(alloc);
+    let whole_from = policy.content(input);
+    let masked_from = policy.presence(input);
+    let mut offers = Vec::new(alloc);
     for number in 0..policy.lattice().size() {
-        offers.push(sees(alloc, policy, Level(number), input)?)?;
+        let l = Level(number);
+        offers.push(seen_at(alloc, policy, l, input, whole_from, masked_from)?)?;
     }
-    Ok(offers)
+    Ok(Offers::of(input, offers))
 }
 
 /// Whether the level's copy lets this output out: whether it is of that level.

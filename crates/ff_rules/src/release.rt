@@ -2,6 +2,7 @@
 ghost use Rattle.std.specs.Prelude.{◌≡◌, ◌<◌, ◌≤◌, List, Option, Some, None, length, IfOk, OnOk, OnErr, MatchOption, All, bytes_eq};
 ghost use Rattle.ff_lattice.specs.Order.{size};
 ghost use Rattle.ff_value.specs.Kinds.{word_of};
+ghost use Rattle.ff_value.specs.Offers.{offered};
 ghost use Rattle.ff_route.specs.Route.{IsTagged, sees};
 ghost use Rattle.ff_rules.specs.Offering.{is_of_use, left_then, released, rule_offer, rule_offers};
 ghost use Rattle.ff_rules.specs.Lines.{IsRuleOf};
@@ -12,7 +13,7 @@ use crate::NoMemory;
 use crate::rule::{Rule, Rules};
 use ff_policy::Policy;
 use ff_route::{mask, offers, sees};
-use ff_value::{Input, Kind, Level, Offers, Worded, same_offer};
+use ff_value::{Input, Kind, Level, Offer, Offers, Worded, same_offer};
 use std::alloc::Global;
 use std::marker::Model;
 
@@ -56,12 +57,12 @@ impl Release {
     /// What the levels are offered of an input, in their order: what the first rule of use offers,
     /// which then has one less left, or what the levels see. Its one refusal is want of memory, and
     /// nothing is used then.
-    pub fn offers(
+    pub fn offers<'a>(
         &mut self,
         alloc: Global,
         policy: &Policy,
-        input: &Input,
-    ) -> Result<Offers, NoMemory>
+        input: &'a Input,
+    ) -> Result<Offers<'a>, NoMemory>
         requires tag { IsTagged policy.now.order input.now }
         requires levels { All (IsRuleOf policy.now.order) self.old }
         ensures offers { IfOk result (λ offers. offers ≡ released policy.now self.old input.now) }
@@ -122,25 +123,25 @@ fn differs(
 {
     let offer = rule_offer(alloc, policy, rule, input, l)?;
     let seen = sees(alloc, policy, l, input)?;
-    Ok(!same_offer(&offer, &seen))
+    Ok(!same_offer(input, &offer, &seen))
 }
 
 /// What a rule offers to the levels, in their order.
-fn rule_offers(
+fn rule_offers<'a>(
     alloc: Global,
     policy: &Policy,
     rule: Rule,
-    input: &Input,
-) -> Result<Offers, NoMemory>
+    input: &'a Input,
+) -> Result<Offers<'a>, NoMemory>
     requires tag { IsTagged policy.now.order input.now }
     requires level { IsRuleOf policy.now.order rule }
     ensures { IfOk result (λ offers. offers ≡ rule_offers policy.now rule input.now) }
 {
-    let mut offers = Offers::new(alloc);
+    let mut offers = Vec::new(alloc);
     for number in 0..policy.lattice().size() {
         offers.push(rule_offer(alloc, policy, rule, input, Level(number))?)?;
     }
-    Ok(offers)
+    Ok(Offers::of(input, offers))
 }
 
 /// What a rule offers to a level.
@@ -150,20 +151,21 @@ fn rule_offer(
     rule: Rule,
     input: &Input,
     l: Level,
-) -> Result<Option<Input>, NoMemory>
+) -> Result<Offer, NoMemory>
     requires tag { IsTagged policy.now.order input.now }
     requires level { IsRuleOf policy.now.order rule }
     requires within { l.0 < size policy.now.order }
-    ensures { IfOk result (λ offer. offer ≡ rule_offer policy.now rule input.now l.0) }
+    ensures { IfOk result (λ offer. offered input.now offer ≡ rule_offer policy.now rule input.now l.0) }
 {
     if !policy.lattice().leq(rule.level, l) {
         return sees(alloc, policy, l, input);
     }
     if rule.whole {
-        return Ok(Some(input.copy()?));
+        return Ok(Offer::Whole);
     }
-    match sees(alloc, policy, l, input)? {
-        Some(seen) => Ok(Some(seen)),
-        None => Ok(Some(mask(alloc, input)?)),
+    let seen = sees(alloc, policy, l, input)?;
+    match &seen {
+        Offer::Nothing => Ok(Offer::Other(mask(alloc, input)?)),
+        _ => Ok(seen),
     }
 }

@@ -14,6 +14,7 @@ use ff_session::{Copies, InputReader, new_pool};
 use ff_status::Status;
 use ff_steps::Steps;
 use ff_stream::{Reader, Taker};
+use ff_trace::Room;
 use ff_value::Input;
 use std::alloc::{AllocError, Global};
 use std::sync::ledger::Ledger;
@@ -81,8 +82,9 @@ fn ran<C: Ledger, L: Ledger>(
     let mut draws = Draws::new(start);
     let mut text = Vec::new(alloc);
     let mut pool = new_pool(alloc, policy)?;
+    let mut room = Room::new(alloc);
     for _drawn in 0..inputs {
-        let input = next_input(alloc, policy.lattice(), &mut draws)?;
+        let input = next_input(alloc, policy.lattice(), &mut room, &mut draws)?;
         taker.take(alloc, &mut pool, &input, &mut text, copies, turns)?;
     }
     Ok(text)
@@ -90,7 +92,12 @@ fn ran<C: Ledger, L: Ledger>(
 
 /// The next input that is drawn. It is refused for want of memory.
 #[tactic(auto, using(ff_session::proofs::Giving::is_given))]
-fn next_input(alloc: Global, lattice: &Lattice, draws: &mut Draws) -> Result<Input, AllocError>
+fn next_input(
+    alloc: Global,
+    lattice: &Lattice,
+    room: &mut Room,
+    draws: &mut Draws,
+) -> Result<Input, AllocError>
     ensures following { draws.new ≡ following draws.old }
     ensures drawn { IfOk result (IsDrawn lattice.now draws.new) }
     ensures input { IfOk result (IsInputOf lattice.now) }
@@ -101,7 +108,7 @@ fn next_input(alloc: Global, lattice: &Lattice, draws: &mut Draws) -> Result<Inp
         return Err(AllocError);
     };
     let reader = InputReader { lattice };
-    match reader.read(alloc, line.as_slice())? {
+    match reader.read(alloc, room, line.as_slice())? {
         Ok(Some(input)) => Ok(input),
         _ => Err(AllocError),
     }

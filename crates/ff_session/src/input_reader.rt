@@ -5,7 +5,7 @@ use ff_io::MOST_LINE_BYTES;
 use ff_lattice::Lattice;
 use ff_status::TraceFault;
 use ff_stream::Reader;
-use ff_trace::{LineFault, read_input};
+use ff_trace::{LineFault, Room, read_input};
 use ff_value::Input;
 use std::alloc::{AllocError, Global};
 
@@ -24,16 +24,23 @@ impl Reader for InputReader<'_> {
 
     type Fault = TraceFault;
 
+    type Room = Room;
+
     ghost gives = { λ reader line answer. Gives reader.lattice.now line answer };
 
     ghost once = { λ reader. gives_once reader.lattice.now };
 
+    fn room(&self, alloc: Global) -> Room {
+        Room::new(alloc)
+    }
+
     fn read(
         &self,
         alloc: Global,
+        room: &mut Room,
         line: &[u8],
     ) -> Result<Result<Option<Input>, TraceFault>, AllocError> {
-        read_line(alloc, self.lattice, line)
+        read_line(alloc, room, self.lattice, line)
     }
 }
 
@@ -41,13 +48,14 @@ impl Reader for InputReader<'_> {
 #[tactic(auto, using(crate::proofs::Giving::gives_none, crate::proofs::Giving::gives_input, crate::proofs::Giving::gives_fault))]
 fn read_line(
     alloc: Global,
+    room: &mut Room,
     lattice: &Lattice,
     line: &[u8],
 ) -> Result<Result<Option<Input>, TraceFault>, AllocError>
     requires { length line.now ≤ MOST_LINE_BYTES }
     ensures { IfOk result (Gives lattice.now line.now) }
 {
-    match read_input(alloc, line, lattice) {
+    match read_input(alloc, room, line, lattice) {
         Ok(given) => Ok(Ok(given)),
         Err(LineFault::NoMemory) => Err(AllocError),
         Err(fault) => Ok(Err(TraceFault::Line(fault))),

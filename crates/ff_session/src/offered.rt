@@ -26,7 +26,7 @@ pub fn take_offers<C: Ledger, L: Ledger>(
     policy: &Policy,
     slice: u32,
     pool: &mut Pool,
-    offers: &Offers,
+    offers: &Offers<'_>,
     text: &mut Vec<u8>,
     copies: &mut Steps<C>,
     turns: &mut Steps<L>,
@@ -50,7 +50,7 @@ fn give<C: Ledger, L: Ledger>(
     policy: &Policy,
     slice: u32,
     pool: &mut Pool,
-    offers: &Offers,
+    offers: &Offers<'_>,
     copies: &mut Steps<C>,
     turns: &mut Steps<L>,
 ) -> Result<(), AllocError>

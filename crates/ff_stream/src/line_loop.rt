@@ -46,10 +46,11 @@ pub fn stream<R: Reader, T: Taker<Item = R::Item>, P: Port, C: Ledger, L: Ledger
         → Rose (P.write_faults port.old) (P.write_faults port.new) }
 {
     let mut lines = Lines::new(alloc);
+    let mut room = reader.room(alloc);
     let mut text = Vec::new(alloc);
     let mut number = 0;
     loop {
-        let item = match read_item(alloc, reader, &mut lines, &mut number, port) {
+        let item = match read_item(alloc, reader, &mut room, &mut lines, &mut number, port) {
             Ok(item) => item,
             Err(end) => return end,
         };
@@ -65,6 +66,7 @@ pub fn stream<R: Reader, T: Taker<Item = R::Item>, P: Port, C: Ledger, L: Ledger
 fn read_item<R: Reader, P: Port>(
     alloc: Global,
     reader: &R,
+    room: &mut R::Room,
     lines: &mut Lines,
     number: &mut u64,
     port: &mut P,
@@ -81,7 +83,7 @@ fn read_item<R: Reader, P: Port>(
 {
     *number += 1;
     match lines.next(port) {
-        Ok(Next::Line(line)) => match reader.read(alloc, &line) {
+        Ok(Next::Line(line)) => match reader.read(alloc, room, &line) {
             Ok(Ok(item)) => Ok(item),
             Ok(Err(fault)) => Err(End::Bad(BadLine {
                 number: *number,

@@ -12,8 +12,15 @@ pub trait Reader {
     /// What is wrong with a line that is refused.
     type Fault: Copy;
 
+    /// Memory that the reading of one line leaves to that of the next. What a line gives doesn't
+    /// depend on it.
+    type Room: Drop;
+
     // What a line gives: an item, none as a blank line does, or what is wrong with it.
     ghost gives: { Self → List ℕ → Result (Option Self.Item) Self.Fault → Type 0 };
+
+    /// Room for the first line.
+    fn room(&self, alloc: Global) -> Self::Room;
 
     /// Reads a line of at most [`MOST_LINE_BYTES`] bytes, without its newline.
     ///
@@ -23,6 +30,7 @@ pub trait Reader {
     fn read(
         &self,
         alloc: Global,
+        room: &mut Self::Room,
         line: &[u8],
     ) -> Result<Result<Option<Self::Item>, Self::Fault>, AllocError>
         requires { length line.now ≤ MOST_LINE_BYTES }

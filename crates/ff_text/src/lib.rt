@@ -18,4 +18,4 @@ pub use ff_name::{NoMemory, Text};
 pub use items::{Items, Sexp, Span, TextFault};
 pub use law::a_text_spells_items_or_has_a_fault;
 pub use printing::{print, quote};
-pub use reading::{MOST_BYTES, read, read_items};
+pub use reading::{MOST_BYTES, read, read_items, read_items_in};

@@ -1,4 +1,4 @@
-ghost use Rattle.std.specs.Prelude.{◌≡◌, ◌<◌, ◌+◌, ◌-◌, ◌^◌, ℕ, true, get_or, length, IsTrue};
+ghost use Rattle.std.specs.Prelude.{◌≡◌, ◌<◌, ◌+◌, ◌-◌, ◌^◌, ℕ, [], true, get_or, length, IsTrue};
 ghost use Rattle.std.specs.List.{list_all};
 ghost use Rattle.ff_contract.specs.Answering.{Answers};
 ghost use Rattle.ff_text.specs.Bytes as bytes;
@@ -52,12 +52,14 @@ pub(crate) struct Reader {
 }
 
 impl Reader {
-    pub(crate) fn new(alloc: Global) -> Reader
+    /// A reader that puts its items where there are none yet.
+    pub(crate) fn new(alloc: Global, items: Row<Sexp>) -> Reader
+        requires { items ≡ [] }
         ensures { result ≡ machine.start }
     {
         Reader {
             opened: Stack::new(alloc),
-            items: Row::new(alloc),
+            items,
             at: 0,
             mode: Mode::Between,
             word: WordBytes::new(alloc),

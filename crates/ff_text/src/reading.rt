@@ -9,6 +9,7 @@ ghost use Rattle.ff_text.specs.Printed.{AreWellSpelled, IsWellSpelled};
 
 use crate::items::{Items, Sexp, TextFault};
 use crate::reader::Reader;
+use crate::rows::Row;
 use std::alloc::Global;
 
 /// The most bytes that a text may have.
@@ -24,7 +25,20 @@ pub fn read_items(alloc: Global, bytes: &[u8]) -> Result<Items, TextFault>
     ensures fault { IfErr result (λ fault. (fault ≡ TextFault.NoMemory) ⊎ FirstFault bytes.now fault) }
     ensures exact { (fault : TextFault) → FirstFault bytes.now fault → Answers result (Err fault) (Err TextFault.NoMemory) }
 {
-    read_whole(alloc, bytes)
+    read_whole(alloc, Row::new(alloc), bytes)
+}
+
+/// Reads all items of a text as `read_items` does, in the room of a list whose items go: who reads
+/// many short texts, one after another, takes memory for their lists once.
+pub fn read_items_in(alloc: Global, room: Items, bytes: &[u8]) -> Result<Items, TextFault>
+    requires { length bytes.now ≤ MOST_BYTES }
+    ensures found { IfOk result (SpellsItems bytes.now) }
+    ensures well_spelled { IfOk result AreWellSpelled }
+    ensures only { (items : List Sexp) → SpellsItems bytes.now items → Answers result (Ok items) (Err TextFault.NoMemory) }
+    ensures fault { IfErr result (λ fault. (fault ≡ TextFault.NoMemory) ⊎ FirstFault bytes.now fault) }
+    ensures exact { (fault : TextFault) → FirstFault bytes.now fault → Answers result (Err fault) (Err TextFault.NoMemory) }
+{
+    read_whole(alloc, Row::in_room_of(room), bytes)
 }
 
 /// Reads a text that is one item. After the faults of the text come `Empty`, and `Extra` at the
@@ -44,7 +58,7 @@ fn read_single(alloc: Global, bytes: &[u8]) -> Result<Sexp, TextFault>
     requires { length bytes.now ≤ MOST_BYTES }
     ensures { Answers result (one_in (verdict bytes.now)) (Err TextFault.NoMemory) }
 {
-    match read_whole(alloc, bytes) {
+    match read_whole(alloc, Row::new(alloc), bytes) {
         Ok(items) => single(items),
         Err(fault) => Err(fault),
     }
@@ -75,11 +89,12 @@ fn place_of(item: &Sexp) -> u32
     }
 }
 
-fn read_whole(alloc: Global, bytes: &[u8]) -> Result<Items, TextFault>
-    requires { length bytes.now ≤ MOST_BYTES }
+fn read_whole(alloc: Global, items: Row<Sexp>, bytes: &[u8]) -> Result<Items, TextFault>
+    requires bytes { length bytes.now ≤ MOST_BYTES }
+    requires none { items ≡ [] }
     ensures { Answers result (verdict bytes.now) (Err TextFault.NoMemory) }
 {
-    let mut reader = Reader::new(alloc);
+    let mut reader = Reader::new(alloc, items);
     let mut left = bytes;
     while !left.is_empty() {
         match reader.take_some(alloc, left) {

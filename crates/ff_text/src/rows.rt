@@ -35,6 +35,15 @@ impl<T: Drop> Row<T> {
         }
     }
 
+    /// No items, in the room that those of a list had.
+    pub(crate) fn in_room_of(list: OwnedList<T>) -> Row<T>
+        ensures { result ≡ [] }
+    {
+        let mut items = list.into_vec();
+        items.clear();
+        Row { items }
+    }
+
     pub(crate) fn push(&mut self, item: T) -> Result<(), NoMemory>
         ensures { OnOk result (self.new ≡ self.old ++ item ∷ []) }
     {

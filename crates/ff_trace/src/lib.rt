@@ -20,4 +20,4 @@ pub use law::{
 };
 pub use parts::{number_of, read_address, read_domain, read_number, read_string};
 pub use printing::{print_input, print_out};
-pub use reading::{is_silent, read_input};
+pub use reading::{Room, is_silent, read_input};

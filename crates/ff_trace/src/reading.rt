@@ -9,16 +9,50 @@ ghost use Rattle.ff_trace.specs.Lines as lines;
 use crate::LineFault;
 use crate::acts::read_act;
 use ff_lattice::Lattice;
-use ff_text::{Sexp, TextFault, read_items};
+use ff_text::{Items, Sexp, TextFault, read_items_in};
 use ff_value::Input;
 use std::alloc::Global;
+use std::mem;
+
+/// Memory that the reading of one line leaves to that of the next. What a line gives doesn't depend
+/// on it.
+#[derive(Drop)]
+pub struct Room {
+    items: Items,
+}
+
+impl Room {
+    /// Room for the first line.
+    pub fn new(alloc: Global) -> Room {
+        Room {
+            items: Items::from_vec(Vec::new(alloc)),
+        }
+    }
+
+    /// What there is of it, and none is left.
+    fn take(&mut self, alloc: Global) -> Items {
+        mem::replace(&mut self.items, Items::from_vec(Vec::new(alloc)))
+    }
+
+    /// The items go, and their room is left.
+    fn leave(&mut self, items: Items) {
+        let mut items = items.into_vec();
+        items.clear();
+        self.items = Items::from_vec(items);
+    }
+}
 
 /// The input of a line of at most `ff_text::MOST_BYTES` bytes, without its newline. `None` for a
 /// line of blanks alone, and for a comment: a line whose first byte that isn't a blank is `#`. The
 /// refusals, the first of which decides: the line isn't a text of items; its tag names no level of
 /// the lattice; no kind follows, or none of the seven; a wrong number of parts; a part that is no
 /// number below 2^32, no address or domain, no string or no response, the parts from left to right.
-pub fn read_input(alloc: Global, line: &[u8], lattice: &Lattice) -> Result<Option<Input>, LineFault>
+pub fn read_input(
+    alloc: Global,
+    room: &mut Room,
+    line: &[u8],
+    lattice: &Lattice,
+) -> Result<Option<Input>, LineFault>
     requires { length line.now ≤ MOST_BYTES }
     ensures found { IfOk result (λ answer. ReadsLine lattice.now line.now (Ok answer)) }
     ensures well_spelled { IfOk result (λ answer. IfSome answer (IsInputOf lattice.now)) }
@@ -28,11 +62,16 @@ pub fn read_input(alloc: Global, line: &[u8], lattice: &Lattice) -> Result<Optio
     // Where this is the first fault, it is answered.
     ensures exact { (which : LineFault) → ReadsLine lattice.now line.now (Err which) → Gives result (Err which) }
 {
-    first_read(alloc, line, lattice)
+    first_read(alloc, room, line, lattice)
 }
 
 /// The input or the first fault.
-fn first_read(alloc: Global, line: &[u8], lattice: &Lattice) -> Result<Option<Input>, LineFault>
+fn first_read(
+    alloc: Global,
+    room: &mut Room,
+    line: &[u8],
+    lattice: &Lattice,
+) -> Result<Option<Input>, LineFault>
     requires { length line.now ≤ MOST_BYTES }
     ensures found { ReadsLine lattice.now line.now result ⊎ (result ≡ Err LineFault.NoMemory) }
     ensures well_spelled { IfOk result (λ answer. IfSome answer (IsInputOf lattice.now)) }
@@ -40,8 +79,12 @@ fn first_read(alloc: Global, line: &[u8], lattice: &Lattice) -> Result<Option<In
     if is_silent(line) {
         return Ok(None);
     }
-    match read_items(alloc, line) {
-        Ok(items) => read_tagged(alloc, items.as_slice(), lattice),
+    match read_items_in(alloc, room.take(alloc), line) {
+        Ok(items) => {
+            let read = read_tagged(alloc, items.as_slice(), lattice);
+            room.leave(items);
+            read
+        }
         Err(fault) => match fault {
             TextFault::NoMemory => Err(LineFault::NoMemory),
             _ => Err(LineFault::Text(fault)),

@@ -1,13 +1,9 @@
-ghost use Rattle.std.specs.Option.{option_eq};
-ghost use Rattle.ff_value.specs.Same.{same_input};
-ghost use Rattle.std.specs.Prelude.{◌≡◌, ◌↔◌, ◌∷◌, ◌++◌, [], IfOk, IsTrue, OnOk, OnErr};
+ghost use Rattle.std.specs.Prelude.{◌≡◌, ◌↔◌, IfOk, IsTrue};
 
 use crate::kind::Kind;
 use crate::reply::Resp;
 use ff_name::{Domain, Level, NoMemory, Text, Url};
-use std::alloc::Global;
 use std::cmp::{Eq, PartialEq};
-use std::marker::Model;
 
 /// What the user does or a server answers. A window's number is its position among the open
 /// windows, from 0.
@@ -97,72 +93,6 @@ impl Input {
             act: self.act.copy()?,
         })
     }
-}
-
-/// What each level is offered of one input, in the order of the levels: contracts see the list.
-#[derive(Debug, Drop)]
-pub struct Offers {
-    offers: Vec<Option<Input>>,
-}
-
-impl Model for Offers {
-    ghost use Rattle.std.specs.Prelude.{List, Option};
-    ghost use Rattle.ff_value.specs.declared.input.Input.{Input};
-    ghost use Rattle.std.specs.Coded.{coded_list, coded_option};
-    ghost use Rattle.ff_value.specs.contracts.input.Input.{the_row};
-
-    ghost Value = { List (Option Input) };
-
-    ghost coded = { coded_list (coded_option the_row.coded) };
-
-    ghost view = { λ o. o.offers.items };
-}
-
-impl Offers {
-    /// No offers.
-    pub fn new(alloc: Global) -> Offers
-        ensures { result ≡ [] }
-    {
-        Offers {
-            offers: Vec::new(alloc),
-        }
-    }
-
-    /// Adds the offer of the next level. After `NoMemory` the offers are as they were.
-    pub fn push(&mut self, one: Option<Input>) -> Result<(), NoMemory>
-        ensures done { OnOk result (self.new ≡ self.old ++ one ∷ []) }
-        ensures kept { OnErr result (self.new ≡ self.old) }
-    {
-        self.offers.push(one)?;
-        Ok(())
-    }
-
-    /// The offers in the order of the levels.
-    pub fn as_slice(&self) -> &[Option<Input>]
-        ensures { result.now ≡ self.now }
-    {
-        self.offers.as_slice()
-    }
-}
-
-/// Whether two offers are equal, with the tags of their inputs.
-pub fn same_offer(a: &Option<Input>, b: &Option<Input>) -> bool
-    ensures { result ≡ option_eq same_input a.now b.now }
-{
-    match a {
-        None => b.is_none(),
-        Some(x) => match b {
-            None => false,
-            Some(y) => same_input(x, y),
-        },
-    }
-}
-
-/// Whether two inputs are equal, their tags too.
-fn same_input(x: &Input, y: &Input) -> bool
-    ensures { result ≡ same_input x.now y.now }
-{
-    *x == *y
 }
 
 impl PartialEq for Act {

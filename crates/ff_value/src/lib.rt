@@ -8,6 +8,7 @@ mod fault;
 mod ids;
 mod input;
 mod kind;
+mod offers;
 mod output;
 mod reply;
 mod value;
@@ -20,8 +21,9 @@ pub use ff_tree::{
     Body, Doc, Docs, Expr, Exprs, Handler, Handlers, Lit, MOST_HANDLERS, Names, Op, weight_doc,
 };
 pub use ids::{ActId, Ids, NodeId, PageId, WinId};
-pub use input::{Act, Input, Offers, same_offer};
+pub use input::{Act, Input};
 pub use kind::Kind;
+pub use offers::{Offer, Offers, same_offer};
 pub use output::{Out, Pair, Pairs, Shown, ShownPart};
 pub use reply::{CookieOp, Cookies, Resp};
 pub use value::{Code, Codes, Val};

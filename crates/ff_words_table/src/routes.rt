@@ -6,7 +6,7 @@ use anyhow::Result;
 use ff_name::{Level, Url};
 use ff_policy::Policy;
 use ff_route::{keep, mask, offers, sees};
-use ff_value::{Act, Input, Out};
+use ff_value::{Act, Input, Offer, Out};
 
 /// The input that opens an empty window, with the tag of `H`.
 fn opening() -> Input
@@ -18,12 +18,21 @@ fn opening() -> Input
     }
 }
 
-/// What is seen of the input, in words.
-fn in_words(seen: &Option<Input>) -> &'static str {
-    match seen {
+/// What is offered of the input, in words.
+fn in_words(offered: Option<&Input>) -> &'static str {
+    match offered {
         None => "nothing",
         Some(input) if *input == opening() => "the input as it is",
         Some(_) => "another input",
+    }
+}
+
+/// What is seen of the input, in words.
+fn seen_in_words(seen: &Offer) -> &'static str {
+    match seen {
+        Offer::Nothing => "nothing",
+        Offer::Whole => "the input as it is",
+        Offer::Other(_) => "another input",
     }
 }
 
@@ -31,15 +40,20 @@ fn show_sees(rt: &HostRuntime) -> Result<()> {
     let policy = Policy::builtin(rt.alloc())?;
     let low = sees(rt.alloc(), &policy, Level(0), &opening())?;
     let high = sees(rt.alloc(), &policy, Level(1), &opening())?;
-    println!(rt; "L sees {}, H sees {}", in_words(&low), in_words(&high))?;
+    println!(rt;
+        "L sees {}, H sees {}",
+        seen_in_words(&low),
+        seen_in_words(&high)
+    )?;
     Ok(())
 }
 
 fn show_offers(rt: &HostRuntime) -> Result<()> {
     let policy = Policy::builtin(rt.alloc())?;
-    let offers = offers(rt.alloc(), &policy, &opening())?;
-    for offer in offers.as_slice() {
-        println!(rt; "offered {}", in_words(offer))?;
+    let input = opening();
+    let offers = offers(rt.alloc(), &policy, &input)?;
+    for l in 0..offers.len() {
+        println!(rt; "offered {}", in_words(offers.to(l)))?;
     }
     Ok(())
 }
@@ -55,7 +69,7 @@ fn show_keeps(rt: &HostRuntime) -> Result<()> {
 /// Prints what is left of an input that is masked: its tag, and an address that says nothing.
 fn show_mask(rt: &HostRuntime) -> Result<()> {
     let masked = mask(rt.alloc(), &opening())?;
-    println!(rt; "masked: {}", in_words(&Some(masked)))?;
+    println!(rt; "masked: {}", in_words(Some(&masked)))?;
     Ok(())
 }
 

@@ -1,8 +1,8 @@
 //! Values of scripts, offers, and the words of kinds and faults.
 
 use ff_value::{
-    Act, ActId, Code, Expr, Fault, Input, Kind, Lit, NoMemory, NodeId, Offers, Shared, SharedList,
-    Text, Url, Val, WinId, Worded, by_word,
+    Act, ActId, Code, Expr, Fault, Input, Kind, Lit, NoMemory, NodeId, Offer, Offers, Shared,
+    SharedList, Text, Url, Val, WinId, Worded, by_word,
 };
 use std::alloc::Global;
 use std::io;
@@ -80,10 +80,12 @@ fn opening() -> Input {
 }
 
 fn show_offers(rt: &HostRuntime) -> io::Result<()> {
-    let mut offers = Offers::new(rt.alloc());
-    offers.push(None)?;
-    offers.push(Some(opening()))?;
-    let same = offers.as_slice() == [None, Some(opening())].as_slice();
+    let input = opening();
+    let mut offers = Vec::new(rt.alloc());
+    offers.push(Offer::Nothing)?;
+    offers.push(Offer::Whole)?;
+    let offers = Offers::of(&input, offers);
+    let same = offers.to(0).is_none() && offers.to(1).is_some_and(|seen| *seen == input);
     println!(rt; "none and then one that opens a window are offered in this order: {same}")
 }
 

@@ -1,7 +1,8 @@
 use Rattle.std.proofs.Common.{◌≡◌, map}
 use Rattle.ff_reactive.specs.Copies.{below}
+use Rattle.ff_value.specs.Offers.{all_offered}
 use Rattle.ff_route.specs.Route.{sees}
 use Rattle.ff_route.proofs.route.offers.Given as goal
 
 abbrev pub invariant-loop-number : goal.invariant-loop-number
-invariant-loop-number l = l.offers ≡ map (λ k. sees l.policy k l.input) (below l.number)
+invariant-loop-number l = all_offered l.input l.offers.items ≡ map (λ k. sees l.policy k l.input) (below l.number)

@@ -9,8 +9,8 @@ returns-then-is_silent-clause-found c = inl (silent (sym c.is_silent.ensures ∙
 
 pub returns-in-Ok-clause-found : goal.returns-in-Ok-clause-found
 returns-in-Ok-clause-found c =
-    found_items c.args.lattice.now c.args.line.now c.in-Ok.items c.read_tagged.result (sym c.is_silent.ensures ∙ c.if-is_silent.false) c.in-Ok.ensures.found
-    (subst (λ (items : List Sexp). Gives c.read_tagged.result (input_in c.args.lattice.now items)) c.as_slice.ensures c.read_tagged.ensures.value)
+    found_items c.args.lattice.now c.args.line.now c.in-Ok.items c.read_tagged-read.result (sym c.is_silent.ensures ∙ c.if-is_silent.false) c.in-Ok.ensures.found
+    (subst (λ (items : List Sexp). Gives c.read_tagged-read.result (input_in c.args.lattice.now items)) c.as_slice.ensures c.read_tagged-read.ensures.value)
 
 pub returns-in_default-clause-found : goal.returns-in_default-clause-found
 returns-in_default-clause-found c =
