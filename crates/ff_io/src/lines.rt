@@ -156,6 +156,17 @@ impl Lines {
             }
         }
     }
+
+    /// Takes back a line that was given, for the memory that it has: the next one is put there.
+    pub fn take_back(&mut self, line: Vec<u8>)
+        ensures { self.new ≡ self.old }
+    {
+        if self.line.is_empty() {
+            let mut line = line;
+            line.clear();
+            self.line = line;
+        }
+    }
 }
 
 // Reads until a line is whole, or the end was seen, and says whether it is whole.

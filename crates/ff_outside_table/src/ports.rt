@@ -54,7 +54,10 @@ pub fn show_lines<P: Port>(rt: &HostRuntime, port: &mut P) -> io::Result<()> {
             break;
         }
         match lines.next(port) {
-            Ok(Next::Line(line)) => show_line(rt, &line)?,
+            Ok(Next::Line(line)) => {
+                show_line(rt, &line)?;
+                lines.take_back(line);
+            }
             Ok(Next::End) => return println!(rt; "  the end"),
             Err(fail) => show_fail(rt, fail)?,
         }

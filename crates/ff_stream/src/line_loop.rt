@@ -83,14 +83,18 @@ fn read_item<R: Reader, P: Port>(
 {
     *number += 1;
     match lines.next(port) {
-        Ok(Next::Line(line)) => match reader.read(alloc, room, &line) {
-            Ok(Ok(item)) => Ok(item),
-            Ok(Err(fault)) => Err(End::Bad(BadLine {
-                number: *number,
-                fault: Fault::Line(fault),
-            })),
-            Err(_) => Err(End::NoMemory),
-        },
+        Ok(Next::Line(line)) => {
+            let read = reader.read(alloc, room, &line);
+            lines.take_back(line);
+            match read {
+                Ok(Ok(item)) => Ok(item),
+                Ok(Err(fault)) => Err(End::Bad(BadLine {
+                    number: *number,
+                    fault: Fault::Line(fault),
+                })),
+                Err(_) => Err(End::NoMemory),
+            }
+        }
         Ok(Next::End) => Err(End::Done),
         Err(fail) => Err(end_of(*number, fail)),
     }

@@ -1,15 +1,16 @@
 -- What a run of bytes does to the reader.
-use Rattle.std.proofs.Common.{◌≡◌, ◌≢◌, ◌⊎◌, ◌<◌, ◌≤◌, ◌+◌, ◌==◌, ℕ, suc, zero, Bool, true, false, Result, Ok, Err, List, [], ◌∷◌, ◌++◌, length, take, drop, get_or, refl, sym, ◌∙◌, ap, subst, arith, append_assoc, append-nil, add-zero, length-append}
+use Rattle.std.proofs.Common.{◌≡◌, ◌≢◌, ◌⊎◌, ◌<◌, ◌≤◌, ◌+◌, ◌-◌, ◌==◌, ℕ, suc, zero, Bool, true, false, if◌then◌else◌, Result, Ok, Err, List, [], ◌∷◌, ◌++◌, length, take, drop, get_or, refl, sym, ◌∙◌, ap, subst, arith, append_assoc, append-nil, add-zero, length-append}
 use Rattle.std.specs.Prelude.{IsErrAnd}
 use Rattle.std.specs.List.{list_all}
+use Rattle.std.specs.Str.{is_utf8}
 use Rattle.std.proofs.lemmas.Bool.{and_parts}
 use Rattle.std.proofs.lemmas.Bool.Decides.{nat_tests}
-use Rattle.std.proofs.lemmas.List.{take_more, take-append-drop, length-take-le}
+use Rattle.std.proofs.lemmas.List.{take_more, take-append-drop, length-take-le, length-drop, take_all, drop_all}
 use Rattle.ff_text.specs.declared.bytes.Class.{Class}
 use Rattle.ff_text.specs.declared.bytes.Class.TheVariants as class
 use Rattle.ff_text.specs.declared.bytes.InStr.TheVariants as str
 use Rattle.ff_text.specs.declared.items.Sexp.{Sexp}
-use Rattle.ff_text.specs.declared.items.Sexp.TheVariants.{Word}
+use Rattle.ff_text.specs.declared.items.Sexp.TheVariants.{Word, Str}
 use Rattle.ff_text.specs.declared.items.TextFault.{TextFault}
 use Rattle.ff_text.specs.declared.items.TextFault.TheVariants as fault
 use Rattle.ff_text.specs.declared.reader.Reader.{Reader}
@@ -18,7 +19,7 @@ use Rattle.ff_text.specs.declared.reader.Mode.{Mode}
 use Rattle.ff_text.specs.declared.reader.Mode.TheVariants as mode
 use Rattle.ff_text.specs.Bytes.{is_word_byte, is_plain_byte}
 use Rattle.ff_text.specs.Classes.{class_of, in_str_of}
-use Rattle.ff_text.specs.Machine.{HasDigit, MakesSome, advance, step, step_in, start, outside, word_run, word_put, word_ended, span, value_run, verdict, verdict_of, finish}
+use Rattle.ff_text.specs.Machine.{HasDigit, MakesSome, advance, step, step_in, start, outside, end_str, string_put, word_run, word_put, word_ended, span, value_run, GoesOn, verdict, verdict_of, finish, finish_in, end_items}
 use Rattle.ff_text.proofs.ClassLemmas.{class_of-word}
 use Rattle.ff_text.proofs.Room.{Grows, step_grows}
 use Rattle.ff_text.proofs.Standing.{advance-append, advance-err, advance-none, advance-one}
@@ -169,6 +170,64 @@ pub takes_whole_word : (old put : Reader) (left : List ℕ) (n : ℕ) (made : Re
 takes_whole_word old put left n made between none some inside h next e g =
     takes_word old (word_run old (take n left)) put left n made between some inside h next refl (ap made_of (whole_word old (take n left) between none) ∙ e) g
 
+-- a string without escapes
+abbrev in_string : Reader → Reader
+in_string r = record r { mode = mode.Str r.at; at = r.at + 1 }
+
+mark_on : (r : Reader) (b : ℕ) → b ≡ 34 → outside r b ≡ Ok (in_string r)
+unfolding class_of
+mark_on r b e = rw e refl
+
+mark_ends : (r : Reader) (from b : ℕ) → r.mode ≡ mode.Str from → b ≡ 34 → step r b ≡ end_str r from
+unfolding step in_str_of
+mark_ends r from b quoted e = rw (quoted, e) refl
+
+pub takes_outside : (left : List ℕ) (old : Reader) → old.mode ≡ mode.Between → 0 < length left → advance (take 1 left) (Ok old) ≡ outside old (get_or left 0 0)
+unfolding step
+takes_outside left old between some = takes_one left old some ∙ ap (λ m. step_in m old (get_or left 0 0)) between
+
+string_in : (opened : List Opened) (items : List Sexp) (at : ℕ) (word value : List ℕ)
+    → end_str (value_run (record { opened = opened; items = items; at = at + 1; mode = mode.Str at; word = word; value = [] }) value) at
+    ≡ string_put (record { opened = opened; items = items; at = at; mode = mode.Between; word = word; value = [] }) value
+string_in opened items at word value =
+    let place : at + 1 + length value + 1 ≡ at + (length value + 2) = omega arith in
+    ap
+    (λ k. if is_utf8 value
+    then Ok (record { opened = opened; items = items ++ Str (span at k) value ∷ []; at = k; mode = mode.Between; word = word; value = [] })
+    else Err (fault.BadUtf8 at)) place
+
+whole_string : (old : Reader) (value : List ℕ) → old.mode ≡ mode.Between → old.value ≡ [] → end_str (value_run (in_string old) value) old.at ≡ string_put old value
+whole_string old value between none =
+    ap (λ bs. end_str (value_run (record (in_string old) { value = bs }) value) old.at) none
+    ∙ string_in old.opened old.items old.at old.word value
+    ∙ ap (λ (m : Mode). string_put (record old { mode = m; value = [] }) value) (sym between) ∙ ap (λ bs. string_put (record old { value = bs }) value) (sym none)
+
+pub string_good : (r : Reader) (value : List ℕ) → is_utf8 value ≡ true
+    → string_put r value ≡ Ok (record r { items = r.items ++ Str (span r.at (r.at + (length value + 2))) value ∷ []; at = r.at + (length value + 2) })
+string_good r value e = rw e refl
+
+-- all but the first
+pub rest_all : (left : List ℕ) → take (length left - 1) (drop 1 left) ≡ drop 1 left
+rest_all left = let size = length-drop 1 left in take_all (length left - 1) (drop 1 left) (omega (arith, size))
+
+string_bytes : (b : ℕ) (rest : List ℕ) (n : ℕ) → n < length rest → get_or rest n 0 ≡ 34 → take (n + 2) (b ∷ rest) ≡ b ∷ (take n rest ++ 34 ∷ [])
+string_bytes b rest n inside e =
+    let more : n + 2 ≡ suc (n + 1) = omega arith in
+    ap (λ k. take k (b ∷ rest)) more ∙ ap (λ bs. b ∷ bs) (take_more rest n 0 inside) ∙ ap (λ x. b ∷ (take n rest ++ x ∷ [])) e
+
+pub takes_string : (old : Reader) (left : List ℕ) (n : ℕ) → old.mode ≡ mode.Between → old.value ≡ [] → 0 < length left → get_or left 0 0 ≡ 34 → n < length (drop 1 left)
+    → list_all is_plain_byte (take n (drop 1 left)) ≡ true → get_or (drop 1 left) n 0 ≡ 34 → advance (take (n + 2) left) (Ok old) ≡ string_put old (take n (drop 1 left))
+unfolding advance step
+takes_string old [] n between none some first inside h last = absurd (omega arith)
+takes_string old (b ∷ rest) n between none some first inside h last =
+    let value = take n rest in
+    ap (λ bs. advance bs (Ok old)) (string_bytes b rest n inside last)
+    ∙ ap (advance (value ++ 34 ∷ [])) (ap (λ m. step_in m old b) between ∙ mark_on old b first)
+    ∙ advance-append value (34 ∷ []) (Ok (in_string old))
+    ∙ ap (advance (34 ∷ [])) (runs_plain (in_string old) old.at value refl h) ∙ advance-one (value_run (in_string old) value) 34
+    ∙ mark_ends (value_run (in_string old) value) old.at 34 refl refl
+    ∙ whole_string old value between none
+
 -- a refusal
 pub some_err : (answer : Result ℕ TextFault) (old new : Reader) (left : List ℕ) (which : TextFault) → IsErrAnd answer (λ e. e ≡ which) → (which ≡ fault.NoMemory) ⊎ (advance left (Ok old) ≡ Err which) → MakesSome answer old new left
 some_err (Ok n) old new left which is made = absurd is
@@ -191,42 +250,70 @@ reaches (b ∷ bytes) old new digit e = by_step (step old b) (λ r. reaches byte
       record { place = omega arith; digit = rest.digit }
   by_step (Err which) later grows f = let stopped : advance bytes (Err which) ≡ Err which = advance-err bytes which in cc
 
--- these bytes were read, and those are left
+-- the bytes at the front, and the others
+front_first : (left : List ℕ) (n : ℕ) (old new : Reader) → advance (take n left) (Ok old) ≡ Ok new → verdict_of (advance left (Ok old)) ≡ verdict_of (advance (drop n left) (Ok new))
+front_first left n old new e =
+    ap verdict_of
+    (ap (λ bs. advance bs (Ok old)) (sym (take-append-drop n left)) ∙ advance-append (take n left) (drop n left) (Ok old)
+    ∙ ap (advance (drop n left)) e)
+
+pub front_made : (left : List ℕ) (n : ℕ) (old new : Reader) → n ≤ length left → HasDigit old.mode → advance (take n left) (Ok old) ≡ Ok new → GoesOn old new n left
+front_made left n old new within digit e =
+    let so_far = reaches (take n left) old new digit e in
+    record {
+      same = front_first left n old new e;
+      place = so_far.place ∙ ap (λ k. old.at + k) (length-take-le n left within);
+      digit = so_far.digit;
+    }
+
+-- a word at the end is the same whether more of it might come or not
+word_over : (old : Reader) (word : List ℕ) → old.mode ≡ mode.Between → old.word ≡ [] → finish (word_run old word) ≡ finish (word_put old word)
+unfolding finish
+word_over old word between none =
+    ap end_items (whole_word old word between none) ∙ ap (λ m. finish_in m (word_put old word)) (sym between)
+
+pub last_word : (old put : Reader) (left : List ℕ) (n : ℕ) → old.mode ≡ mode.Between → old.word ≡ [] → 0 < n → n ≡ length left → list_all is_word_byte (take n left) ≡ true
+    → made_of (word_put old (take n left)) ≡ Ok put → GoesOn old put n left
+last_word old put left n between none some all h e =
+    let over : drop n left ≡ [] = drop_all n left (omega (arith, all)) in
+    let is_put : word_put old (take n left) ≡ put = same_reader _ _ e in
+    let within : n ≤ length left = omega (arith, all) in
+    record {
+      same = front_first left n old _ (begins_word old left n between some within h) ∙ ap (λ bs. verdict_of (advance bs (Ok (word_run old (take n left))))) over
+          ∙ ap verdict_of (advance-none (Ok (word_run old (take n left))))
+          ∙ word_over old (take n left) between none ∙ ap finish is_put ∙ sym (ap verdict_of (advance-none (Ok put))) ∙ ap (λ bs. verdict_of (advance bs (Ok put))) (sym over);
+      place = ap (λ r. r.at) (sym is_put) ∙ ap (λ k. old.at + k) (length-take-le n left within);
+      digit = subst (λ r. HasDigit r.mode) is_put (subst HasDigit (sym between) tt);
+    }
+
+-- those of the bytes that are left give what all of them give
 pub record ReadsUpTo (bytes left : List ℕ) (r : Reader) : Type 0 where
-  pub done : List ℕ
-  pub joined : done ++ left ≡ bytes
-  pub read : advance done (Ok start) ≡ Ok r
-  pub place : r.at ≡ length done
+  pub same : verdict bytes ≡ verdict_of (advance left (Ok r))
+  pub place : r.at + length left ≡ length bytes
   pub digit : HasDigit r.mode
 
 pub up_to_none : (bytes : List ℕ) → ReadsUpTo bytes bytes start
-up_to_none bytes = record { done = []; joined = refl; read = advance-none (Ok start); place = refl; digit = tt }
+up_to_none bytes = record { same = refl; place = omega arith; digit = tt }
 
-pub up_to_more : (bytes left after : List ℕ) (n : ℕ) (old new : Reader) → ReadsUpTo bytes left old → advance (take n left) (Ok old) ≡ Ok new → after ≡ drop n left → ReadsUpTo bytes after new
-up_to_more bytes left after n old new so_far e is =
-    let more = reaches (take n left) old new so_far.digit e in
+pub up_to_more : (bytes left after : List ℕ) (n : ℕ) (old new : Reader) → ReadsUpTo bytes left old → n ≤ length left → GoesOn old new n left → after ≡ drop n left → ReadsUpTo bytes after new
+up_to_more bytes left after n old new so_far within more is =
+    let parts : n + length (drop n left) ≡ length left =
+    ap (λ k. k + length (drop n left)) (sym (length-take-le n left within)) ∙ sym (length-append (take n left) (drop n left)) ∙ ap length (take-append-drop n left) in
+    let rest : length after ≡ length (drop n left) = ap length is in
+    let place : new.at ≡ old.at + n = more.place in
+    let before : old.at + length left ≡ length bytes = so_far.place in
     record {
-      done = so_far.done ++ take n left;
-      joined = append_assoc so_far.done (take n left) after ∙ ap (λ bs. so_far.done ++ bs) (ap (λ bs. take n left ++ bs) is ∙ take-append-drop n left) ∙ so_far.joined;
-      read = advance-append so_far.done (take n left) (Ok start) ∙ ap (advance (take n left)) so_far.read ∙ e;
-      place = more.place ∙ ap (λ k. k + length (take n left)) so_far.place ∙ sym (length-append so_far.done (take n left));
+      same = so_far.same ∙ more.same ∙ ap (λ bs. verdict_of (advance bs (Ok new))) (sym is);
+      place = omega arith;
       digit = more.digit;
     }
 
-pub up_to_room : (bytes left : List ℕ) (r : Reader) (most : ℕ) → ReadsUpTo bytes left r → length bytes ≤ most → r.at + length left ≤ most
-up_to_room bytes left r most so_far short =
-    let whole : length so_far.done + length left ≡ length bytes = sym (length-append so_far.done left) ∙ ap length so_far.joined in
-    let place : r.at ≡ length so_far.done = so_far.place in
-    omega arith
-
 pub up_to_stop : (bytes left : List ℕ) (r : Reader) (which : TextFault) → ReadsUpTo bytes left r → advance left (Ok r) ≡ Err which → verdict bytes ≡ Err which
-up_to_stop bytes left r which so_far e =
-    ap verdict (sym so_far.joined)
-    ∙ ap verdict_of (advance-append so_far.done left (Ok start) ∙ ap (advance left) so_far.read ∙ e)
+up_to_stop bytes left r which so_far e = so_far.same ∙ ap verdict_of e
 
 none_left : (n : ℕ) → (suc n == 0) ≡ true → ⊥
 none_left n h = let e : suc n ≡ 0 = grind (arith, nat_tests) in omega (arith, e)
 
 pub up_to_all : (bytes left : List ℕ) (r : Reader) → ReadsUpTo bytes left r → (length left == 0) ≡ true → verdict bytes ≡ finish r
-up_to_all bytes [] r so_far none = ap verdict (sym so_far.joined ∙ append-nil so_far.done) ∙ ap verdict_of so_far.read
+up_to_all bytes [] r so_far none = so_far.same ∙ ap verdict_of (advance-none (Ok r))
 up_to_all bytes (b ∷ left) r so_far none = absurd (none_left (length left) none)

@@ -1,5 +1,5 @@
 -- The reader as a fold over the bytes. Only private contracts cite it.
-use Rattle.std.specs.Prelude.{◌≡◌, ◌<◌, ◌≤◌, ◌+◌, ◌*◌, ◌⊎◌, ℕ, if◌then◌else◌, nat_lt, Option, Some, None, Result, Ok, Err, List, [], ◌∷◌, ◌++◌, length, take}
+use Rattle.std.specs.Prelude.{◌≡◌, ◌<◌, ◌≤◌, ◌+◌, ◌*◌, ◌⊎◌, ℕ, if◌then◌else◌, nat_lt, Option, Some, None, Result, Ok, Err, List, [], ◌∷◌, ◌++◌, length, drop}
 use Rattle.std.specs.Str.{is_utf8}
 use Rattle.ff_text.specs.declared.items.Span.{Span}
 use Rattle.ff_text.specs.declared.items.Sexp.{Sexp}
@@ -106,6 +106,12 @@ str_ended r from = record r { items = r.items ++ sexp.Str (span from (r.at + 1))
 abbrev pub end_str : Reader → ℕ → Result Reader TextFault
 end_str r from = if is_utf8 r.value then Ok (str_ended r from) else Err (fault.BadUtf8 from)
 
+abbrev pub string_put : Reader → List ℕ → Result Reader TextFault
+string_put r value =
+    if is_utf8 value
+    then Ok (record r { items = r.items ++ sexp.Str (span r.at (r.at + (length value + 2))) value ∷ []; at = r.at + (length value + 2) })
+    else Err (fault.BadUtf8 r.at)
+
 abbrev pub in_str_class : InStr → Reader → ℕ → ℕ → Result Reader TextFault
 in_str_class str.Mark r from b = end_str r from
 in_str_class str.Backslash r from b = Ok (record r { mode = mode.Slash from r.at; at = r.at + 1 })
@@ -155,12 +161,6 @@ advance [] r = r
 advance (b ∷ bytes) (Ok r) = advance bytes (step r b)
 advance (b ∷ bytes) (Err which) = Err which
 
--- what a call answered and left is what some bytes at the front give, or it met the fault of the
--- bytes, unless memory ran out
-abbrev pub MakesSome : Result ℕ TextFault → (old new : Reader) → List ℕ → Type 0
-MakesSome (Ok n) old new left = (0 < n) × (n ≤ length left) × (advance (take n left) (Ok old) ≡ Ok new)
-MakesSome (Err which) old new left = (which ≡ fault.NoMemory) ⊎ (advance left (Ok old) ≡ Err which)
-
 abbrev pub items_ended : List Opened → Reader → Result (List Sexp) TextFault
 items_ended [] r = Ok r.items
 items_ended (opened ∷ others) r = Err (fault.Unclosed opened.from)
@@ -183,6 +183,17 @@ finish r = finish_in r.mode r
 abbrev pub verdict_of : Result Reader TextFault → Result (List Sexp) TextFault
 verdict_of (Ok r) = finish r
 verdict_of (Err which) = Err which
+
+-- once some bytes at the front were read, the others give what all of them gave
+pub record GoesOn (old new : Reader) (n : ℕ) (left : List ℕ) : Type 0 where
+  pub same : verdict_of (advance left (Ok old)) ≡ verdict_of (advance (drop n left) (Ok new))
+  pub place : new.at ≡ old.at + n
+  pub digit : HasDigit new.mode
+
+-- some bytes at the front were read, or the fault of the bytes was met, unless memory ran out
+abbrev pub MakesSome : Result ℕ TextFault → (old new : Reader) → List ℕ → Type 0
+MakesSome (Ok n) old new left = (0 < n) × (n ≤ length left) × GoesOn old new n left
+MakesSome (Err which) old new left = (which ≡ fault.NoMemory) ⊎ (advance left (Ok old) ≡ Err which)
 
 -- what reading all of the bytes answers
 abbrev pub verdict : List ℕ → Result (List Sexp) TextFault

@@ -67,8 +67,8 @@ impl Reader {
         }
     }
 
-    /// Reads some bytes from the front: a word with the byte after it, a run of a string's plain
-    /// bytes, or else one byte. Answers how many.
+    /// Reads some bytes from the front of all that are left: a word with the byte after it, a string
+    /// without escapes, a run of a string's plain bytes, or else one byte. Answers how many.
     pub(crate) fn take_some(&mut self, alloc: Global, left: &[u8]) -> Result<usize, TextFault>
         requires some { 0 < length left.now }
         requires at { self.old.at + length left.now < 2 ^ 32 }
@@ -81,6 +81,7 @@ impl Reader {
                 Ok(1)
             }
             Mode::Between if is_word_byte(left[0]) => self.take_word(alloc, left),
+            Mode::Between if left[0] == b'"' => self.take_string(alloc, left),
             Mode::Str(_) if is_plain(left[0]) => self.take_plain(left),
             _ => {
                 self.take(alloc, left[0])?;
@@ -98,11 +99,14 @@ impl Reader {
         ensures { MakesSome result self.old self.new left.now }
     {
         let n = word_front(left);
-        if n == left.len() || !self.word.is_empty() {
+        if !self.word.is_empty() {
             self.begin_run(&left[..n])?;
             return Ok(n);
         }
         self.put_word(alloc, &left[..n])?;
+        if n == left.len() {
+            return Ok(n);
+        }
         if left[n] == b' ' {
             self.at += 1;
             return Ok(n + 1);
@@ -137,6 +141,39 @@ impl Reader {
         self.mode = Mode::Word(self.at);
         self.at += run.len() as u32;
         Ok(())
+    }
+
+    /// Reads a string without escapes, or else the mark that opens one.
+    fn take_string(&mut self, alloc: Global, left: &[u8]) -> Result<usize, TextFault>
+        requires mode { self.old.mode ≡ Mode.Between }
+        requires at { self.old.at + length left.now < 2 ^ 32 }
+        requires some { 0 < length left.now }
+        requires mark { get_or left.now 0 0 ≡ 34 }
+        ensures { MakesSome result self.old self.new left.now }
+    {
+        let rest = &left[1..];
+        let n = plain_front(rest);
+        if n == rest.len() || rest[n] != b'"' || !self.value.is_empty() {
+            self.take_outside(alloc, left[0])?;
+            return Ok(1);
+        }
+        self.put_string(alloc, &rest[..n])?;
+        Ok(n + 2)
+    }
+
+    /// Puts a string whose bytes stand for themselves.
+    fn put_string(&mut self, alloc: Global, value: &[u8]) -> Result<(), TextFault>
+        requires at { self.old.at + length value.now + 2 < 2 ^ 32 }
+        ensures { Makes result self.new (machine.string_put self.old value.now) }
+    {
+        let text = match Text::of(alloc, value) {
+            Ok(Some(text)) => text,
+            Ok(None) => return Err(TextFault::BadUtf8(self.at)),
+            Err(_) => return Err(TextFault::NoMemory),
+        };
+        let from = self.at;
+        self.at += value.len() as u32 + 2;
+        self.put(Sexp::Str(Span { from, to: self.at }, text))
     }
 
     /// Reads the bytes at the front that stand for themselves in a string.

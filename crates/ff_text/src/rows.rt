@@ -44,6 +44,12 @@ impl<T: Drop> Row<T> {
         Row { items }
     }
 
+    pub(crate) fn is_empty(&self) -> bool
+        ensures { IsTrue result ↔ (self.now ≡ []) }
+    {
+        self.items.is_empty()
+    }
+
     pub(crate) fn push(&mut self, item: T) -> Result<(), NoMemory>
         ensures { OnOk result (self.new ≡ self.old ++ item ∷ []) }
     {

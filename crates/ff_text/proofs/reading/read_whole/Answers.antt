@@ -10,7 +10,7 @@ loop-left-init c = subst (ReadsUpTo c.args.bytes.now c.args.bytes.now) (sym c.ne
 
 pub loop-left-preserved : goal.loop-left-preserved
 loop-left-preserved c =
-    up_to_more c.args.bytes.now c.loop-left.left.now _ c.in-Ok.n c.loop-left.reader c.take_some.new.self c.loop-left.invariant c.in-Ok.ensures.2 (grind (arith, common_steps))
+    up_to_more c.args.bytes.now c.loop-left.left.now _ c.in-Ok.n c.loop-left.reader c.take_some.new.self c.loop-left.invariant c.in-Ok.ensures.1 c.in-Ok.ensures.2 (grind (arith, common_steps))
 
 pub returns-in-Err : goal.returns-in-Err
 returns-in-Err c = elim c.in-Err.ensures [
