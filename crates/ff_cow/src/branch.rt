@@ -112,6 +112,7 @@ impl<V, T: Writable<V>> Writable<V> for Branch<T> {
 }
 
 // Puts an empty node behind the others, where all of them are full.
+#[inline(always)]
 fn make_place<V, T: Writable<V>>(
     kids: &mut Vec<Rc<T>>,
     count: usize,
@@ -133,6 +134,7 @@ fn make_place<V, T: Writable<V>>(
 }
 
 // Changes the cell at `i` of a node, in a node of its own where another list shares it.
+#[inline(always)]
 fn edit_in<V, T: Writable<V>, E: Edit<V>, C: Ledger>(
     kid: &mut Rc<T>,
     i: usize,
@@ -164,6 +166,7 @@ where
 
 // Puts a cell behind the `count` cells of a node, into a node of its own where another list shares
 // it.
+#[inline(always)]
 fn push_in<V, T: Writable<V>, C: Ledger>(
     kid: &mut Rc<T>,
     count: usize,
@@ -195,6 +198,7 @@ where
 }
 
 // Makes `kid` a node that no other list shares.
+#[inline(always)]
 fn unshare<V, T: Writable<V>, C: Ledger>(
     kid: &mut Rc<T>,
     alloc: Global,
@@ -208,8 +212,27 @@ where
     ensures copies { RisesBy (T.copied (T.cells (rc_value kid.old))) copies.old copies.new }
 {
     if Rc::strong_count(kid) > 1 {
-        let own = kid.duplicate(alloc, copies)?;
-        *kid = Rc::new(alloc, own)?;
+        copy_shared(kid, alloc, copies)?;
     }
+    Ok(())
+}
+
+// Puts a copy of a node that other lists share in its place.
+#[cold]
+#[inline(never)]
+fn copy_shared<V, T: Writable<V>, C: Ledger>(
+    kid: &mut Rc<T>,
+    alloc: Global,
+    copies: &mut Steps<C>,
+) -> Result<(), NoMemory>
+where
+    V: Cell<C>,
+    requires valid { T.is_valid (rc_value kid.old) }
+    ensures cells { T.cells (rc_value kid.new) ≡ T.cells (rc_value kid.old) }
+    ensures valid { T.is_valid (rc_value kid.new) }
+    ensures copies { RisesBy (T.copied (T.cells (rc_value kid.old))) copies.old copies.new }
+{
+    let own = kid.duplicate(alloc, copies)?;
+    *kid = Rc::new(alloc, own)?;
     Ok(())
 }
