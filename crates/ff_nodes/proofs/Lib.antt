@@ -9,6 +9,7 @@ pub mod Turns
 pub mod LaidUp
 pub mod MadeCells
 pub mod NewCells
+mod Tops
 pub mod RaisedCells
 pub mod Rooms
 pub mod Heights

@@ -1,10 +1,11 @@
 //! Documents, laid as new nodes behind the ones that there are. Room for all of a document is
 //! counted before anything is laid; a division is written twice, at first without its children.
-ghost use Rattle.std.specs.Prelude.{◌≡◌, ◌*◌, [], Some, length, map, IfOk, OnOk};
+ghost use Rattle.std.specs.Prelude.{◌≡◌, ◌*◌, [], None, Some, length, map, IfOk, OnOk};
 ghost use Rattle.ff_steps.specs.Rises.{RisesBy};
 ghost use Rattle.ff_machine.specs.Documents as documents;
-ghost use Rattle.ff_machine.specs.Documents.{laid, size_of, numbers, lay_all, handler_code};
-ghost use Rattle.ff_nodes.specs.Laying.{AreNew};
+ghost use Rattle.ff_machine.specs.Documents.{laid, laid_page, size_of, numbers, lay_all, handler_code};
+ghost use Rattle.ff_tree.specs.declared.tree.Doc.TheViews.{out-Doc};
+ghost use Rattle.ff_nodes.specs.Laying.{AreNew, top_shape, top_handlers};
 ghost use Rattle.ff_nodes.specs.Marked.{IsOwn};
 
 use crate::cell::NodeCell;
@@ -13,7 +14,7 @@ use crate::node::Node;
 use ff_cow::CowVec;
 use ff_machine::Shape;
 use ff_steps::Steps;
-use ff_value::{ActId, Code, Codes, Doc, Handler, Ids, Names, NoMemory, NodeId};
+use ff_value::{ActId, Code, Codes, Doc, Handler, Ids, Names, NoMemory, NodeId, PageId};
 use std::alloc::{AllocError, Global};
 use std::sync::ledger::Ledger;
 
@@ -30,60 +31,51 @@ pub(crate) fn lay_doc<C: Ledger>(
     ensures new { OnOk result (AreNew cells.old cells.new ((laid env doc.now).nodes (length cells.old) under)) }
     ensures copies { RisesBy (31 * (laid env doc.now).size) copies.old copies.new }
 {
+    let shape = shape_of(doc)?;
     match doc {
-        Doc::Text(name, text) => {
-            let shape = Shape::Text(name.copy()?, text.copy()?);
-            lay_leaf(shape, no_codes(alloc)?, under, alloc, cells, copies)
-        }
-        Doc::Link(name, url, label) => {
-            let shape = Shape::Link(name.copy()?, url.copy()?, label.copy()?);
-            lay_leaf(shape, no_codes(alloc)?, under, alloc, cells, copies)
-        }
-        Doc::TextBox(name, text, handlers) => {
-            let shape = Shape::TextBox(name.copy()?, text.copy()?);
-            let codes = codes_of(handlers.as_slice(), env, alloc)?;
-            lay_leaf(shape, codes, under, alloc, cells, copies)
-        }
-        Doc::Button(name, label, handlers) => {
-            let shape = Shape::Button(name.copy()?, label.copy()?);
-            let codes = codes_of(handlers.as_slice(), env, alloc)?;
-            lay_leaf(shape, codes, under, alloc, cells, copies)
-        }
-        Doc::Script(name, body) => {
-            let shape = Shape::Script(name.copy()?, false, body.copy()?);
-            lay_leaf(shape, no_codes(alloc)?, under, alloc, cells, copies)
-        }
-        Doc::Src(name, url) => {
-            let shape = Shape::Src(name.copy()?, false, url.copy()?);
-            lay_leaf(shape, no_codes(alloc)?, under, alloc, cells, copies)
-        }
-        Doc::Div(name, docs) => {
-            let shape = Shape::Div(name.copy()?);
-            lay_over(docs.as_slice(), shape, under, env, alloc, cells, copies)
+        Doc::Div(_, docs) => lay_over(docs.as_slice(), &shape, under, env, alloc, cells, copies),
+        _ => {
+            let handlers = handlers_of(doc, env, alloc)?;
+            lay_leaf(shape, handlers, under, alloc, cells, copies)
         }
     }
+}
+
+/// Lays a page and, under it, documents, behind the nodes.
+pub(crate) fn lay_page<C: Ledger>(
+    docs: &[Doc],
+    page: PageId,
+    env: ActId,
+    alloc: Global,
+    cells: &mut CowVec<NodeCell>,
+    copies: &mut Steps<C>,
+) -> Result<(), NoMemory>
+    ensures new { OnOk result (AreNew cells.old cells.new ((laid_page page env docs.now).nodes (length cells.old) None)) }
+    ensures copies { RisesBy (31 * (laid_page page env docs.now).size) copies.old copies.new }
+{
+    let shape = Shape::Page(page);
+    lay_over(docs, &shape, None, env, alloc, cells, copies)
 }
 
 /// Lays a node and, under it, documents: the node is put there first, and gets the numbers of its
 /// children once they were laid.
 #[cycle(laying)]
-pub(crate) fn lay_over<C: Ledger>(
+fn lay_over<C: Ledger>(
     docs: &[Doc],
-    shape: Shape,
+    shape: &Shape,
     under: Option<NodeId>,
     env: ActId,
     alloc: Global,
     cells: &mut CowVec<NodeCell>,
     copies: &mut Steps<C>,
 ) -> Result<(), NoMemory>
-    ensures new { OnOk result (AreNew cells.old cells.new ((documents.lay_over shape (map (laid env) docs.now)).nodes (length cells.old) under)) }
-    ensures copies { RisesBy (31 * (documents.lay_over shape (map (laid env) docs.now)).size) copies.old copies.new }
+    ensures new { OnOk result (AreNew cells.old cells.new ((documents.lay_over shape.now (map (laid env) docs.now)).nodes (length cells.old) under)) }
+    ensures copies { RisesBy (31 * (documents.lay_over shape.now (map (laid env) docs.now)).size) copies.old copies.new }
 {
     let n = NodeId(cells.len());
-    let first = shape.copy()?;
-    lay_leaf(first, no_codes(alloc)?, under, alloc, cells, copies)?;
+    lay_alone(shape, under, alloc, cells, copies)?;
     let children = lay_each(docs, n, env, alloc, cells, copies)?;
-    let node = Node::of(shape, no_codes(alloc)?, children, under);
+    let node = Node::of(shape.copy()?, no_codes(alloc)?, children, under);
     let Ok(()) = cells.set(n.0, new_cell(node), copies) else {
         return Err(AllocError);
     };
@@ -111,6 +103,49 @@ fn lay_each<C: Ledger>(
         lay_doc(doc, Some(under), env, alloc, cells, copies)?;
     }
     Ids::from_vec(alloc, ids)
+}
+
+/// The shape of a document's topmost node.
+fn shape_of(doc: &Doc) -> Result<Shape, NoMemory>
+    ensures { IfOk result (λ shape. shape ≡ top_shape (out-Doc doc.now)) }
+{
+    match doc {
+        Doc::Text(name, text) => Ok(Shape::Text(name.copy()?, text.copy()?)),
+        Doc::Link(name, url, label) => Ok(Shape::Link(name.copy()?, url.copy()?, label.copy()?)),
+        Doc::TextBox(name, text, _) => Ok(Shape::TextBox(name.copy()?, text.copy()?)),
+        Doc::Button(name, label, _) => Ok(Shape::Button(name.copy()?, label.copy()?)),
+        Doc::Script(name, body) => Ok(Shape::Script(name.copy()?, false, body.copy()?)),
+        Doc::Src(name, url) => Ok(Shape::Src(name.copy()?, false, url.copy()?)),
+        Doc::Div(name, _) => Ok(Shape::Div(name.copy()?)),
+    }
+}
+
+/// The handlers of a document's topmost node, made in an activation.
+fn handlers_of(doc: &Doc, env: ActId, alloc: Global) -> Result<Codes, NoMemory>
+    ensures { IfOk result (λ codes. codes ≡ top_handlers env (out-Doc doc.now)) }
+{
+    match doc {
+        Doc::TextBox(_, _, handlers) | Doc::Button(_, _, handlers) => {
+            codes_of(handlers.as_slice(), env, alloc)
+        }
+        Doc::Text(..) | Doc::Link(..) | Doc::Script(..) | Doc::Src(..) | Doc::Div(..) => {
+            no_codes(alloc)
+        }
+    }
+}
+
+/// Puts a node of this shape, without handlers and children, behind the nodes.
+fn lay_alone<C: Ledger>(
+    shape: &Shape,
+    under: Option<NodeId>,
+    alloc: Global,
+    cells: &mut CowVec<NodeCell>,
+    copies: &mut Steps<C>,
+) -> Result<(), NoMemory>
+    ensures new { OnOk result (AreNew cells.old cells.new ((documents.lay_leaf shape.now []).nodes (length cells.old) under)) }
+    ensures copies { RisesBy 15 copies.old copies.new }
+{
+    lay_leaf(shape.copy()?, no_codes(alloc)?, under, alloc, cells, copies)
 }
 
 /// Puts a node without children behind the nodes.

@@ -8,11 +8,11 @@ ghost use Rattle.ff_machine.specs.Documents.{laid, laid_page, with_tree};
 ghost use Rattle.ff_machine.specs.Nodes as nodes;
 ghost use Rattle.ff_operators.specs.Answers.{Answers, OnFault};
 
-use crate::laying::{lay_doc, lay_over};
+use crate::laying::{lay_doc, lay_page};
 use crate::nodes::Nodes;
 use crate::raising::raise_from;
 use crate::room::{room_after, room_after_page};
-use ff_machine::{MOST_NODES, Shape};
+use ff_machine::MOST_NODES;
 use ff_operators::Fail;
 use ff_steps::Steps;
 use ff_value::{ActId, Doc, Docs, Fault, NodeId, PageId};
@@ -69,16 +69,7 @@ impl Nodes {
             return Err(Fail::Fault(Fault::Limit));
         }
         let mut next = self.cells.fork(copies)?;
-        let shape = Shape::Page(page);
-        lay_over(
-            docs.as_slice(),
-            shape,
-            None,
-            env,
-            self.alloc,
-            &mut next,
-            copies,
-        )?;
+        lay_page(docs.as_slice(), page, env, self.alloc, &mut next, copies)?;
         raise_from(&mut next, n, copies)?;
         self.cells = next;
         Ok(NodeId(n))
