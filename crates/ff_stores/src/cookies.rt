@@ -37,7 +37,7 @@ impl Stores {
         let _known = value.as_bytes();
         fault_or_emptied!(
             self.jar.put(domain, key, value, copies),
-            *self = Stores::new(self.alloc)
+            nothing_left!(self)
         )
     }
 
@@ -54,7 +54,7 @@ impl Stores {
         let _known = domain.text();
         or_emptied!(
             self.jar.delete(domain, key.as_bytes(), copies),
-            *self = Stores::new(self.alloc)
+            nothing_left!(self)
         )
     }
 
@@ -73,7 +73,7 @@ impl Stores {
         let _known = domain.text();
         or_emptied!(
             put_each(&mut self.jar, domain, entries, copies),
-            *self = Stores::new(self.alloc)
+            nothing_left!(self)
         )
     }
 }

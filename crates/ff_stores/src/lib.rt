@@ -11,6 +11,22 @@
 //! written by then, the stores become empty ones, which takes no memory; nothing is undone.
 #![tactic(auto)]
 
+/// Leaves nothing in the stores, whose memory has run out: each part is emptied by itself, since
+/// a proof that drops the stores as a whole at each way out takes many times as long.
+macro_rules! nothing_left {
+    ($stores:expr) => {
+        crate::stores::leave_nothing(
+            $stores.alloc,
+            &mut $stores.nodes,
+            &mut $stores.windows,
+            &mut $stores.jar,
+            &mut $stores.requests,
+            &mut $stores.mass,
+            &mut $stores.touched,
+        )
+    };
+}
+
 mod cookies;
 mod loading;
 mod replies;

@@ -75,14 +75,14 @@ impl Stores {
             Ok(root) => root,
             Err(Fail::Fault(_full)) => return Ok(false),
             Err(Fail::NoMemory) => {
-                *self = Stores::new(self.alloc);
+                nothing_left!(self);
                 return Err(AllocError);
             }
         };
         match show_new(&mut self.windows, window, url, root, copies) {
             Ok(()) => Ok(true),
             Err(refused) => {
-                *self = Stores::new(self.alloc);
+                nothing_left!(self);
                 Err(refused)
             }
         }
@@ -175,14 +175,14 @@ impl Stores {
             Ok(root) => root,
             Err(Fail::Fault(_full)) => return Ok(false),
             Err(Fail::NoMemory) => {
-                *self = Stores::new(self.alloc);
+                nothing_left!(self);
                 return Err(AllocError);
             }
         };
         match add_new(&mut self.windows, name, opener, root, copies) {
             Ok(()) => Ok(true),
             Err(refused) => {
-                *self = Stores::new(self.alloc);
+                nothing_left!(self);
                 Err(refused)
             }
         }
@@ -244,7 +244,7 @@ impl Stores {
         match self.windows.close(window, copies) {
             Ok(_was) => Ok(()),
             Err(refused) => {
-                *self = Stores::new(self.alloc);
+                nothing_left!(self);
                 Err(refused)
             }
         }

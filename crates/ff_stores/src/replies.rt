@@ -27,10 +27,7 @@ impl Stores {
         ensures done { IfOk result (λ answer. MatchOption answer ((s.take_answer self.old domain.now k ≡ None) × (self.new ≡ self.old)) (λ pending. s.take_answer self.old domain.now k ≡ Some (pending, self.new))) }
         ensures copies { RisesBy (17 * length (net.asked self.old.requests domain.now)) copies.old copies.new }
     {
-        or_emptied!(
-            self.requests.answer(domain, k, copies),
-            *self = Stores::new(self.alloc)
-        )
+        or_emptied!(self.requests.answer(domain, k, copies), nothing_left!(self))
     }
 
     /// The mass grows by so much, in bytes, where its limit allows it; answers whether it does.
@@ -76,7 +73,7 @@ impl Stores {
     {
         or_emptied!(
             self.windows.fill(page, slot, body, copies),
-            *self = Stores::new(self.alloc)
+            nothing_left!(self)
         )
     }
 }

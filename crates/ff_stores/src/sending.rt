@@ -54,7 +54,7 @@ impl Stores {
         match self.requests.ask(domain, uri, to, copies) {
             Ok(()) => {}
             Err(refused) => {
-                *self = Stores::new(self.alloc);
+                nothing_left!(self);
                 return Err(refused);
             }
         }

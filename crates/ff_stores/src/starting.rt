@@ -120,7 +120,7 @@ impl Stores {
         ensures done { OnOk result (self.new ≡ record self.old { nodes = t.started self.old.nodes n }) }
         ensures copies { RisesBy 16 copies.old copies.new }
     {
-        or_emptied!(self.nodes.start(n, copies), *self = Stores::new(self.alloc))
+        or_emptied!(self.nodes.start(n, copies), nothing_left!(self))
     }
 
     // The script at an address is asked for, and a slot waits for it. Where there is no room for
@@ -186,7 +186,7 @@ impl Stores {
     {
         or_emptied!(
             self.windows.push_ready(page, body, copies),
-            *self = Stores::new(self.alloc)
+            nothing_left!(self)
         )
     }
 
@@ -201,7 +201,7 @@ impl Stores {
         match self.windows.push_wait(page, copies) {
             Ok(_slot) => Ok(()),
             Err(refused) => {
-                *self = Stores::new(self.alloc);
+                nothing_left!(self);
                 Err(refused)
             }
         }

@@ -129,3 +129,27 @@ impl Stores {
         self.windows.lookup(a, x)
     }
 }
+
+// Leaves nothing in stores whose memory has run out.
+#[cold]
+#[inline(never)]
+#[tactic(auto, using(ff_machine::proofs::Empty::empty_valid))]
+pub(crate) fn leave_nothing(
+    alloc: Global,
+    nodes: &mut Nodes,
+    windows: &mut Windows,
+    jar: &mut Jar,
+    requests: &mut Requests,
+    mass: &mut u64,
+    touched: &mut Touched,
+)
+    ensures empty { record { nodes = nodes.new; windows = windows.new; jar = jar.new; requests = requests.new; mass = mass.new; touched = touched.new } ≡ s.empty }
+    ensures valid { IsStores (record { nodes = nodes.new; windows = windows.new; jar = jar.new; requests = requests.new; mass = mass.new; touched = touched.new }) }
+{
+    *nodes = Nodes::new(alloc);
+    *windows = Windows::new(alloc);
+    *jar = Jar::new(alloc);
+    *requests = Requests::new(alloc);
+    *mass = 0;
+    *touched = Touched::new(alloc);
+}

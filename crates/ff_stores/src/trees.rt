@@ -50,7 +50,7 @@ impl Stores {
             }
             Err(Fail::Fault(fault)) => Err(Fail::Fault(fault)),
             Err(Fail::NoMemory) => {
-                *self = Stores::new(self.alloc);
+                nothing_left!(self);
                 Err(Fail::NoMemory)
             }
         }
@@ -120,7 +120,7 @@ impl Stores {
         match self.nodes.set_text(n, text, copies) {
             Ok(()) => {}
             Err(_refused) => {
-                *self = Stores::new(self.alloc);
+                nothing_left!(self);
                 return Err(AllocError);
             }
         }
@@ -130,7 +130,7 @@ impl Stores {
                 Ok(())
             }
             Err(refused) => {
-                *self = Stores::new(self.alloc);
+                nothing_left!(self);
                 Err(refused)
             }
         }
@@ -152,10 +152,7 @@ impl Stores {
         ensures kept { OnFault result (self.new ≡ self.old) }
         ensures copies { RisesBy 16 copies.old copies.new }
     {
-        fault_or_emptied!(
-            self.nodes.add_handler(n, code, copies),
-            *self = Stores::new(self.alloc)
-        )
+        fault_or_emptied!(self.nodes.add_handler(n, code, copies), nothing_left!(self))
     }
 
     /// Puts a child under a parent at a place, and starts its scripts where the parent is in a live
@@ -204,14 +201,14 @@ impl Stores {
             Ok(()) => {}
             Err(Fail::Fault(fault)) => return Err(Fail::Fault(fault)),
             Err(Fail::NoMemory) => {
-                *self = Stores::new(self.alloc);
+                nothing_left!(self);
                 return Err(Fail::NoMemory);
             }
         }
         match touch(&mut self.touched, page) {
             Ok(()) => Ok(page),
             Err(_refused) => {
-                *self = Stores::new(self.alloc);
+                nothing_left!(self);
                 Err(Fail::NoMemory)
             }
         }

@@ -46,7 +46,7 @@ impl Stores {
             Ok(Some(body)) => Ok(Some((page, body))),
             Ok(None) => Ok(None),
             Err(refused) => {
-                *self = Stores::new(self.alloc);
+                nothing_left!(self);
                 Err(refused)
             }
         }

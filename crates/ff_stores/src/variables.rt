@@ -33,10 +33,7 @@ impl Stores {
         ensures kept { OnFault result (self.new ≡ self.old) }
         ensures copies { RisesBy 64 copies.old copies.new }
     {
-        fault_or_emptied!(
-            self.windows.declare(a, x, v, copies),
-            *self = Stores::new(self.alloc)
-        )
+        fault_or_emptied!(self.windows.declare(a, x, v, copies), nothing_left!(self))
     }
 
     /// Assigns the nearest variable of that name. It is refused with `Name` exactly where there is
@@ -55,10 +52,7 @@ impl Stores {
         ensures kept { OnFault result (self.new ≡ self.old) }
         ensures copies { RisesBy 64 copies.old copies.new }
     {
-        fault_or_emptied!(
-            self.windows.assign(a, x, v, copies),
-            *self = Stores::new(self.alloc)
-        )
+        fault_or_emptied!(self.windows.assign(a, x, v, copies), nothing_left!(self))
     }
 
     /// Makes an activation in which a function runs, with a variable for each parameter. It is
@@ -82,7 +76,7 @@ impl Stores {
     {
         fault_or_emptied!(
             self.windows.new_act(parent, params, args, copies),
-            *self = Stores::new(self.alloc)
+            nothing_left!(self)
         )
     }
 }
