@@ -121,10 +121,10 @@ fn kinds_named(alloc: Global, lattice: &Lattice, kinds: &[NamedKind]) -> Result<
 
 /// The levels that a plan names.
 #[tactic(auto, unfolding(crate::specs::Naming::assigned))]
-pub(crate) fn assigned(alloc: Global, lattice: Lattice, plan: Plan) -> Result<Draft, PolicyFault>
-    ensures found { IfOk result (λ draft. spec.assigned lattice plan ≡ Ok draft) }
-    ensures rising { IfOk result (λ _. AreRising plan.domains) }
-    ensures fault { IfErr result (λ fault. fault ≢ PolicyFault.NoMemory → spec.assigned lattice plan ≡ Err fault) }
+pub(crate) fn assigned(alloc: Global, lattice: Lattice, plan: &Plan) -> Result<Draft, PolicyFault>
+    ensures found { IfOk result (λ draft. spec.assigned lattice plan.now ≡ Ok draft) }
+    ensures rising { IfOk result (λ _. AreRising plan.now.domains) }
+    ensures fault { IfErr result (λ fault. fault ≢ PolicyFault.NoMemory → spec.assigned lattice plan.now ≡ Err fault) }
 {
     let ui = level_at(alloc, &lattice, "ui", "", &plan.ui)?;
     let other = level_at(alloc, &lattice, "domain", "", &plan.other)?;

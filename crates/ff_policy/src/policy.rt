@@ -92,23 +92,23 @@ impl Policy {
         ensures fault { IfErr result (λ fault. fault ≢ PolicyFault.NoMemory → Says (view value.now) (Err fault)) }
     {
         let plan = plan_in(alloc, value)?;
-        Policy::of_plan(alloc, plan)
+        Policy::of_plan(alloc, &plan)
     }
 
     /// The policy of a plan.
-    fn of_plan(alloc: Global, plan: Plan) -> Result<Policy, PolicyFault>
-        ensures found { IfOk result (λ policy. Orders plan (Ok policy)) }
-        ensures fault { IfErr result (λ fault. fault ≢ PolicyFault.NoMemory → Orders plan (Err fault)) }
+    fn of_plan(alloc: Global, plan: &Plan) -> Result<Policy, PolicyFault>
+        ensures found { IfOk result (λ policy. Orders plan.now (Ok policy)) }
+        ensures fault { IfErr result (λ fault. fault ≢ PolicyFault.NoMemory → Orders plan.now (Err fault)) }
     {
-        let lattice = lattice_of(alloc, &plan)?;
+        let lattice = lattice_of(alloc, plan)?;
         Policy::of_names(alloc, lattice, plan)
     }
 
     /// The policy of a plan over its lattice.
-    fn of_names(alloc: Global, lattice: Lattice, plan: Plan) -> Result<Policy, PolicyFault>
+    fn of_names(alloc: Global, lattice: Lattice, plan: &Plan) -> Result<Policy, PolicyFault>
         requires { IsOrder lattice }
-        ensures found { IfOk result (λ policy. Names lattice plan (Ok policy)) }
-        ensures fault { IfErr result (λ fault. fault ≢ PolicyFault.NoMemory → Names lattice plan (Err fault)) }
+        ensures found { IfOk result (λ policy. Names lattice plan.now (Ok policy)) }
+        ensures fault { IfErr result (λ fault. fault ≢ PolicyFault.NoMemory → Names lattice plan.now (Err fault)) }
     {
         let draft = assigned(alloc, lattice, plan)?;
         Policy::of_draft(alloc, draft)

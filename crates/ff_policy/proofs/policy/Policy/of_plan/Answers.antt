@@ -12,7 +12,7 @@ pub of_names-requires : goal.of_names-requires
 of_names-requires c = c.in_ok-lattice.ensures.found.valid
 
 pub returns-clause-found : goal.returns-clause-found
-returns-clause-found c = orders_ok c.args.plan c.in_ok-lattice.lattice c.in_ok-lattice.ensures.found c.of_names.result c.of_names.ensures.found
+returns-clause-found c = orders_ok c.args.plan.now c.in_ok-lattice.lattice c.in_ok-lattice.ensures.found c.of_names.result c.of_names.ensures.found
 
 pub returns-clause-fault : goal.returns-clause-fault
-returns-clause-fault c = orders_err c.args.plan c.in_ok-lattice.lattice c.in_ok-lattice.ensures.found c.of_names.result c.of_names.ensures.fault
+returns-clause-fault c = orders_err c.args.plan.now c.in_ok-lattice.lattice c.in_ok-lattice.ensures.found c.of_names.result c.of_names.ensures.fault
