@@ -35,14 +35,14 @@ use Rattle.ff_session.specs.Works.{Exchanged, status_as}
 use Rattle.ff_session.specs.Closing.{IsEnded, IsClosed}
 use Rattle.ff_session.proofs.Closing as closing
 use Rattle.ff_session.proofs.Closing.{told_of, none_put, none_owed_at}
-use Rattle.ff_audit.specs.Owned.{own}
-use Rattle.ff_audit.specs.Comparing.{CompareAll}
-use Rattle.ff_audit.specs.Verdicts.{any_differ, report_of}
+use Rattle.ff_lines.specs.Owned.{own}
+use Rattle.ff_lines.specs.Comparing.{CompareAll}
+use Rattle.ff_lines.specs.Verdicts.{any_differ, report_of}
 use Rattle.ff_audit.specs.Audited.{plain_lines, multi_lines, report, audit_turns, feed_turns, no_entry, audit_duty, IsAuditAt, IsReported}
 use Rattle.ff_audit.specs.declared.books.Books.{Books}
-use Rattle.ff_audit.specs.declared.comparison.Comparison.{Comparison}
-use Rattle.ff_audit.proofs.Heard.{own-append, own_none}
-use Rattle.ff_audit.proofs.Leveled.{compare_same, same_report}
+use Rattle.ff_lines.specs.declared.comparison.Comparison.{Comparison}
+use Rattle.ff_lines.proofs.Heard.{own-append, own_none}
+use Rattle.ff_lines.proofs.Leveled.{compare_same, same_report}
 
 -- nothing is put for an input
 pub no_text : {T E : Type 0} (r : Result T E) (IsAt : List Input → Type 0) (i : Input) (text : List ℕ) → OnOk r ((is : List Input) → IsAt is → text ≡ text ++ no_entry is i)

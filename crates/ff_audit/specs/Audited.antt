@@ -17,10 +17,10 @@ use Rattle.ff_session.specs.Plain.{plain_text, plain_turns, IsPlainAt}
 use Rattle.ff_reactive.specs.Standings.{fresh}
 use Rattle.ff_session.specs.Multi.{seen_by, multi_text, multi_turns, copies_turns, AreCopiesAt}
 use Rattle.ff_session.specs.Works.{Duty}
-use Rattle.ff_audit.specs.Owned.{own}
-use Rattle.ff_audit.specs.Comparing.{compared, CompareAll}
-use Rattle.ff_audit.specs.Verdicts.{any_differ, report_of}
-use Rattle.ff_audit.specs.declared.verdict.Verdict.{Verdict}
+use Rattle.ff_lines.specs.Owned.{own}
+use Rattle.ff_lines.specs.Comparing.{compared, CompareAll}
+use Rattle.ff_lines.specs.Verdicts.{any_differ, report_of}
+use Rattle.ff_lines.specs.declared.verdict.Verdict.{Verdict}
 use Rattle.ff_audit.specs.declared.books.Books.{Books}
 
 -- a level's own lines of the plain run over inputs, and of the multi-executed run

@@ -7,7 +7,7 @@ ghost use Rattle.ff_audit.specs.Audited.{feed_turns, leaks, report, verdict};
 ghost use Rattle.ff_audit.specs.Fed.{IsFed};
 
 use crate::books::Books;
-use crate::verdict::Verdict;
+use ff_lines::Verdict;
 use ff_name::{Level, NoMemory};
 use ff_policy::Policy;
 use ff_steps::Steps;

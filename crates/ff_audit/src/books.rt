@@ -3,15 +3,14 @@ ghost use Rattle.std.specs.Prelude.{◌≡◌, ◌≤◌, ◌+◌, ◌<◌, ◌�
 ghost use Rattle.ff_value.specs.declared.input.Input.{Input};
 ghost use Rattle.ff_lattice.specs.Order.{size};
 ghost use Rattle.ff_trace.specs.Lines.{IsInputOf};
-ghost use Rattle.ff_audit.specs.Comparing.{compared, CompareAll};
-ghost use Rattle.ff_audit.specs.Verdicts.{any_differ, report_of};
+ghost use Rattle.ff_lines.specs.Comparing.{compared, CompareAll};
+ghost use Rattle.ff_lines.specs.Verdicts.{any_differ, report_of};
 ghost use Rattle.ff_audit.specs.Audited.{IsAuditAt, feed_turns};
 
-use crate::comparison::Comparison;
-use crate::hearing::hear_texts;
-use crate::levels::{any_leak, fresh_levels, report_levels, verdict_at};
-use crate::verdict::Verdict;
 use ff_lattice::Lattice;
+use ff_lines::{
+    Comparison, Verdict, any_leak, fresh_levels, hear_texts, report_levels, verdict_at,
+};
 use ff_name::{Level, NoMemory};
 use ff_policy::Policy;
 use ff_session::{Browser, Copies, Plain, Pool, new_pool};

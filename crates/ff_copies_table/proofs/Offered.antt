@@ -8,11 +8,11 @@ use Rattle.ff_policy.specs.Assignment.{Assignment}
 use Rattle.ff_route.specs.Route.{sees}
 use Rattle.ff_reactive.specs.Worlds.{OfferOk}
 use Rattle.ff_trace.specs.Lines.{IsInputOf}
-use Rattle.ff_session.proofs.Inputs.{seen_spelled}
+use Rattle.ff_route.proofs.Fits.{sees_spelled}
 
 all_seen_ok : (p : Assignment) (l : ℕ) (i : Input) (seen : Option Input) → IsInputOf p.order i → seen ≡ sees p l i → OfferOk IsWellSpelledInput seen
 all_seen_ok p l i None good is = tt
-all_seen_ok p l i (Some x) good is = seen_spelled p l i x (sym is) good
+all_seen_ok p l i (Some x) good is = sees_spelled p l i x good.spelled (sym is)
 
 pub seen_ok : (p : Assignment) (l : ℕ) (i : Input) (seen : Offer) → IsInputOf p.order i → offered i seen ≡ sees p l i → OfferOk IsWellSpelledInput (offered i seen)
 seen_ok p l i seen good is = all_seen_ok p l i (offered i seen) good is

@@ -1,11 +1,10 @@
 //! Prints what a browser by itself and its fork do. Then, for each trace of its input, which a
 //! heading begins, how many turns each of its inputs takes; or, where the heading says so, the
-//! story of a pool of two levels that its lines tell, what an audit of them finds, or which pools
-//! are made of the classes that they name.
+//! story of a pool of two levels that its lines tell, or which pools are made of the classes that
+//! they name.
 #![tactic(auto)]
 
 mod alone;
-mod auditing;
 mod counting;
 mod restoring;
 mod story;
@@ -53,8 +52,8 @@ fn show_classes(rt: &HostRuntime, classes: &Classes) -> io::Result<()> {
     }
 }
 
-/// Prints a heading, and the story that the lines tell, what an audit of them finds, the pools of
-/// their classes, or how many turns their inputs take.
+/// Prints a heading, and the story that the lines tell, the pools of their classes, or how many
+/// turns their inputs take.
 fn show_lines(rt: &HostRuntime, heading: &str, lines: &[String]) -> io::Result<()> {
     if lines.is_empty() {
         return Ok(());
@@ -63,10 +62,6 @@ fn show_lines(rt: &HostRuntime, heading: &str, lines: &[String]) -> io::Result<(
         Some(("Story", title)) => {
             println!(rt; "{title}")?;
             story::show(rt, lines)
-        }
-        Some(("Audit", title)) => {
-            println!(rt; "{title}")?;
-            auditing::show(rt, lines)
         }
         Some(("Classes", title)) => {
             println!(rt; "{title}")?;

@@ -169,7 +169,7 @@ fn lay_leaf<C: Ledger>(
 }
 
 /// The cell of a node that has its own marks only.
-fn new_cell(node: Node) -> NodeCell
+pub(crate) fn new_cell(node: Node) -> NodeCell
     ensures node { result.node ≡ node }
     ensures own { IsOwn node result.marks }
 {

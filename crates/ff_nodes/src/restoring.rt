@@ -10,11 +10,11 @@ ghost use Rattle.ff_records.specs.Records.{node_recs};
 ghost use Rattle.ff_records.specs.Restored.{Restores};
 ghost use Rattle.ff_nodes.specs.Cells.{AreMarked, nodes_of};
 ghost use Rattle.ff_nodes.specs.Laying.{HasOwn};
-ghost use Rattle.ff_nodes.specs.Recorded.{AreDepths, AreMarkedBelow, AreMarkedFrom, made};
+ghost use Rattle.ff_nodes.specs.Recorded.{AreDepths, AreMarkedBelow, AreMarkedFrom, made, node_of};
 
 use crate::cell::NodeCell;
 use crate::checking::are_nodes;
-use crate::marks::Marks;
+use crate::laying::new_cell;
 use crate::node::Node;
 use crate::nodes::Nodes;
 use crate::parenting::{depths_of, parents_of};
@@ -73,17 +73,21 @@ fn cells_of<C: Ledger>(
 {
     let mut cells = CowVec::new(alloc);
     for i in 0..recs.len() {
-        let rec = &recs[i];
-        let shape = rec.shape.copy()?;
-        let handlers = rec.on.copy()?;
-        let children = rec.kids.copy()?;
-        let node = Node::of(shape, handlers, children, parents[i]);
-        let marks = Marks::of(&node);
-        let Ok(()) = cells.push(NodeCell { node, marks }, copies) else {
+        let cell = cell_of(&recs[i], parents[i])?;
+        let Ok(()) = cells.push(cell, copies) else {
             return Err(AllocError);
         };
     }
     Ok(cells)
+}
+
+/// The cell of a node under this parent, with its own marks.
+fn cell_of(rec: &NodeRec, parent: Option<NodeId>) -> Result<NodeCell, NoMemory>
+    ensures node { IfOk result (λ cell. cell.node ≡ node_of rec.now parent) }
+    ensures own { IfOk result HasOwn }
+{
+    let node = Node::of(rec.shape.copy()?, rec.on.copy()?, rec.kids.copy()?, parent);
+    Ok(new_cell(node))
 }
 
 /// Raises the marks of each node to its parent, those of the deepest nodes first.

@@ -21,9 +21,10 @@ use Rattle.ff_reactive.proofs.Worlds.{new_world_ok, arrive_ok, turn_ok, take_ok}
 use Rattle.ff_value.specs.Same.{same_input}
 use Rattle.ff_pool.specs.Heads.{Head, HasArrived, new_head, head_at, outputs_at, step_of, step_head, offer_head, head_turns, head_works, given, gathered_copy, gathered_copies, gathered, IsWorldOf, IsKept}
 use Rattle.ff_pool.specs.Pooled.{Pooled, copy_of, seen}
-use Rattle.ff_pool.specs.Restored.{pool_recs, tops, AreLed, HaveBrowsers, IsFresh, IsResting}
-use Rattle.ff_pool.proofs.AtRest.{tops_less, tops_lead}
-use Rattle.ff_pool.proofs.Parting.{same_input_decides}
+use Rattle.ff_classes.specs.Classes.{tops, AreLed}
+use Rattle.ff_pool.specs.Restored.{pool_recs, HaveBrowsers, IsFresh, IsResting}
+use Rattle.ff_classes.proofs.Leaders.{tops_less, tops_lead}
+use Rattle.ff_classes.proofs.Parting.{same_input_decides}
 
 -- a browser ends each input in one turn more than it brings fuel
 pub ends : (fuel : ℕ) → Ends (reactor fuel) (fuel + 1) IsWellSpelledInput (IsState fuel)

@@ -1,13 +1,10 @@
 pub mod Making
-pub mod Members
-pub mod Parting
 pub mod Giving
 pub mod Forking
 pub mod Offering
 pub mod Gathering
 pub mod OneBrowser
 pub mod Reading
-pub mod Waiting
 pub mod Onward
 pub mod Slicing
 pub mod Playing

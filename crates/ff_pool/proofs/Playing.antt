@@ -10,7 +10,7 @@ use Rattle.ff_value.specs.Same.{same_input}
 use Rattle.ff_pool.specs.Pooled.{Pooled, size, played, new_pool}
 use Rattle.ff_pool.specs.Events.{event_of, events_of, IsEvent}
 use Rattle.ff_pool.specs.declared.event.Event.{Event}
-use Rattle.ff_pool.proofs.Parting.{same_input_decides}
+use Rattle.ff_classes.proofs.Parting.{same_input_decides}
 use Rattle.ff_pool.proofs.Gathering.{ends}
 
 pub schedule : (p q : Pooled) (es : List Event) → q ≡ played p (events_of es) → (p.spent ≡ false → All (IsEvent (size p)) es)

@@ -2,10 +2,9 @@
 -- level leads which class; and the world of copies that these are.
 use Rattle.std.specs.Prelude.{◌≡◌, ◌<◌, ◌≤◌, ℕ, Option, List, [], length, slice_index_or, slice_set, refl}
 use Rattle.std.specs.List.{cons_option}
-use Rattle.std.specs.Prelude.{◌++◌, ◌+◌, ◌==◌, ◌&&◌, nat_lt, Bool, true, cond}
+use Rattle.std.specs.Prelude.{◌++◌, ◌+◌, ◌==◌, Bool, true, cond}
 use Rattle.std.specs.Coded.{Coded, code_by, coded×, coded_list}
 use Rattle.ff_value.specs.Same.{same_input}
-use Rattle.ff_lattice.specs.LevelSet.{levels_where}
 use Rattle.ff_lattice.specs.declared.names.TheConstants.{MOST_LEVELS}
 use Rattle.ff_value.specs.Spelled.{IsWellSpelledInput}
 use Rattle.ff_value.specs.declared.input.Input.{Input}
@@ -98,10 +97,6 @@ HasForked before leaders old new = (l : ℕ) (d : Head) → l < length before �
 abbrev pub HasArrived : List ℕ → List (Option Input) → List Head → List Head → Head → Type 0
 HasArrived leaders offers old new d = (l : ℕ) → l < length leaders → leader (split same_input leaders offers) l ≡ l
     → slice_index_or new l d ≡ offer_head (slice_index_or old (leader leaders l) d) (offer offers l)
-
--- the levels of a level's class
-unfoldable pub class_of : List ℕ → ℕ → List ℕ
-class_of leaders l = levels_where (λ k. nat_lt k (length leaders) && leader leaders k == leader leaders l)
 
 -- the parts of a pool where a level's class has made one or more steps
 pub record IsClassStepped (heads : List Head) (puts : List (List Out)) (leaders : List ℕ) (l turns : ℕ) (heads' : List Head) (puts' : List (List Out)) (now : ℕ) : Type 0 where

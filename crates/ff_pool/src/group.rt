@@ -6,7 +6,7 @@ ghost use Rattle.ff_machine.specs.Valid.{IsState};
 ghost use Rattle.ff_core.specs.declared.browser.TheConstants.{MOST_BUDGET};
 ghost use Rattle.ff_pool.specs.Heads.{IsStepped, MayCount, new_head, step_of, step_head, offer_head, head_works, head_turns};
 
-use crate::inbox::Inbox;
+use ff_classes::Inbox;
 use ff_core::{Browser, NoMemory};
 use ff_steps::Steps;
 use ff_value::{Input, Out};

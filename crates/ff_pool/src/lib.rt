@@ -20,13 +20,9 @@
 //! there is no memory.
 #![tactic(auto)]
 
-mod classes;
 mod drain;
 mod event;
 mod group;
-mod inbox;
-mod leading;
-mod outs;
 mod play;
 mod pool;
 mod restoring;

@@ -5,20 +5,18 @@ ghost use Rattle.ff_core.specs.declared.browser.TheConstants.{MOST_BUDGET};
 ghost use Rattle.ff_lattice.specs.declared.names.TheConstants.{MOST_LEVELS};
 ghost use Rattle.ff_reactive.specs.Worlds.{leader};
 ghost use Rattle.ff_pool.specs.Draining.{IsOnward, steps_left};
-ghost use Rattle.ff_pool.specs.Heads.{class_of};
+ghost use Rattle.ff_classes.specs.Classes.{class_of};
 ghost use Rattle.ff_pool.specs.Pooled as pooled;
 ghost use Rattle.ff_pool.specs.Pooled.{size, copy_of, new_pool, arrived, turned, taken, step_turns, left, AreOffersTo, IsPool};
 ghost use Rattle.ff_pool.specs.Restored.{pool_recs, IsReady, IsResting};
 ghost use Rattle.ff_records.specs.Restored.{Restores};
 
-use crate::classes::class_of;
 use crate::group::Group;
-use crate::leading::leaders_of;
-use crate::outs::Outs;
 use crate::restoring::{Browsers, led_heads, no_outs};
 use crate::steps::{
     arrive_heads, browser_of, forked_heads, forked_outs, has_work, step_class, steps_class,
 };
+use ff_classes::{Outs, class_of, leaders_of};
 use ff_core::{Browser, NoMemory};
 use ff_lattice::LevelSet;
 use ff_name::Level;

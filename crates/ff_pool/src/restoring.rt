@@ -1,15 +1,12 @@
 //! The heads and the outputs of a pool at rest.
-//!
-//! Classes that are given are checked by being made again: each level is led by the least level of
-//! the first class that has it, and where these are leaders, the classes that they make are
-//! compared with those that were given. So there is no second definition of a partition.
 ghost use Rattle.std.specs.Prelude.{◌≡◌, ◌≤◌, [], All, IfOk, length};
 ghost use Rattle.ff_core.specs.declared.browser.TheConstants.{MOST_BUDGET};
-ghost use Rattle.ff_pool.specs.Restored.{tops, IsReady, HaveBrowsers};
+ghost use Rattle.ff_classes.specs.Classes.{tops};
+ghost use Rattle.ff_pool.specs.Restored.{IsReady, HaveBrowsers};
 ghost use Rattle.ff_reactive.specs.Worlds.{each};
 
 use crate::group::Group;
-use crate::outs::Outs;
+use ff_classes::Outs;
 use ff_core::{Browser, NoMemory};
 use ff_shared::OwnedList;
 use std::alloc::Global;

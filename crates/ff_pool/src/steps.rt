@@ -7,9 +7,8 @@ ghost use Rattle.ff_reactive.specs.Worlds.{leader, offer, split, AreLeaders};
 ghost use Rattle.ff_value.specs.Same.{same_input};
 ghost use Rattle.ff_pool.specs.Heads.{Head, HasArrived, HasForked, IsClassStepped, MayCount, step_of, step_head, offer_head, head_works, head_turns, given};
 
-use crate::classes::{split, stay};
 use crate::group::Group;
-use crate::outs::Outs;
+use ff_classes::{Outs, split, stay};
 use ff_core::{Browser, NoMemory};
 use ff_steps::Steps;
 use ff_value::{Input, Offers, Out};

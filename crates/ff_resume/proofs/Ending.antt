@@ -8,7 +8,7 @@ use Rattle.ff_pool.specs.Pooled as pooled
 use Rattle.ff_pool.specs.Pooled.{Pooled, arrived, drained, taken, copy_of}
 use Rattle.ff_pool.specs.Restored.{IsResting}
 use Rattle.ff_pool.proofs.Gathering.{ends}
-use Rattle.ff_pool.proofs.Parting.{same_input_decides}
+use Rattle.ff_classes.proofs.Parting.{same_input_decides}
 use Rattle.ff_reactive.specs.Copies.{at_level}
 use Rattle.ff_reactive.specs.Rested.{offers_of}
 use Rattle.ff_reactive.specs.Standings.{Standing}

@@ -16,7 +16,7 @@ use Rattle.ff_save.specs.Saved.{saved_recs, saved_text}
 use Rattle.ff_session.specs.Levels.{levels}
 use Rattle.ff_session.specs.Multi.{AreCopiesAt, seen_by, stands_after}
 use Rattle.ff_value.specs.Same.{same_input}
-use Rattle.ff_pool.proofs.Parting.{same_input_decides}
+use Rattle.ff_classes.proofs.Parting.{same_input_decides}
 use Rattle.ff_value.specs.declared.input.Input.{Input}
 use Rattle.ff_resume.specs.Resumed.{standing_text, stand_of}
 use Rattle.ff_resume.proofs.Stood.{pool_stands, text_agrees}

@@ -11,9 +11,9 @@ use Rattle.ff_lattice.specs.Order.{size}
 use Rattle.ff_lattice.proofs.LevelSets.{levels_same}
 use Rattle.ff_machine.specs.State.{State}
 use Rattle.ff_policy.specs.Assignment.{Assignment}
-use Rattle.ff_pool.specs.Heads.{class_of}
+use Rattle.ff_classes.specs.Classes.{class_of, leads, tops}
 use Rattle.ff_pool.specs.Pooled.{Pooled, copy_of}
-use Rattle.ff_pool.specs.Restored.{leads, tops, IsResting}
+use Rattle.ff_pool.specs.Restored.{IsResting}
 use Rattle.ff_reactive.specs.Copies.{below}
 use Rattle.ff_reactive.specs.Standings.{Standing, StandAlike}
 use Rattle.ff_reactive.specs.Worlds.{leader, AreLeaders}

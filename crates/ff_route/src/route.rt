@@ -1,12 +1,14 @@
-ghost use Rattle.std.specs.Prelude.{◌≡◌, ◌<◌, ◌↔◌, true, None, Ok, IfOk, IsTrue};
+ghost use Rattle.std.specs.Prelude.{◌≡◌, ◌<◌, ◌↔◌, [], true, None, Ok, IfOk, IsTrue};
 ghost use Rattle.ff_lattice.specs.Order.{leq, size};
 ghost use Rattle.ff_value.specs.Offers.{offered};
+ghost use Rattle.ff_value.specs.declared.input.Act.TheVariants.{Replies};
+ghost use Rattle.ff_value.specs.declared.reply.Resp.TheVariants.{Data};
 ghost use Rattle.ff_policy.specs.Assignment.{content, level_out, presence};
 ghost use Rattle.ff_route.specs.Route as spec;
 ghost use Rattle.ff_route.specs.Route.{IsTagged, sees, mask, mask_act};
 
 use crate::NoMemory;
-use ff_name::{Level, Text, Url};
+use ff_name::{Domain, Level, Text, Url};
 use ff_policy::Policy;
 use ff_value::{Act, Cookies, Input, Offer, Offers, Out, Resp};
 use std::alloc::Global;
@@ -33,12 +35,23 @@ fn mask_act(alloc: Global, act: &Act) -> Result<Act, NoMemory>
         Act::Closes(win) => Ok(Act::Closes(*win)),
         Act::Types(win, field, _) => Ok(Act::Types(*win, *field, Text::of_str(alloc, "")?)),
         Act::Clicks(win, button) => Ok(Act::Clicks(*win, *button)),
-        Act::Replies(domain, request, _) => {
-            let cookies = Cookies::from_vec(alloc, Vec::new(alloc))?;
-            let resp = Resp::Data(cookies, Text::of_str(alloc, "")?);
-            Ok(Act::Replies(domain.copy()?, *request, resp))
-        }
+        Act::Replies(domain, request, _) => masked_reply(alloc, domain, *request),
     }
+}
+
+/// A reply of this domain that holds nothing.
+fn masked_reply(alloc: Global, domain: &Domain, request: u32) -> Result<Act, NoMemory>
+    ensures { IfOk result (λ masked. masked ≡ Replies domain.now request (Data [] [])) }
+{
+    Ok(Act::Replies(domain.copy()?, request, no_response(alloc)?))
+}
+
+/// A response that holds nothing.
+fn no_response(alloc: Global) -> Result<Resp, NoMemory>
+    ensures { IfOk result (λ resp. resp ≡ Data [] []) }
+{
+    let cookies = Cookies::from_vec(alloc, Vec::new(alloc))?;
+    Ok(Resp::Data(cookies, Text::of_str(alloc, "")?))
 }
 
 /// What the level sees of an input: the input, its tag too, where the input's content is at or below

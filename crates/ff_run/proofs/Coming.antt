@@ -21,9 +21,9 @@ use Rattle.ff_run.specs.declared.rules.TheConstants as rules_file
 use Rattle.ff_run.specs.declared.states.TheConstants as states
 use Rattle.ff_run.specs.Status.{IsEarly, IsUncopied}
 use Rattle.ff_run.specs.Run.{ComesTo, Does, GoesOn, Performs}
-use Rattle.ff_run.specs.Words.{NeedsFile}
-use Rattle.ff_run.specs.declared.words.Command.{Command}
-use Rattle.ff_run.specs.declared.words.Command.TheVariants as command
+use Rattle.ff_words.specs.Words.{NeedsFile}
+use Rattle.ff_words.specs.declared.words.Command.{Command}
+use Rattle.ff_words.specs.declared.words.Command.TheVariants as command
 use Rattle.ff_status.specs.declared.status.Status.{Status}
 use Rattle.ff_status.specs.declared.status.Status.TheVariants as status
 use Rattle.ff_status.specs.declared.status.Status.TheVariants.{Policy, NoMemory}

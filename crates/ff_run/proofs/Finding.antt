@@ -6,7 +6,7 @@ use Rattle.ff_io.specs.Fetched.{IsFrontOf, IsFetched}
 use Rattle.ff_status.specs.declared.status.Status.{Status}
 use Rattle.ff_status.specs.declared.status.Status.TheVariants.{ShelfFault, NoMemory}
 use Rattle.ff_run.specs.Status.{IsEarly}
-use Rattle.ff_run.specs.Words.{dash}
+use Rattle.ff_words.specs.Words.{dash}
 use Rattle.ff_run.specs.Names.{Accepts, FetchFailed, IsKnown, IsLater, Names, NamesBad, Refuses, StandsFor, IsOutside}
 
 -- where the files are told, one front of a file is fetched

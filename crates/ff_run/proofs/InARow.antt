@@ -16,7 +16,7 @@ use Rattle.ff_value.specs.declared.input.Input.{Input}
 use Rattle.ff_run.specs.InARow.{AreInARow}
 use Rattle.ff_run.specs.Names.{Names}
 use Rattle.ff_run.specs.States.{NamesState}
-use Rattle.ff_run.specs.Words.{dash}
+use Rattle.ff_words.specs.Words.{dash}
 use Rattle.ff_run.specs.declared.states.TheConstants as states
 use Rattle.ff_run.proofs.StateFaults.{named_rests}
 

@@ -1,10 +1,3 @@
-pub mod Checking
-pub mod Writing
-pub mod Tallies
-pub mod DrawnLines
-pub mod DrawnTrace
-pub mod Drawing
-pub mod Commands
 pub mod Finding
 pub mod PolicyFaults
 pub mod RulesFaults

@@ -17,8 +17,8 @@ use Rattle.ff_run.specs.Names.{NamesBad, Refuses, IsLater, FetchedOrFailed, IsFe
 use Rattle.ff_run.specs.Policies.{IsBadPolicy, RefusesPolicy, Under}
 use Rattle.ff_run.specs.Rules.{AreBadRules, AreRulesOf, NamesRulesFault, RefusesRules}
 use Rattle.ff_run.specs.States.{IsBadState, NamesStateFault, RefusesState}
-use Rattle.ff_run.specs.Checked.{IsPut, check_text}
-use Rattle.ff_run.specs.Upgraded.{upgrade_text}
+use Rattle.ff_writing.specs.Checked.{IsPut, check_text}
+use Rattle.ff_writing.specs.Upgraded.{upgrade_text}
 use Rattle.ff_run.specs.declared.policies.TheConstants as policies
 use Rattle.ff_run.specs.declared.rules.TheConstants as rules_file
 use Rattle.ff_run.specs.declared.states.TheConstants as states
@@ -26,8 +26,8 @@ use Rattle.ff_run.specs.Status.{IsEarly, IsUnfailing}
 use Rattle.ff_status.specs.Words.{IsGood, error_line}
 use Rattle.ff_status.specs.declared.status.TraceFault.{TraceFault}
 use Rattle.ff_run.specs.Run.{Performs, PerformsBy, Obeys, NothingFailed, IsUntouched}
-use Rattle.ff_run.specs.declared.words.Command.{Command}
-use Rattle.ff_run.specs.declared.words.Command.TheVariants as command
+use Rattle.ff_words.specs.declared.words.Command.{Command}
+use Rattle.ff_words.specs.declared.words.Command.TheVariants as command
 use Rattle.ff_status.specs.declared.status.Status.{Status}
 use Rattle.ff_status.specs.declared.status.Status.TheVariants.{Done, Leaks, Usage, Policy, Trace, ReadFault, WriteFault, ShelfFault, NoMemory, Saved, Release}
 use Rattle.ff_run.proofs.Finding.{bad_from, failed_from, stands_from}

@@ -8,7 +8,7 @@ use Rattle.ff_session.specs.Multi.{stands_after}
 use Rattle.ff_trace.specs.Lines.{IsInputOf}
 use Rattle.ff_value.specs.declared.input.Input.{Input}
 use Rattle.ff_run.specs.States.{NamesState}
-use Rattle.ff_run.specs.Words.{dash}
+use Rattle.ff_words.specs.Words.{dash}
 
 -- The first run goes from the copies that a name stands for over inputs that lines give, and the second
 -- one from the file in which its saved text was kept, whatever else the shelf then has.

@@ -1,11 +1,7 @@
-pub mod Words
 pub mod Status
 pub mod Names
 pub mod Policies
 pub mod Rules
 pub mod States
 pub mod InARow
-pub mod Checked
-pub mod Upgraded
-pub mod Generated
 pub mod Run

@@ -7,7 +7,7 @@ use Rattle.ff_io.specs.Fetched.{IsFetched}
 use Rattle.ff_status.specs.declared.status.Status.{Status}
 use Rattle.ff_status.specs.declared.status.Status.TheVariants.{ShelfFault, NoMemory}
 use Rattle.ff_run.specs.Status.{IsEarly}
-use Rattle.ff_run.specs.Words.{dash}
+use Rattle.ff_words.specs.Words.{dash}
 
 -- a fetch of the file of this name failed
 abbrev pub FetchFailed : List ℕ → ShelfTold → ShelfTold → Type 0

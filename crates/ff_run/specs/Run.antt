@@ -13,9 +13,9 @@ use Rattle.ff_status.specs.Putting.{Reported}
 use Rattle.ff_status.specs.declared.status.Status.{Status}
 use Rattle.ff_status.specs.declared.status.Status.TheVariants.{Usage, Policy, ShelfFault, NoMemory, Saved, Release}
 use Rattle.ff_audit.specs.Audited.{audit_duty}
-use Rattle.ff_travel.specs.Giving as commands
+use Rattle.ff_commands.specs.Giving as commands
 use Rattle.ff_travel.specs.Owed.{travel_duty}
-use Rattle.ff_run.specs.Words.{AreCommand}
+use Rattle.ff_words.specs.Words.{AreCommand}
 use Rattle.ff_policy.specs.declared.fault.PolicyFault.{PolicyFault}
 use Rattle.ff_resume.specs.Resumed.{resume_duty, stand_of}
 use Rattle.ff_release.specs.Releasing.{IsReleased, release_duty}
@@ -24,11 +24,11 @@ use Rattle.ff_run.specs.Policies.{NamesFault, NamesPolicy, Under}
 use Rattle.ff_run.specs.Rules.{AcceptsRules, ByRules, NamesRulesFault}
 use Rattle.ff_run.specs.States.{AcceptsState, FromState, NamesStateFault}
 use Rattle.ff_run.specs.Status.{IsEarly, IsUnfailing}
-use Rattle.ff_run.specs.Checked.{Checks}
-use Rattle.ff_run.specs.Upgraded.{Upgrades}
-use Rattle.ff_run.specs.Generated.{Generates}
-use Rattle.ff_run.specs.declared.words.Command.{Command}
-use Rattle.ff_run.specs.declared.words.Command.TheVariants as command
+use Rattle.ff_writing.specs.Checked.{Checks}
+use Rattle.ff_writing.specs.Upgraded.{Upgrades}
+use Rattle.ff_writing.specs.Generated.{Generates}
+use Rattle.ff_words.specs.declared.words.Command.{Command}
+use Rattle.ff_words.specs.declared.words.Command.TheVariants as command
 
 -- the words are no command at `Usage`, and a command at each other status
 abbrev pub Suits : Status → List (String Global) → Type 0

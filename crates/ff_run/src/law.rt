@@ -1,24 +1,12 @@
-//! What the lines of `gen` are, and what two runs with `resume` put.
-ghost use Rattle.std.specs.Prelude.{◌≡◌, ◌+◌, ◌≤◌, ◌<◌, ◌^◌, ◌++◌, ℕ, true, None, List};
+//! What two runs with `resume` put.
+ghost use Rattle.std.specs.Prelude.{◌≡◌, ◌+◌, ◌++◌, ℕ, true, List};
 ghost use Rattle.ff_io.specs.Shelf.{ShelfTold};
 ghost use Rattle.ff_value.specs.declared.input.Input.{Input};
-ghost use Rattle.ff_policy.specs.Assignment.{Assignment, IsAssignment, builtin};
+ghost use Rattle.ff_policy.specs.Assignment.{Assignment, IsAssignment};
 ghost use Rattle.ff_pool.specs.Pooled.{Pooled};
-ghost use Rattle.ff_gen.specs.Workload.{workload};
 ghost use Rattle.ff_resume.specs.Resumed.{resume_duty, stand_of};
 ghost use Rattle.ff_session.specs.Multi.{run_text, run_turns, seen_by};
-ghost use Rattle.ff_session.specs.Works.{IsTraceFor};
-ghost use Rattle.ff_run.specs.Generated.{IsDrawn, AreDrawn};
 ghost use Rattle.ff_run.specs.InARow.{AreInARow};
-
-use ff_gen::MOST_LINES;
-
-/// Each line that a number draws gives an input under the built-in policy, and so many lines as a
-/// command asks for are a trace of exactly the inputs that they give, without a bad line.
-pub fn drawn_lines_are_a_trace()
-    ensures line { (number : ℕ) → number < 2 ^ 32 → (i : Input) × IsDrawn builtin.order number i }
-    ensures trace { (start n : ℕ) → n ≤ MOST_LINES → (is : List Input) × AreDrawn builtin.order start n is × IsTraceFor builtin true (workload start n) is None }
-{}
 
 /// Two runs with `resume` in a row are the unbroken one, where the second begins with the file in
 /// which the saved text of the first was kept. What the unbroken run puts, its saved text included,

@@ -5,8 +5,6 @@
 //! of a run over inputs that are drawn from a number.
 #![tactic(auto)]
 
-mod check;
-mod generate;
 mod law;
 mod named;
 mod policies;
@@ -14,14 +12,11 @@ mod released;
 mod resumed;
 mod rules;
 mod states;
-mod tally;
 mod top;
-mod upgrade;
-mod whole;
-mod words;
 
 pub use ff_session::Work;
 pub use ff_status::{Status, TraceFault};
-pub use law::{drawn_lines_are_a_trace, two_runs_in_a_row_are_the_unbroken_one};
+pub use ff_words::Command;
+pub use ff_writing::drawn_lines_are_a_trace;
+pub use law::two_runs_in_a_row_are_the_unbroken_one;
 pub use top::run;
-pub use words::Command;

@@ -2,7 +2,7 @@
 ghost use Rattle.std.specs.Prelude.{◌≡◌, ◌≢◌, ◌<◌, ◌⊎◌, ℕ, List, IfOk, IfErr, Ok, Err};
 ghost use Rattle.ff_run.specs.Status.{IsUncopied};
 ghost use Rattle.ff_run.specs.Names.{Names, NamesBad, Refuses, IsFetchedOrFails, IsKnown, IsLater, IsOutside};
-ghost use Rattle.ff_run.specs.Words.{dash};
+ghost use Rattle.ff_words.specs.Words.{dash};
 ghost use Rattle.ff_status.specs.declared.status.Status.{Status};
 
 use ff_io::{FetchFail, Shelf, fetch_front};

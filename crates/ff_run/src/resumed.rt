@@ -4,8 +4,8 @@ ghost use Rattle.ff_policy.specs.Assignment.{IsAssignment};
 ghost use Rattle.ff_run.specs.Names.{FetchedOrFailed, IsLater};
 ghost use Rattle.ff_run.specs.Run.{Does};
 ghost use Rattle.ff_run.specs.Status.{IsEarly, IsUncopied};
-ghost use Rattle.ff_run.specs.Words.{dash};
-ghost use Rattle.ff_run.specs.declared.words.Command.{Command};
+ghost use Rattle.ff_words.specs.Words.{dash};
+ghost use Rattle.ff_words.specs.declared.words.Command.{Command};
 
 use crate::named::find;
 use crate::states::StateFile;

@@ -22,7 +22,8 @@ use Rattle.ff_saved.specs.declared.draft.Draft.{Draft}
 use Rattle.ff_saved.specs.declared.row.Row.{Row}
 use Rattle.ff_saved.specs.declared.row.Row.TheVariants as row
 use Rattle.ff_save.specs.Gathered.{Gathered, no_classes, with_last_class, browsers_of, gathered_more, IsNoText}
-use Rattle.ff_save.specs.Holding.{IsAtRest, records_of, Holds, AreOfNone, IsSpoiled, Ends, Begins, IsStuck, nowhere, spoiled, AddsRow, IsLineOf, AddsLine}
+use Rattle.ff_stored.specs.Rest.{IsAtRest}
+use Rattle.ff_save.specs.Holding.{records_of, Holds, AreOfNone, IsSpoiled, Ends, Begins, IsStuck, nowhere, spoiled, AddsRow, IsLineOf, AddsLine}
 use Rattle.ff_save.specs.declared.gathering.Gathering.{Gathering}
 use Rattle.ff_save.proofs.Grown.{with_more, other_row}
 use Rattle.ff_save.proofs.Texts.{IsReading, reading_more, reading_stuck, something_left}

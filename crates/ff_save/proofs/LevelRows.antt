@@ -13,10 +13,9 @@ use Rattle.ff_machine.specs.State.{State}
 use Rattle.ff_machine.specs.Stores.{Stores}
 use Rattle.ff_policy.specs.Assignment.{Assignment}
 use Rattle.ff_policy.specs.Printing.{printed}
-use Rattle.ff_pool.specs.Heads.{class_of}
+use Rattle.ff_classes.specs.Classes.{class_of, leads}
 use Rattle.ff_pool.specs.Pooled.{Pooled, copy_of}
-use Rattle.ff_pool.specs.Restored.{leads}
-use Rattle.ff_pool.proofs.AtRest.{has_class}
+use Rattle.ff_classes.proofs.Leaders.{has_class}
 use Rattle.ff_printing.specs.Pieces.{Prints}
 use Rattle.ff_printing.specs.declared.printer.Printer.{Printer}
 use Rattle.ff_printing.proofs.Printing.{then, nothing, prints_as}
@@ -27,7 +26,7 @@ use Rattle.ff_saved.specs.Rows.{row_line, rows_text, stores_rows}
 use Rattle.ff_saved.specs.declared.row.Row.TheVariants as row
 use Rattle.ff_save.specs.LevelByLevel.{level_rows}
 use Rattle.ff_save.specs.Saved.{classes_rows, saved_recs, saved_rows}
-use Rattle.ff_save.proofs.RowByRow.{rows_then, one_row}
+use Rattle.ff_stored.proofs.RowByRow.{rows_then, one_row}
 
 -- the rows over some levels: those of each that leads
 module _ (p : Pooled) where

@@ -1,11 +1,5 @@
-pub mod Mapped
-pub mod Asked
-pub mod Stored
 pub mod Pools
 pub mod Same
-pub mod Remade
-pub mod Rowed
-pub mod RowByRow
 pub mod LevelRows
 pub mod Grown
 pub mod Texts

@@ -4,7 +4,6 @@ use Rattle.std.specs.Prelude.{◌≡◌, ◌≢◌, ◌≤◌, ℕ, Bool, true, 
 use Rattle.ff_lattice.specs.Order.{Order}
 use Rattle.ff_machine.specs.State.{State}
 use Rattle.ff_machine.specs.Stores.{Stores}
-use Rattle.ff_machine.specs.Valid.{IsState}
 use Rattle.ff_stores.specs.Restored.{AreUntouched}
 use Rattle.ff_text.specs.declared.reading.TheConstants.{MOST_BYTES}
 use Rattle.ff_saved.specs.Drafted.{so_far}
@@ -16,11 +15,7 @@ use Rattle.ff_saved.specs.declared.row.Row.{Row}
 use Rattle.ff_saved.specs.declared.row.Row.TheVariants as row
 use Rattle.ff_save.specs.Gathered.{Gathered, no_classes, browsers_of, gathered_more, gathered_all, ReadsRows, IsTextOf, IsNoText}
 use Rattle.ff_save.specs.declared.gathering.Gathering.{Gathering}
-
--- a valid browser at rest
-pub record IsAtRest (fuel : ℕ) (s : State) : Type 0 where
-  pub valid : IsState fuel s
-  pub quiet : s.quiet ≡ true
+use Rattle.ff_stored.specs.Rest.{IsAtRest}
 
 abbrev pub records_of : State → StoresRecs
 records_of s = stores_recs s.stores

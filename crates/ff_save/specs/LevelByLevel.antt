@@ -1,8 +1,7 @@
 -- The rows of a pool's classes, level by level. Only private contracts cite it.
 use Rattle.std.specs.Prelude.{ℕ, cond, List, [], ◌∷◌}
-use Rattle.ff_pool.specs.Heads.{class_of}
+use Rattle.ff_classes.specs.Classes.{class_of, leads}
 use Rattle.ff_pool.specs.Pooled.{Pooled, copy_of}
-use Rattle.ff_pool.specs.Restored.{leads}
 use Rattle.ff_saved.specs.Recs.{stores_recs}
 use Rattle.ff_saved.specs.Rows.{stores_rows}
 use Rattle.ff_saved.specs.declared.row.Row.{Row}

@@ -8,7 +8,6 @@ ghost use Rattle.ff_save.specs.Gathered.{Gathered, no_classes, saved_of};
 ghost use Rattle.ff_save.specs.Holding.{Holds, AddsLine, AddsRow, Begins, Ends};
 ghost use Rattle.ff_save.specs.Saved.{saved_recs};
 
-use crate::restoring::restore_stores;
 use ff_core::Browser;
 use ff_lattice::{Lattice, LevelSet};
 use ff_name::NoMemory;
@@ -16,6 +15,7 @@ use ff_pool::Pool;
 use ff_saved::{Draft, LineFault, Row, read_row};
 use ff_shared::OwnedList;
 use ff_steps::Steps;
+use ff_stored::restore_stores;
 use ff_text::MOST_BYTES;
 use std::alloc::{AllocError, Global};
 use std::mem;

@@ -1,32 +1,12 @@
 //! Nothing is lost in what is saved.
-ghost use Rattle.std.specs.Prelude.{◌≡◌, ◌≤◌, ℕ, All, List, Some};
+ghost use Rattle.std.specs.Prelude.{◌≡◌, ◌≤◌, ℕ, List};
 ghost use Rattle.ff_lattice.specs.declared.names.TheConstants.{MOST_LEVELS};
-ghost use Rattle.ff_lattice.specs.Order.{Order, size};
-ghost use Rattle.ff_machine.specs.Alone.{AreNodes, AreRequests};
-ghost use Rattle.ff_machine.specs.Net.{Jar, Requests};
-ghost use Rattle.ff_machine.specs.Nodes.{Node};
-ghost use Rattle.ff_machine.specs.Stores.{Stores};
-ghost use Rattle.ff_machine.specs.Valid.{IsStores};
-ghost use Rattle.ff_machine.specs.Windows.{Windows};
+ghost use Rattle.ff_lattice.specs.Order.{size};
 ghost use Rattle.ff_pool.specs.Pooled.{Pooled};
 ghost use Rattle.ff_pool.specs.Restored.{IsResting};
-ghost use Rattle.ff_records.specs.Records.{node_recs, windows_recs, cookie_recs, ask_recs};
-ghost use Rattle.ff_saved.specs.Drafting.{no_recs, added_all};
-ghost use Rattle.ff_saved.specs.Recs.{stores_recs};
-ghost use Rattle.ff_saved.specs.Rows.{IsRow, stores_rows};
 ghost use Rattle.ff_policy.specs.Assignment.{Assignment, IsAssignment};
 ghost use Rattle.ff_save.specs.Saved.{saved_recs, saved_text};
 ghost use Rattle.ff_save.specs.Whole.{IsSaved};
-
-/// Valid stores of a browser that have the same records are the same, each by itself and all
-/// together, where the same pages count as touched.
-pub fn equal_records_are_of_equal_stores()
-    ensures nodes { (a b : List Node) → AreNodes a → AreNodes b → node_recs a ≡ node_recs b → a ≡ b }
-    ensures windows { (a b : Windows) → windows_recs a ≡ windows_recs b → a ≡ b }
-    ensures cookies { (a b : Jar) → cookie_recs a ≡ cookie_recs b → a ≡ b }
-    ensures requests { (a b : Requests) → AreRequests a → AreRequests b → ask_recs a ≡ ask_recs b → a ≡ b }
-    ensures stores { (s t : Stores) → IsStores s → IsStores t → s.touched ≡ t.touched → stores_recs s ≡ stores_recs t → s ≡ t }
-{}
 
 /// Pools at rest, of as many levels and with the same fuel, that are saved as the same records are
 /// the same.
@@ -38,11 +18,4 @@ pub fn equal_records_are_of_equal_pools()
 /// one that is read from them, whether or not anything else is known of its lines.
 pub fn a_saved_text_is_of_one_pool()
     ensures { (policy : Assignment) (bytes : List ℕ) (a b : Pooled) → IsAssignment policy → IsSaved policy bytes a → IsResting (size policy.order) policy.fuel b → bytes ≡ saved_text policy (saved_recs b) → a ≡ b }
-{}
-
-/// The rows of the records of valid stores are well spelled, with numbers of 32 bits, and give
-/// these records where they are gathered one after another.
-pub fn rows_of_valid_stores_are_rows()
-    ensures rows { (order : Order) (s : Stores) → IsStores s → All (IsRow order) (stores_rows (stores_recs s)) }
-    ensures again { (s : Stores) → IsStores s → added_all no_recs (stores_rows (stores_recs s)) ≡ Some (stores_recs s) }
 {}

@@ -13,12 +13,12 @@ ghost use Rattle.ff_reactive.specs.Worlds.{leader};
 ghost use Rattle.ff_save.specs.LevelByLevel.{level_rows};
 ghost use Rattle.ff_save.specs.Saved.{saved_recs, saved_rows, saved_text};
 
-use crate::writing::put_stores;
 use ff_name::{Level, NoMemory, Text};
 use ff_policy::Policy;
 use ff_pool::Pool;
 use ff_printing::Printer;
 use ff_saved::{put_class, put_end, put_head, put_policy};
+use ff_stored::put_stores;
 use std::alloc::Global;
 
 /// Appends the saved text of a pool at rest that has a copy for each level of the policy, with the

@@ -1,7 +1,6 @@
 //! The lines, one after another.
 ghost use Rattle.std.specs.Prelude.{◌≡◌, ◌<◌};
 
-use crate::cutting::print_cuts;
 use crate::gathering::{add, add_many};
 use crate::printing::print_rows;
 use crate::spoiling::print_spoiled;
@@ -9,21 +8,19 @@ use crate::texts::print_text;
 use anyhow::Result;
 use ff_name::NoMemory;
 use ff_policy::Policy;
-use ff_save::restore_stores;
 use ff_saved::Draft;
 use ff_steps::Steps;
+use ff_stored::restore_stores;
 use std::alloc::Global;
 use std::mem;
 use std::sync::ledger::{Blank, Ledger};
 
-/// What was read of a case: its policy, the rows that were gathered, the lines of a text, and those
-/// of a trace.
+/// What was read of a case: its policy, the rows that were gathered, and the lines of a text.
 #[derive(Drop)]
 struct Case {
     policy: Policy,
     draft: Draft,
     lines: Vec<String>,
-    trace: Vec<String>,
 }
 
 /// Follows each line.
@@ -53,7 +50,6 @@ impl Case {
             policy: Policy::builtin(alloc)?,
             draft: Draft::new(alloc),
             lines: Vec::new(alloc),
-            trace: Vec::new(alloc),
         })
     }
 
@@ -77,30 +73,27 @@ impl Case {
                 Ok(())
             }
             "|" => Ok(self.lines.push(String::from_str(alloc, rest)?)?),
-            ">" => Ok(self.trace.push(String::from_str(alloc, rest)?)?),
             "stores" => self.make_stores(rt, false, copies),
             "rows" => self.make_stores(rt, true, copies),
-            "text" | "spoil" | "cut" => self.try_text(rt, word, copies),
+            "text" => self.try_text(rt, false, copies),
+            "spoil" => self.try_text(rt, true, copies),
             _ => self.take(rt, line),
         }
     }
 
-    /// Does what a word says with the lines of a text, and forgets them.
+    /// Reads the lines of a text, or spoils each in turn, and forgets them.
     fn try_text<C: Ledger>(
         &mut self,
         rt: &HostRuntime,
-        word: &str,
+        spoils: bool,
         copies: &mut Steps<C>,
     ) -> Result<()> {
         let alloc = rt.alloc();
         let lines = mem::replace(&mut self.lines, Vec::new(alloc));
-        match word {
-            "text" => print_text(rt, &self.policy, lines.as_slice(), copies),
-            "spoil" => print_spoiled(rt, &self.policy, lines.as_slice(), copies),
-            _ => {
-                let trace = mem::replace(&mut self.trace, Vec::new(alloc));
-                print_cuts(rt, &self.policy, lines.as_slice(), trace.as_slice())
-            }
+        if spoils {
+            print_spoiled(rt, &self.policy, lines.as_slice(), copies)
+        } else {
+            print_text(rt, &self.policy, lines.as_slice(), copies)
         }
     }
 

@@ -19,7 +19,7 @@ use Rattle.ff_value.specs.Same.{same_input}
 use Rattle.ff_pool.specs.Heads.{IsWorldOf}
 use Rattle.ff_pool.specs.Pooled as pooled
 use Rattle.ff_pool.specs.Pooled.{Pooled, arrived, drained, taken, left, copy_of, new_pool, AreOffersTo}
-use Rattle.ff_pool.proofs.Parting.{same_input_decides}
+use Rattle.ff_classes.proofs.Parting.{same_input_decides}
 use Rattle.ff_pool.proofs.Gathering.{ends}
 use Rattle.ff_policy.specs.Assignment.{Assignment}
 use Rattle.ff_session.specs.Levels as run

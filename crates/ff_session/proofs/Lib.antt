@@ -1,4 +1,3 @@
-pub mod Lines
 pub mod Lawful
 pub mod Inputs
 pub mod Giving

@@ -11,7 +11,6 @@ mod multi;
 mod offered;
 mod plain;
 mod printing;
-mod splitting;
 mod work;
 
 pub use ending::{close, status_of};
@@ -26,5 +25,4 @@ pub use multi::{Copies, walk_copies};
 pub use offered::{new_pool, take_offers};
 pub use plain::Plain;
 pub use printing::print_level;
-pub use splitting::{content, is_headed, split_line};
 pub use work::{Work, walk};

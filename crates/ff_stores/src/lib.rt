@@ -12,7 +12,7 @@
 #![tactic(auto)]
 
 /// Leaves nothing in the stores, whose memory has run out: each part is emptied by itself, since
-/// a proof that drops the stores as a whole at each way out takes many times as long.
+/// a proof that drops the stores as a whole at each way out takes nearly twice as long.
 macro_rules! nothing_left {
     ($stores:expr) => {
         crate::stores::leave_nothing(

@@ -12,7 +12,7 @@ use Rattle.ff_reactive.proofs.Worlds.{copy-arrive, copy-turn, copy-take, copy-dr
 use Rattle.ff_machine.specs.Machine.{reactor}
 use Rattle.ff_machine.specs.State.{State}
 use Rattle.ff_value.specs.Same.{same_input}
-use Rattle.ff_pool.proofs.Parting.{same_input_decides}
+use Rattle.ff_classes.proofs.Parting.{same_input_decides}
 use Rattle.ff_stream.specs.Owed.{Begins}
 use Rattle.ff_travel.specs.Beside.{Kept, put_at, put_before, behind, cut, cuts, kept_worlds, none_put, under}
 use Rattle.ff_travel.specs.Force.{Copies}

@@ -22,8 +22,8 @@ use Rattle.ff_session.proofs.Feeding.{seen_fit}
 use Rattle.ff_travel.specs.Beside.{Kept, HasGathered, ArePartsFor, IsKeptFor, IsPoolFor, behind, cut, history_of, kept_now, kept_worlds, none_put, under}
 use Rattle.ff_travel.specs.Force.{first_world, stepped, step_turns, without_last, last_or}
 use Rattle.ff_travel.specs.Travelled.{moved, taken_back}
-use Rattle.ff_travel.specs.declared.command.Command.{Command}
-use Rattle.ff_travel.specs.declared.command.Command.TheVariants.{Arrive, Turn, Drain}
+use Rattle.ff_commands.specs.declared.command.Command.{Command}
+use Rattle.ff_commands.specs.declared.command.Command.TheVariants.{Arrive, Turn, Drain}
 use Rattle.ff_travel.proofs.Beside.{behind-arrive, behind-turn, behind-drain, behind-new, copy-behind, left-behind, cut_again, kept_push}
 use Rattle.ff_travel.proofs.Force.{without_last_push, last_or_push}
 

@@ -1,6 +1,3 @@
-pub mod Ends
-pub mod Finding
-pub mod Giving
 pub mod Force
 pub mod Naming
 pub mod Beside

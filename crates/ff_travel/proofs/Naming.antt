@@ -13,7 +13,7 @@ use Rattle.ff_lattice.specs.declared.names.TheConstants.{MOST_LEVELS}
 use Rattle.ff_lattice.proofs.LevelSets.{has_in_range}
 use Rattle.ff_value.specs.declared.output.Out.{Out}
 use Rattle.ff_machine.specs.Machine.{reactor}
-use Rattle.ff_pool.specs.Heads as heads
+use Rattle.ff_classes.specs.Classes as classes
 use Rattle.ff_pool.specs.Pooled as pooled
 use Rattle.ff_pool.specs.Pooled.{Pooled}
 use Rattle.ff_policy.specs.Assignment.{Assignment}
@@ -32,11 +32,11 @@ filter_agree_below p q (suc n) agree =
     ∙ sym (filter-append q (below n) (n ∷ []))
 
 -- the levels of a class, as the pool tells them
-pub class_told : (w : Copies) (l n : ℕ) (set : List ℕ) → set ≡ heads.class_of w.leaders l → length w.leaders ≡ n → n ≤ MOST_LEVELS → filter (has set) (below n) ≡ class_of w l
-unfolding heads.class_of
+pub class_told : (w : Copies) (l n : ℕ) (set : List ℕ) → set ≡ classes.class_of w.leaders l → length w.leaders ≡ n → n ≤ MOST_LEVELS → filter (has set) (below n) ≡ class_of w l
+unfolding classes.class_of
 class_told w l n set is count few =
     ap (λ s. filter (has s) (below n)) is
-    ∙ filter_agree_below (has (heads.class_of w.leaders l)) test n
+    ∙ filter_agree_below (has (classes.class_of w.leaders l)) test n
     (λ k lt. has_in_range (λ m. nat_lt m (length w.leaders) && test m) k (omega arith) ∙ ap (λ b. b && test k) (lt-ltb k (length w.leaders) (omega arith)))
     ∙ ap (λ m. filter test (below m)) (sym count)
   where
@@ -80,7 +80,7 @@ pub names_done : (order : Order) (set before text : List ℕ) (l : ℕ) → HasN
 names_done order set before text l has_them all = has_them.text_is ∙ ap (λ n. before ++ names_text order (filter (has set) (below n))) all
 
 -- the line of a class, part by part
-pub class_printed : (p : Assignment) (pool : Pooled) (l : ℕ) → IsPoolFor p pool → size p.order ≤ MOST_LEVELS → (set : List ℕ) → set ≡ heads.class_of pool.world.leaders l → (works : Bool) → works ≡ pooled.has_work pool l
+pub class_printed : (p : Assignment) (pool : Pooled) (l : ℕ) → IsPoolFor p pool → size p.order ≤ MOST_LEVELS → (set : List ℕ) → set ≡ classes.class_of pool.world.leaders l → (works : Bool) → works ≡ pooled.has_work pool l
     → (out a b d e : List ℕ) → a ≡ out ++ codes "class" → b ≡ a ++ names_text p.order (filter (has set) (below (size p.order))) → d ≡ b ++ work_text works → e ≡ d ++ 10 ∷ [] → e ≡ out ++ class_line p pool.world l
 class_printed p pool l is few set set_is works works_is out a b d e a_is b_is d_is e_is =
     let names = names_text p.order (class_of pool.world l) in

@@ -12,11 +12,11 @@ use Rattle.ff_stream.specs.declared.end.End.TheVariants as end
 use Rattle.ff_stream.proofs.Onwards.{streams_none}
 use Rattle.ff_session.specs.Works.{Exchanged, status_as}
 use Rattle.ff_session.proofs.Closing.{told_of, unclosed}
-use Rattle.ff_travel.specs.Giving.{Gives}
-use Rattle.ff_travel.specs.Once.{gives_once}
+use Rattle.ff_commands.specs.Giving.{Gives}
+use Rattle.ff_commands.specs.Once.{gives_once}
 use Rattle.ff_travel.specs.Owed.{travel_duty}
 use Rattle.ff_travel.specs.Shown.{travel_entry, travel_turns}
-use Rattle.ff_travel.specs.declared.command.Command.{Command}
+use Rattle.ff_commands.specs.declared.command.Command.{Command}
 
 -- the travel by its loop
 pub exchanged : {IsAt : List Command → Type 0} {log_before log_now : Option (List Piece)} {rest_before rest_now : Option (List ℕ)} {turns_before turns_now : ℕ} (p : Assignment) (how : End TraceFault)

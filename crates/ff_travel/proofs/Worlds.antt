@@ -12,14 +12,14 @@ use Rattle.ff_name.specs.declared.levels.Level.{Level}
 use Rattle.ff_machine.specs.Machine.{reactor}
 use Rattle.ff_value.specs.Same.{same_input}
 use Rattle.ff_pool.specs.Heads.{IsWorldOf}
-use Rattle.ff_pool.proofs.Parting.{same_input_decides}
+use Rattle.ff_classes.proofs.Parting.{same_input_decides}
 use Rattle.ff_pool.proofs.Gathering.{ends}
 use Rattle.ff_policy.specs.Assignment.{Assignment}
 use Rattle.ff_route.specs.Route.{offers}
-use Rattle.ff_travel.specs.Commands.{IsCommandOf}
+use Rattle.ff_commands.specs.Commands.{IsCommandOf}
 use Rattle.ff_travel.specs.Force.{Copies, without_last, force_after, force_from, in_force, stepped, first_world, world_from, replay, world_after}
-use Rattle.ff_travel.specs.declared.command.Command.{Command}
-use Rattle.ff_travel.specs.declared.command.Command.TheVariants.{Arrive, Turn, Drain, Back, Show}
+use Rattle.ff_commands.specs.declared.command.Command.{Command}
+use Rattle.ff_commands.specs.declared.command.Command.TheVariants.{Arrive, Turn, Drain, Back, Show}
 use Rattle.ff_travel.proofs.Force.{in_force_push, world_from_push}
 use Rattle.ff_travel.proofs.Carrying.{offers_fit}
 

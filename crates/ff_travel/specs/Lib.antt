@@ -1,8 +1,3 @@
-pub mod Verbs
-pub mod Commands
-pub mod Found
-pub mod Giving
-pub mod Once
 pub mod Force
 pub mod Shown
 pub mod Travelled

@@ -9,8 +9,8 @@ use Rattle.ff_machine.specs.Machine.{reactor}
 use Rattle.ff_policy.specs.Assignment.{Assignment}
 use Rattle.ff_session.specs.Levels.{levels}
 use Rattle.ff_travel.specs.Force.{Copies, world_after, step_turns}
-use Rattle.ff_travel.specs.declared.command.Command.{Command}
-use Rattle.ff_travel.specs.declared.command.Command.TheVariants.{Arrive, Turn, Drain, Back, Show}
+use Rattle.ff_commands.specs.declared.command.Command.{Command}
+use Rattle.ff_commands.specs.declared.command.Command.TheVariants.{Arrive, Turn, Drain, Back, Show}
 
 -- the levels of a level's class, in their order
 abbrev pub class_of : Copies → ℕ → List ℕ

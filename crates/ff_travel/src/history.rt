@@ -1,16 +1,16 @@
 //! A pool of browsers under commands.
 ghost use Rattle.std.specs.Prelude.{◌≡◌, ◌≤◌, ◌+◌, ◌++◌, false, true, length, IfOk, OnOk, OnErr};
 ghost use Rattle.ff_travel.specs.Beside.{ArePartsFor, history_of, under};
-ghost use Rattle.ff_travel.specs.Commands.{IsCommandOf, MakesNoTurn};
+ghost use Rattle.ff_commands.specs.Commands.{IsCommandOf, MakesNoTurn};
 ghost use Rattle.ff_travel.specs.Force.{step_turns};
 ghost use Rattle.ff_travel.specs.Shown.{text_at};
 ghost use Rattle.ff_travel.specs.Travelled.{applied, happened, new_travel};
 
-use crate::command::Command;
 use crate::kept::Kept;
 use crate::outputs::Outputs;
 use crate::showing::show;
 use crate::steps::{arrive, gather, go_back, keep, new_pool, no_outputs};
+use ff_commands::Command;
 use ff_policy::Policy;
 use ff_pool::{NoMemory, Pool};
 use ff_steps::Steps;

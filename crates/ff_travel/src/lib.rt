@@ -1,7 +1,6 @@
 //! Travel: a pool of browsers under commands, which turn it step by step and take steps back.
 //!
-//! A trace of commands takes the place of one of inputs. [`read_command`] says what a line of it
-//! is, and a [`Travel`] keeps the pool as it was before each command that is in force, so that
+//! A trace of commands takes the place of one of inputs, and a [`Travel`] keeps the pool as it was before each command that is in force, so that
 //! `back` is as exact as it is quick. It is kept as a fork of which all outputs were taken, and the
 //! number of each level's outputs until then; the outputs lie beside the pool once for each level,
 //! and stepping back cuts them. Inputs that wait are shared by forks but for the last sixteen. So a
@@ -14,21 +13,18 @@
 //! others were offered something else.
 #![tactic(auto)]
 
-mod command;
-mod command_reader;
 mod history;
 mod kept;
 mod law;
 mod outputs;
-mod reading;
 mod showing;
 mod steps;
 mod traveller;
 
-pub use command::{Command, CommandFault, Verb};
-pub use command_reader::CommandReader;
+pub use ff_commands::{
+    Command, CommandFault, CommandReader, Verb, a_line_is_one_command, read_command,
+};
 pub use ff_name::NoMemory;
 pub use history::Travel;
-pub use law::{a_line_is_one_command, a_turn_without_work_changes_nothing};
-pub use reading::read_command;
+pub use law::a_turn_without_work_changes_nothing;
 pub use traveller::{Traveller, travel};

@@ -1,11 +1,10 @@
 ghost use Rattle.std.specs.Prelude.{◌≤◌};
 ghost use Rattle.ff_session.specs.Works.{Exchanged};
-ghost use Rattle.ff_travel.specs.Giving.{Gives};
+ghost use Rattle.ff_commands.specs.Giving.{Gives};
 ghost use Rattle.ff_travel.specs.Owed.{travel_duty};
 
-use crate::command::Command;
-use crate::command_reader::CommandReader;
 use crate::history::Travel;
+use ff_commands::{Command, CommandReader};
 use ff_io::Port;
 use ff_policy::Policy;
 use ff_session::status_of;
@@ -23,7 +22,7 @@ pub struct Traveller<'a> {
 }
 
 impl<'a> Taker for Traveller<'a> {
-    ghost use Rattle.ff_travel.specs.Commands.{IsCommandOf};
+    ghost use Rattle.ff_commands.specs.Commands.{IsCommandOf};
     ghost use Rattle.ff_travel.specs.Shown.{travel_entry, travel_turns};
     ghost use Rattle.ff_travel.specs.Travelled.{IsTravelAt};
 

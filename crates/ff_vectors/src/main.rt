@@ -34,13 +34,12 @@
 //! are passed over.
 #![tactic(auto)]
 
-mod case;
 mod ended;
 mod stops;
 mod sweeps;
 
 use anyhow::{Context, Result};
-use case::{Case, Part};
+use ff_cases::{Case, Part};
 
 fn main(rt: HostRuntime) -> Result<()> {
     let mut case = Case::new(rt.alloc());

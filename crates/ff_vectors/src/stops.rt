@@ -1,7 +1,7 @@
 //! A resumed run that stops after each line of its trace, is saved there, and goes on.
-use crate::case::Case;
-use crate::ended::{Ended, end};
+use crate::ended::end;
 use anyhow::Result;
+use ff_cases::{Case, Ended, is_stop, parts_of};
 use std::alloc::{AllocError, Global};
 
 /// How many stops there are, and after how many of them the case goes on as it should.
@@ -31,14 +31,6 @@ pub fn show_each_stop(rt: &HostRuntime, case: &mut Case) -> Result<()> {
     Ok(())
 }
 
-/// Whether a trace can stop after so many bytes: at its front, and behind each newline.
-fn is_stop(trace: &[u8], length: usize) -> bool {
-    match length.checked_sub(1) {
-        Some(last) => trace.get(last) == Some(&b'\n'),
-        None => true,
-    }
-}
-
 /// Whether the lines up to a stop and those of the run that goes on from what was saved there,
 /// joined, are what the unbroken run puts, which ends in the same way.
 fn goes_on(
@@ -58,22 +50,4 @@ fn goes_on(
     case.begin_anew(alloc)?;
     text.extend_from_slice(second.put.as_slice())?;
     Ok(second.number == whole.number && text.as_slice() == whole.put.as_slice())
-}
-
-/// What was put before a saved text, and that text.
-fn parts_of(alloc: Global, put: &[u8]) -> Result<(Vec<u8>, Vec<u8>), AllocError> {
-    let mut before = Vec::new(alloc);
-    let mut saved = Vec::new(alloc);
-    let mut is_saved = false;
-    for line in put.split_inclusive(|byte| *byte == b'\n') {
-        if line == b"ffox-saved 1\n".as_slice() {
-            is_saved = true;
-        }
-        if is_saved {
-            saved.extend_from_slice(line)?;
-        } else {
-            before.extend_from_slice(line)?;
-        }
-    }
-    Ok((before, saved))
 }

@@ -1,8 +1,8 @@
 //! A case as it stands, without its attack, over an outside each of whose calls fails in turn, and
 //! over a trace that is cut at each place.
-use crate::case::{Case, Part};
-use crate::ended::{Ended, count_lines, end, lines_of};
+use crate::ended::end;
 use anyhow::Result;
+use ff_cases::{Case, Ended, Part, count_lines, lines_of, without_last_line};
 use std::alloc::{AllocError, Global};
 
 /// How the case ends over its whole trace.
@@ -81,31 +81,11 @@ fn make_fail(alloc: Global, case: &mut Case, part: Part) -> Result<Sweep, AllocE
             return Ok(sweep);
         }
         sweep.calls = sweep.calls.saturating_add(1);
-        if is_right(&run, &whole, part) {
+        if run.is_right(&whole, part) {
             sweep.right = sweep.right.saturating_add(1);
         }
     }
     Ok(sweep)
-}
-
-/// Whether a run in which a call of a part failed ended as it should, beside the whole run.
-fn is_right(run: &Ended, whole: &Ended, part: Part) -> bool {
-    let is_front = whole.put.starts_with(run.put.as_slice());
-    match part {
-        Part::Read => run.number == 5 && is_front,
-        Part::Write => run.number == 6 && is_front && run.put.len() < whole.put.len(),
-        Part::Fetch => run.number == 7 && run.got == 0 && run.put.is_empty(),
-        Part::Report => is_same_but_report(run, whole),
-    }
-}
-
-/// Whether a run ended as the whole one, but for a shorter front of its report.
-fn is_same_but_report(run: &Ended, whole: &Ended) -> bool {
-    run.number == whole.number
-        && run.got == whole.got
-        && run.put.as_slice() == whole.put.as_slice()
-        && whole.reported.starts_with(run.reported.as_slice())
-        && run.reported.len() < whole.reported.len()
 }
 
 /// Prints how many calls of a part the case makes, by the word for them, and after how many of
@@ -170,30 +150,21 @@ fn cut(alloc: Global, case: &Case, length: usize, cuts: &mut Cuts) -> Result<(),
     };
     let run = end(alloc, case, front)?;
     let mut lines = Vec::from_slice(alloc, front)?;
-    match run.number {
+    let lines = match run.number {
         0 => {
             cuts.done = cuts.done.saturating_add(1);
             lines.push(b'\n')?;
+            lines.as_slice()
         }
         4 => {
             cuts.bad = cuts.bad.saturating_add(1);
-            drop_last_line(&mut lines);
+            without_last_line(front)
         }
         _ => return Ok(()),
-    }
-    let owed = end(alloc, case, lines.as_slice())?;
+    };
+    let owed = end(alloc, case, lines)?;
     if owed.number == 0 && owed.put.as_slice() == run.put.as_slice() {
         cuts.owed = cuts.owed.saturating_add(1);
     }
     Ok(())
-}
-
-/// Drops what stands behind the last newline.
-fn drop_last_line(lines: &mut Vec<u8>) {
-    for _ in 0..lines.len() {
-        if lines.last() == Some(&b'\n') {
-            return;
-        }
-        lines.pop();
-    }
 }

@@ -3,7 +3,7 @@ ghost use Rattle.std.specs.Prelude.{◌≡◌, ◌<◌, ◌≤◌, ◌↔◌, Is
 ghost use Rattle.std.specs.List.{list_any};
 ghost use Rattle.std.specs.Option.{ForSome};
 ghost use Rattle.ff_machine.specs.Alone.{AreOpen, AreOwn, ArePages, IsEntry, IsPage, IsQueue, IsWindow};
-ghost use Rattle.ff_windows.specs.Recorded.{page_of, window_of};
+ghost use Rattle.ff_windows.specs.Recorded.{page_of, window_of, AreFit};
 
 use ff_machine::{Entry, MOST_ENTRIES, MOST_PAGES, MOST_SLOTS, MOST_WINDOWS};
 use ff_name::NoMemory;
@@ -13,8 +13,31 @@ use ff_value::WinId;
 use std::alloc::{AllocError, Global};
 use std::collections::BTreeSet;
 
+/// Whether pages, windows and open windows are valid together, beside so many activations.
+pub(crate) fn are_fit(
+    alloc: Global,
+    acts: u32,
+    pages: &[PageRec],
+    wins: &[WinRec],
+    opened: &[WinId],
+) -> Result<bool, NoMemory>
+    ensures { IfOk result (λ are. IsTrue are ↔ AreFit acts pages.now wins.now opened.now) }
+{
+    let valid = are_pages(alloc, acts, pages)?;
+    if !valid {
+        return Ok(false);
+    }
+    if !are_windows(wins, pages.len()) {
+        return Ok(false);
+    }
+    if !are_open(opened, wins.len()) {
+        return Ok(false);
+    }
+    Ok(are_own(wins, pages))
+}
+
 /// Whether pages are valid in a store of so many activations.
-pub(crate) fn are_pages(alloc: Global, acts: u32, pages: &[PageRec]) -> Result<bool, NoMemory>
+fn are_pages(alloc: Global, acts: u32, pages: &[PageRec]) -> Result<bool, NoMemory>
     ensures { IfOk result (λ are. IsTrue are ↔ ArePages acts (map page_of pages.now)) }
 {
     for page in pages {
@@ -79,7 +102,7 @@ fn is_queue(alloc: Global, next: u32, queue: &[Entry]) -> Result<bool, NoMemory>
 }
 
 /// Whether windows have pages and openers that there are.
-pub(crate) fn are_windows(wins: &[WinRec], pages: usize) -> bool
+fn are_windows(wins: &[WinRec], pages: usize) -> bool
     ensures { IsTrue result ↔ All (IsWindow (length wins.now) pages) (map window_of wins.now) }
 {
     for win in wins {
@@ -110,7 +133,7 @@ fn has_opener(opener: Option<WinId>, wins: usize) -> bool
 }
 
 /// Whether the open windows are among so many, differ, and are not too many.
-pub(crate) fn are_open(opened: &[WinId], wins: usize) -> bool
+fn are_open(opened: &[WinId], wins: usize) -> bool
     ensures { IsTrue result ↔ AreOpen wins opened.now }
 {
     if opened.len() > MOST_WINDOWS {
@@ -140,7 +163,7 @@ fn is_among(win: WinId, others: &[WinId]) -> bool
 }
 
 /// Whether the page of each window names that window.
-pub(crate) fn are_own(wins: &[WinRec], pages: &[PageRec]) -> bool
+fn are_own(wins: &[WinRec], pages: &[PageRec]) -> bool
     requires { All (λ win. win.page.0 < length pages.now) wins.now }
     ensures { IsTrue result ↔ AreOwn (map window_of wins.now) (map page_of pages.now) }
 {

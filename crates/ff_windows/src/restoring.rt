@@ -5,7 +5,7 @@ ghost use Rattle.ff_records.specs.Records.{windows_recs};
 ghost use Rattle.ff_records.specs.Restored.{Restores};
 ghost use Rattle.ff_windows.specs.Recorded.{page_of, window_of};
 
-use crate::checking::{are_open, are_own, are_pages, are_windows};
+use crate::checking::are_fit;
 use crate::page::PageCell;
 use crate::pages::Pages;
 use crate::window::WinCell;
@@ -38,17 +38,8 @@ impl Windows {
         let pages = pages.as_slice();
         let wins = wins.as_slice();
         let opened = opened.as_slice();
-        let valid = are_pages(alloc, acts.len(), pages)?;
-        if !valid {
-            return Ok(None);
-        }
-        if !are_windows(wins, pages.len()) {
-            return Ok(None);
-        }
-        if !are_open(opened, wins.len()) {
-            return Ok(None);
-        }
-        if !are_own(wins, pages) {
+        let fit = are_fit(alloc, acts.len(), pages, wins, opened)?;
+        if !fit {
             return Ok(None);
         }
         let pages = page_cells(alloc, pages, copies)?;

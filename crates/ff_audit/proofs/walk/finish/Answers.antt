@@ -1,6 +1,6 @@
 use Rattle.std.proofs.Common.{[], ◌++◌, ap, ◌∙◌}
 use Rattle.ff_lattice.specs.Order.{size}
-use Rattle.ff_audit.specs.Verdicts.{report_of}
+use Rattle.ff_lines.specs.Verdicts.{report_of}
 use Rattle.ff_audit.proofs.Auditing.{reported, unreported}
 use Rattle.ff_audit.proofs.walk.finish.Goals as goal
 

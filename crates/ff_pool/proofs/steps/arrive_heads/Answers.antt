@@ -4,7 +4,7 @@ use Rattle.ff_reactive.specs.Worlds.{leader, offer}
 use Rattle.ff_reactive.proofs.Classes.{length-split}
 use Rattle.ff_value.specs.Same.{same_input}
 use Rattle.ff_pool.specs.Heads.{offer_head}
-use Rattle.ff_pool.proofs.Parting.{same_input_decides}
+use Rattle.ff_classes.proofs.Parting.{same_input_decides}
 use Rattle.ff_pool.proofs.steps.arrive_heads.Goals as goal
 
 pub offer_heads-requires-clause-heads : goal.offer_heads-requires-clause-heads

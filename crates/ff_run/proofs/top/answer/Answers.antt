@@ -1,8 +1,8 @@
 use Rattle.std.proofs.Common.{ℕ, List, sym, subst}
 use Rattle.ff_run.specs.Run.{ComesTo, RunsNone}
-use Rattle.ff_run.specs.Words.{dash}
-use Rattle.ff_run.specs.declared.words.Command.{Command}
-use Rattle.ff_run.proofs.Commands.{asks_once}
+use Rattle.ff_words.specs.Words.{dash}
+use Rattle.ff_words.specs.declared.words.Command.{Command}
+use Rattle.ff_words.proofs.Commands.{asks_once}
 use Rattle.ff_run.proofs.top.answer.Goals as goal
 
 pub returns-in-Some-clause-comes : goal.returns-in-Some-clause-comes

@@ -1,0 +1,4 @@
+pub mod Members
+pub mod Parting
+pub mod Leaders
+pub mod Waiting

@@ -1,0 +1,5 @@
+pub mod Verbs
+pub mod Commands
+pub mod Found
+pub mod Giving
+pub mod Once

@@ -1,0 +1,4 @@
+pub mod OwnLines
+pub mod Owned
+pub mod Comparing
+pub mod Verdicts

@@ -1,5 +1,0 @@
-use Rattle.ff_run.proofs.Checking.{HasLines}
-use Rattle.ff_run.proofs.check.levels_seen.Given as goal
-
-abbrev pub invariant-loop-number : goal.invariant-loop-number
-invariant-loop-number l = HasLines l.lattice l.text.items l.number

@@ -1,5 +1,0 @@
-use Rattle.ff_run.proofs.Tallies.{HasTallies}
-use Rattle.ff_run.proofs.tally.print_summary.Given as goal
-
-abbrev pub invariant-loop-number : goal.invariant-loop-number
-invariant-loop-number l = HasTallies l.lattice l.inputs l.text l.fn.out.items l.out.items l.number

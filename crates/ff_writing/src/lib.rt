@@ -1,0 +1,15 @@
+//! The commands that read no trace and write one text: what the levels of a policy see, the policy
+//! itself, and how much each level has of a run over inputs that are drawn from a number.
+#![tactic(auto)]
+
+mod law;
+mod listing;
+mod summing;
+mod tally;
+mod upgrading;
+mod whole;
+
+pub use law::drawn_lines_are_a_trace;
+pub use listing::check;
+pub use summing::generate;
+pub use upgrading::upgrade;
