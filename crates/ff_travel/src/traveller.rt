@@ -57,7 +57,7 @@ impl<'a> Taker for Traveller<'a> {
 /// read again, all that the lines that were got show is written. `turns` counts the turns that
 /// turns and drains make, also of those that are taken back later, and `copies` the cells that are
 /// copied.
-#[tactic(auto, using(crate::proofs::Giving::is_given, crate::proofs::Force::fresh_travel))]
+#[tactic(auto, using(ff_commands::proofs::Giving::is_given, crate::proofs::Force::fresh_travel))]
 pub fn travel<P: Port, C: Ledger, L: Ledger>(
     alloc: Global,
     policy: &Policy,
