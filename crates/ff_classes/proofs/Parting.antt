@@ -5,7 +5,7 @@ use Rattle.ff_shared.specs.Content.{same_content-Decides}
 use Rattle.ff_value.specs.declared.input.Input.{Input}
 use Rattle.ff_value.specs.contracts.input.Input as input
 use Rattle.ff_reactive.specs.Worlds.{leader, keep_together, new_leader, split, each, AreLeaders}
-use Rattle.ff_reactive.proofs.Below.{each_is, each_more, first_is}
+use Rattle.ff_reactive.proofs.Below.{each_is, each_more, first_is, get_or-each}
 use Rattle.ff_reactive.proofs.Classes.{IsSame, new_leader_within, new_leader_together, new_leader_least, together_parts}
 use Rattle.ff_value.specs.Same.{same_input}
 
@@ -42,3 +42,10 @@ unparted leaders offers led together = sym (each_is (new_leader same_input leade
         let of_class : leader leaders new ≡ leader leaders l = (together_parts same_input same_input_decides leaders offers new l (new_leader_together same_input same_input_decides leaders offers l)).0 in
         let before : leader leaders new ≤ new = led.before new (omega (arith, within, lt)) in
         omega (arith, least, of_class, before)
+
+-- where no class parts, each level is offered the same as its leader
+pub kept : (leaders : List ℕ) (offers : List (Option Input)) → split same_input leaders offers ≡ leaders → (l : ℕ) → l < length leaders → keep_together same_input leaders offers (leader leaders l) l ≡ true
+unfolding split
+kept leaders offers same l lt =
+    ap (λ k. keep_together same_input leaders offers k l) (ap (λ ls. leader ls l) (sym same) ∙ get_or-each (new_leader same_input leaders offers) (length leaders) l 0 lt)
+    ∙ new_leader_together same_input same_input_decides leaders offers l

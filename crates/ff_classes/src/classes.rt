@@ -1,5 +1,5 @@
 //! How classes part: which level leads which class after an arrival.
-ghost use Rattle.std.specs.Prelude.{◌≡◌, ◌<◌, ◌≤◌, true, length, IfOk};
+ghost use Rattle.std.specs.Prelude.{◌≡◌, ◌<◌, ◌≤◌, ◌↔◌, length, IfOk, IsTrue};
 ghost use Rattle.ff_lattice.specs.declared.names.TheConstants.{MOST_LEVELS};
 ghost use Rattle.ff_reactive.specs.Worlds.{keep_together, new_leader, split, AreLeaders};
 ghost use Rattle.ff_value.specs.Same.{same_input};
@@ -11,11 +11,11 @@ use ff_value::Offers;
 use std::alloc::Global;
 
 /// Whether the levels of each class are offered the same, so that no class parts.
-#[tactic(auto, using(crate::proofs::Parting::unparted))]
+#[tactic(auto, using(crate::proofs::Parting::unparted, crate::proofs::Parting::kept))]
 pub fn stay(leaders: &[usize], offers: &Offers<'_>) -> bool
     requires led { AreLeaders leaders.now }
     requires count { length offers.now ≡ length leaders.now }
-    ensures { result ≡ true → split same_input leaders.now offers.now ≡ leaders.now }
+    ensures { IsTrue result ↔ (split same_input leaders.now offers.now ≡ leaders.now) }
 {
     for l in 0..leaders.len() {
         if !keep_together(leaders, offers, leaders[l], l) {

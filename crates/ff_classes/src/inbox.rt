@@ -1,5 +1,5 @@
 //! The inputs that wait for a browser.
-ghost use Rattle.std.specs.Prelude.{◌≡◌, ◌==◌, ◌≤◌, ◌<◌, ◌++◌, ◌∷◌, [], None, length, IfOk, OnOk};
+ghost use Rattle.std.specs.Prelude.{◌≡◌, ◌==◌, ◌≤◌, ◌<◌, ◌++◌, ◌∷◌, [], None, length, IfOk, OnErr, OnOk};
 ghost use Rattle.std.specs.List.{cons_option};
 
 use ff_cow::{Cell, CowVec, MOST_CELLS};
@@ -105,7 +105,8 @@ impl Inbox {
         self.newer.is_empty()
     }
 
-    /// An input more waits, behind the others.
+    /// An input more waits, behind the others. Its one refusal is want of memory, after which nothing
+    /// is said of what waits.
     pub fn push(&mut self, input: Input) -> Result<(), NoMemory>
         ensures { OnOk result (self.new ≡ self.old ++ input ∷ []) }
     {
@@ -131,8 +132,10 @@ impl Inbox {
         put_behind::<Brand>(&mut self.older, newer, Blank::new(1))
     }
 
-    /// The first input that waits, which then waits no more.
+    /// The first input that waits, which then waits no more. Its one refusal is want of memory, after
+    /// which the inbox is as it was.
     pub fn take_first(&mut self) -> Result<Option<Input>, NoMemory>
+        ensures kept { OnErr result (self.new ≡ self.old) }
         ensures taken { IfOk result (λ first. self.old ≡ cons_option first self.new) }
         ensures none { IfOk result (λ first. first ≡ None → self.old ≡ []) }
     {
@@ -150,7 +153,8 @@ impl Inbox {
         Ok(Some(self.newer.remove(0)))
     }
 
-    /// An equal inbox, and neither changes with the other. No cell of a store is copied.
+    /// An equal inbox, and neither changes with the other. No cell of a store is copied. Its one
+    /// refusal is want of memory.
     pub fn fork<C: Ledger>(&self, copies: &mut Steps<C>) -> Result<Inbox, NoMemory>
         ensures equal { IfOk result (λ inbox. inbox ≡ self.now) }
         ensures copies { copies.new ≡ copies.old }

@@ -19,7 +19,7 @@ use std::alloc::Global;
 pub type Leaders = OwnedList<usize>;
 
 /// The leaders of `n` levels in these classes, or `None` exactly where the classes are no partition
-/// of the levels in the order of their least levels.
+/// of the levels in the order of their least levels. Its one refusal is want of memory.
 pub fn leaders_of(alloc: Global, n: u8, classes: &[LevelSet]) -> Result<Option<Leaders>, NoMemory>
     requires { n ≤ MOST_LEVELS }
     ensures { IfOk result (LedBy n classes.now) }

@@ -38,7 +38,8 @@ impl Outs {
         }
     }
 
-    /// Puts these outputs behind the others.
+    /// Puts these outputs behind the others. Its one refusal is want of memory, after which nothing is
+    /// said of them.
     pub fn append(&mut self, more: &[Out]) -> Result<(), NoMemory>
         ensures { OnOk result (self.new ≡ self.old ++ more.now) }
     {
