@@ -36,11 +36,10 @@ use Rattle.ff_session.specs.Closing.{IsEnded, IsClosed}
 use Rattle.ff_session.proofs.Closing as closing
 use Rattle.ff_session.proofs.Closing.{told_of, none_put, none_owed_at}
 use Rattle.ff_lines.specs.Owned.{own}
-use Rattle.ff_lines.specs.Comparing.{CompareAll}
+use Rattle.ff_lines.specs.Comparing.{Kept, CompareAll}
 use Rattle.ff_lines.specs.Verdicts.{any_differ, report_of}
 use Rattle.ff_audit.specs.Audited.{plain_lines, multi_lines, report, audit_turns, feed_turns, no_entry, audit_duty, IsAuditAt, IsReported}
 use Rattle.ff_audit.specs.declared.books.Books.{Books}
-use Rattle.ff_lines.specs.declared.comparison.Comparison.{Comparison}
 use Rattle.ff_lines.proofs.Heard.{own-append, own_none}
 use Rattle.ff_lines.proofs.Leveled.{compare_same, same_report}
 
@@ -86,7 +85,7 @@ audit_more p books now is i text other at plain copies count text_is other_is he
 }
 
 -- the same of an order and of texts that are these
-pub heard_as : (old new : List Comparison) (order order' : Order) (text text' other other' : List ℕ) → order ≡ order' → text ≡ text' → other ≡ other'
+pub heard_as : (old new : List Kept) (order order' : Order) (text text' other other' : List ℕ) → order ≡ order' → text ≡ text' → other ≡ other'
     → ((ps ms : ℕ → List (List ℕ)) → CompareAll old ps ms → CompareAll new (λ l. ps l ++ own order text l) (λ l. ms l ++ own order other l))
     → ((ps ms : ℕ → List (List ℕ)) → CompareAll old ps ms → CompareAll new (λ l. ps l ++ own order' text' l) (λ l. ms l ++ own order' other' l))
 heard_as old new order order' text text' other other' same_order same_text same_other heard =

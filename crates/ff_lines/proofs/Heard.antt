@@ -9,8 +9,7 @@ use Rattle.ff_reactive.specs.Runs.{joined}
 use Rattle.ff_lines.specs.OwnLines.{own_lines, own_contents}
 use Rattle.ff_lattice.specs.Order.{Order, name}
 use Rattle.ff_lines.specs.Owned.{own}
-use Rattle.ff_lines.specs.Comparing.{plain_more, multi_more, ComparesAt, TakesSame}
-use Rattle.ff_lines.specs.declared.comparison.Comparison.{Comparison}
+use Rattle.ff_lines.specs.Comparing.{plain_more, multi_more, Kept, ComparesAt, TakesSame}
 use Rattle.ff_lines.specs.declared.comparison.Side.{Side}
 use Rattle.ff_lines.specs.declared.comparison.Side.TheVariants.{Plain, Multi}
 
@@ -33,12 +32,12 @@ multi_none Plain xs = refl
 multi_none Multi xs = append-nil xs
 
 -- Where the loop stands: these lines came to the comparison, and those of the rest are to come.
-pub record HasHeard (side : Side) (word text rest : List ℕ) (first now : Comparison) : Type 0 where
+pub record HasHeard (side : Side) (word text rest : List ℕ) (first now : Kept) : Type 0 where
   pub done : List (List ℕ)
   pub split : own_contents word text ≡ done ++ own_contents word rest
   pub goes : (ps ms : List (List ℕ)) → ComparesAt first ps ms → ComparesAt now (plain_more side ps done) (multi_more side ms done)
 
-pub heard_none : (side : Side) (word text : List ℕ) (first : Comparison) → HasHeard side word text text first first
+pub heard_none : (side : Side) (word text : List ℕ) (first : Kept) → HasHeard side word text text first first
 heard_none side word text first = record {
   done = [];
   split = refl;
@@ -46,7 +45,7 @@ heard_none side word text first = record {
 }
 
 -- one line more, which comes next
-pub heard_more : (side : Side) (word text rest line more : List ℕ) (first now next : Comparison) → HasHeard side word text rest first now → own_contents word rest ≡ content line ∷ own_contents word more
+pub heard_more : (side : Side) (word text rest line more : List ℕ) (first now next : Kept) → HasHeard side word text rest first now → own_contents word rest ≡ content line ∷ own_contents word more
     → ((ps ms : List (List ℕ)) → ComparesAt now ps ms → ComparesAt next (plain_more side ps (content line ∷ [])) (multi_more side ms (content line ∷ [])))
     → HasHeard side word text more first next
 heard_more side word text rest line more first now next has is goes = record {
@@ -58,7 +57,7 @@ heard_more side word text rest line more first now next has is goes = record {
       (goes (plain_more side ps has.done) (multi_more side ms has.done) (has.goes ps ms at)));
 }
 
-pub heard_all : (side : Side) (word text rest : List ℕ) (first now : Comparison) → HasHeard side word text rest first now → own_contents word rest ≡ []
+pub heard_all : (side : Side) (word text rest : List ℕ) (first now : Kept) → HasHeard side word text rest first now → own_contents word rest ≡ []
     → (ps ms : List (List ℕ)) → ComparesAt first ps ms → ComparesAt now (plain_more side ps (own_contents word text)) (multi_more side ms (own_contents word text))
 heard_all side word text rest first now has none ps ms at =
     let all : has.done ≡ own_contents word text = sym (has.split ∙ ap (λ ls. has.done ++ ls) none ∙ append-nil has.done) in
@@ -83,7 +82,7 @@ module _ (word text rest line more : List ℕ) (seeks : Seeks word text rest) (c
 
 -- ---- the lines that are the same in both texts
 
-pub taken : (word plain multi more others line other : List ℕ) (before now : Comparison) → own_contents word plain ≡ content line ∷ own_contents word more → own_contents word multi ≡ content other ∷ own_contents word others
+pub taken : (word plain multi more others line other : List ℕ) (before now : Kept) → own_contents word plain ≡ content line ∷ own_contents word more → own_contents word multi ≡ content other ∷ own_contents word others
     → length more < length plain → line ≡ other → ((x : List ℕ) (ps ms : List (List ℕ)) → ComparesAt before ps ms → ComparesAt now (ps ++ x ∷ []) (ms ++ x ∷ [])) → TakesSame word plain multi more others before now
 taken word plain multi more others line other before now found also less same counted = record {
   line = content line;
@@ -94,13 +93,13 @@ taken word plain multi more others line other before now found also less same co
 }
 
 -- These lines were taken from both, and what is left is to come.
-pub record HasMet (word plain multi plain_rest multi_rest : List ℕ) (first now : Comparison) : Type 0 where
+pub record HasMet (word plain multi plain_rest multi_rest : List ℕ) (first now : Kept) : Type 0 where
   pub done : List (List ℕ)
   pub in_plain : own_contents word plain ≡ done ++ own_contents word plain_rest
   pub in_multi : own_contents word multi ≡ done ++ own_contents word multi_rest
   pub goes : (ps ms : List (List ℕ)) → ComparesAt first ps ms → ComparesAt now (ps ++ done) (ms ++ done)
 
-pub met_none : (word plain multi : List ℕ) (first : Comparison) → HasMet word plain multi plain multi first first
+pub met_none : (word plain multi : List ℕ) (first : Kept) → HasMet word plain multi plain multi first first
 met_none word plain multi first = record {
   done = [];
   in_plain = refl;
@@ -108,7 +107,7 @@ met_none word plain multi first = record {
   goes = λ ps ms has. subst (λ qs. ComparesAt first qs (ms ++ [])) (sym (append-nil ps)) (subst (ComparesAt first ps) (sym (append-nil ms)) has);
 }
 
-pub met_more : (word plain multi plain_rest multi_rest more others : List ℕ) (first now next : Comparison) → HasMet word plain multi plain_rest multi_rest first now
+pub met_more : (word plain multi plain_rest multi_rest more others : List ℕ) (first now next : Kept) → HasMet word plain multi plain_rest multi_rest first now
     → TakesSame word plain_rest multi_rest more others now next → HasMet word plain multi more others first next
 met_more word plain multi plain_rest multi_rest more others first now next has takes = record {
   done = has.done ++ takes.line ∷ [];
@@ -121,7 +120,7 @@ met_more word plain multi plain_rest multi_rest more others first now next has t
 }
 
 -- then what is left of each text came
-pub met_all : (word plain multi plain_rest multi_rest : List ℕ) (first now mid last : Comparison) → HasMet word plain multi plain_rest multi_rest first now
+pub met_all : (word plain multi plain_rest multi_rest : List ℕ) (first now mid last : Kept) → HasMet word plain multi plain_rest multi_rest first now
     → ((ps ms : List (List ℕ)) → ComparesAt now ps ms → ComparesAt mid (ps ++ own_contents word plain_rest) ms)
     → ((ps ms : List (List ℕ)) → ComparesAt mid ps ms → ComparesAt last ps (ms ++ own_contents word multi_rest))
     → (ps ms : List (List ℕ)) → ComparesAt first ps ms → ComparesAt last (ps ++ own_contents word plain) (ms ++ own_contents word multi)

@@ -8,9 +8,8 @@ use Rattle.ff_reactive.specs.Copies.{below}
 use Rattle.ff_reactive.proofs.Lists.{flat_map_agree_below}
 use Rattle.ff_lattice.specs.Order.{Order, name, size}
 use Rattle.ff_lines.specs.Owned.{own}
-use Rattle.ff_lines.specs.Comparing.{compared, differs, ComparesAt, CompareAll}
+use Rattle.ff_lines.specs.Comparing.{compared, differs, Kept, ComparesAt, CompareAll}
 use Rattle.ff_lines.specs.Verdicts.{any_differ, report_of, verdict_text}
-use Rattle.ff_lines.specs.declared.comparison.Comparison.{Comparison}
 use Rattle.ff_lines.specs.declared.verdict.Verdict.{Verdict}
 use Rattle.ff_lines.proofs.Comparing.{at_now}
 
@@ -19,20 +18,20 @@ suc_is l = omega arith
 
 -- ---- comparisons of no lines
 
-pub record AllFresh (cs : List Comparison) (n : ℕ) : Type 0 where
+pub record AllFresh (cs : List Kept) (n : ℕ) : Type 0 where
   pub count : length cs ≡ n
   pub all : CompareAll cs (λ l. []) (λ l. [])
 
-pub all_start : (cs : List Comparison) → cs ≡ [] → AllFresh cs 0
+pub all_start : (cs : List Kept) → cs ≡ [] → AllFresh cs 0
 all_start cs none = record { count = ap length none; all = record { each = λ l d lt. absurd (omega (arith, ap length none)) } }
 
-pub all_more : (cs more : List Comparison) (c : Comparison) (n : ℕ) → AllFresh cs n → more ≡ cs ++ c ∷ [] → ComparesAt c [] [] → AllFresh more (n + 1)
+pub all_more : (cs more : List Kept) (c : Kept) (n : ℕ) → AllFresh cs n → more ≡ cs ++ c ∷ [] → ComparesAt c [] [] → AllFresh more (n + 1)
 all_more cs more c n fresh added new = record {
   count = let had = fresh.count in omega (arith, ap length added, length-append cs (c ∷ []));
   all = record { each = λ l d lt. subst (λ xs. ComparesAt (slice_index_or xs l d) [] []) (sym added) (from cs l d (fresh.all.each l d) (omega (arith, ap length added, length-append cs (c ∷ [])))) };
 }
   where
-    from : (xs : List Comparison) (l : ℕ) (d : Comparison) → (l < length xs → ComparesAt (slice_index_or xs l d) [] []) → l < length xs + 1 → ComparesAt (slice_index_or (xs ++ c ∷ []) l d) [] []
+    from : (xs : List Kept) (l : ℕ) (d : Kept) → (l < length xs → ComparesAt (slice_index_or xs l d) [] []) → l < length xs + 1 → ComparesAt (slice_index_or (xs ++ c ∷ []) l d) [] []
     from [] zero d old lt = new
     from [] (suc l) d old lt = absurd (omega arith)
     from (x ∷ xs) zero d old lt = old (omega arith)
@@ -40,16 +39,16 @@ all_more cs more c n fresh added new = record {
 
 -- ---- both texts are heard at each level
 
-pub record HearsBelow (order : Order) (plain multi : List ℕ) (first now : List Comparison) (n : ℕ) : Type 0 where
+pub record HearsBelow (order : Order) (plain multi : List ℕ) (first now : List Kept) (n : ℕ) : Type 0 where
   pub count : length now ≡ length first
-  pub done : (ps ms : ℕ → List (List ℕ)) → CompareAll first ps ms → (l : ℕ) (d : Comparison) → l < n → l < length now
+  pub done : (ps ms : ℕ → List (List ℕ)) → CompareAll first ps ms → (l : ℕ) (d : Kept) → l < n → l < length now
       → ComparesAt (slice_index_or now l d) (ps l ++ own order plain l) (ms l ++ own order multi l)
-  pub waiting : (l : ℕ) (d : Comparison) → n ≤ l → slice_index_or now l d ≡ slice_index_or first l d
+  pub waiting : (l : ℕ) (d : Kept) → n ≤ l → slice_index_or now l d ≡ slice_index_or first l d
 
-pub hears_start : (order : Order) (plain multi : List ℕ) (first : List Comparison) → HearsBelow order plain multi first first 0
+pub hears_start : (order : Order) (plain multi : List ℕ) (first : List Kept) → HearsBelow order plain multi first first 0
 hears_start order plain multi first = record { count = refl; done = λ ps ms all l d less lt. absurd (omega arith); waiting = λ l d past. refl }
 
-pub hears_more : (order : Order) (plain multi : List ℕ) (first now next : List Comparison) (n : ℕ) (c e : Comparison) → HearsBelow order plain multi first now n → n < length now → next ≡ set now n c
+pub hears_more : (order : Order) (plain multi : List ℕ) (first now next : List Kept) (n : ℕ) (c e : Kept) → HearsBelow order plain multi first now n → n < length now → next ≡ set now n c
     → ((ps ms : List (List ℕ)) → ComparesAt (slice_index_or now n e) ps ms → ComparesAt c (ps ++ own order plain n) (ms ++ own order multi n))
     → HearsBelow order plain multi first next (n + 1)
 hears_more order plain multi first now next n c e has lt written heard = record {
@@ -58,7 +57,7 @@ hears_more order plain multi first now next n c e has lt written heard = record 
   waiting = λ l d past. ap (λ cs. slice_index_or cs l d) written ∙ get_or-set_other now n l c d (λ e. omega arith) ∙ has.waiting l d (omega arith);
 }
   where
-    from : (ps ms : ℕ → List (List ℕ)) → CompareAll first ps ms → (l : ℕ) (d : Comparison) → l < n + 1 → l < length next → (l < n) ⊎ (n ≤ l)
+    from : (ps ms : ℕ → List (List ℕ)) → CompareAll first ps ms → (l : ℕ) (d : Kept) → l < n + 1 → l < length next → (l < n) ⊎ (n ≤ l)
         → ComparesAt (slice_index_or next l d) (ps l ++ own order plain l) (ms l ++ own order multi l)
     from ps ms all l d less within (inl low) =
         let same : slice_index_or next l d ≡ slice_index_or now l d = ap (λ cs. slice_index_or cs l d) written ∙ get_or-set_other now n l c d (λ e. omega arith) in
@@ -71,7 +70,7 @@ hears_more order plain multi first now next n c e has lt written heard = record 
         subst (λ k. ComparesAt (slice_index_or next k d) (ps k ++ own order plain k) (ms k ++ own order multi k)) here
         (subst (λ k. ComparesAt k (ps n ++ own order plain n) (ms n ++ own order multi n)) (sym got) (heard (ps n) (ms n) old))
 
-pub hears_done : (order : Order) (plain multi : List ℕ) (first now : List Comparison) (n : ℕ) → HearsBelow order plain multi first now n → length first ≤ n
+pub hears_done : (order : Order) (plain multi : List ℕ) (first now : List Kept) (n : ℕ) → HearsBelow order plain multi first now n → length first ≤ n
     → (ps ms : ℕ → List (List ℕ)) → CompareAll first ps ms → CompareAll now (λ l. ps l ++ own order plain l) (λ l. ms l ++ own order multi l)
 hears_done order plain multi first now n has all ps ms at = record { each = λ l d lt. has.done ps ms at l d (let e = has.count in omega (arith, e)) lt }
 
@@ -90,10 +89,10 @@ any_last f (y ∷ ys) x = ap (λ b. f y || b) (any_last f ys x) ∙ assoc (f y) 
     assoc false b c = refl
 
 -- those of the levels below n
-pub record DifferBelow (cs : List Comparison) (leak : Bool) (n : ℕ) : Type 0 where
+pub record DifferBelow (cs : List Kept) (leak : Bool) (n : ℕ) : Type 0 where
   pub found : (ps ms : ℕ → List (List ℕ)) → CompareAll cs ps ms → leak ≡ any_differ n ps ms
 
-pub differ_start : (cs : List Comparison) → DifferBelow cs false 0
+pub differ_start : (cs : List Kept) → DifferBelow cs false 0
 differ_start cs = record { found = λ ps ms all. refl }
 
 differ_last : (ps ms : ℕ → List (List ℕ)) (n : ℕ) → any_differ (n + 1) ps ms ≡ (any_differ n ps ms || differs (compared 0 (ps n) (ms n)))
@@ -107,13 +106,13 @@ or-none : (b : Bool) → (b || false) ≡ b
 or-none true = refl
 or-none false = refl
 
-module _ (cs : List Comparison) (leak : Bool) (n : ℕ) (has : DifferBelow cs leak n) (lt : n < length cs) (answer : Bool)
-    (differ : (d : Comparison) (ps ms : List (List ℕ)) → ComparesAt (slice_index_or cs n d) ps ms → answer ≡ differs (compared 0 ps ms)) where
+module _ (cs : List Kept) (leak : Bool) (n : ℕ) (has : DifferBelow cs leak n) (lt : n < length cs) (answer : Bool)
+    (differ : (d : Kept) (ps ms : List (List ℕ)) → ComparesAt (slice_index_or cs n d) ps ms → answer ≡ differs (compared 0 ps ms)) where
   at : (ps ms : ℕ → List (List ℕ)) → CompareAll cs ps ms → answer ≡ differs (compared 0 (ps n) (ms n))
   at ps ms all = from cs lt (λ d. differ d (ps n) (ms n)) (λ d. all.each n d lt)
     where
-      from : (xs : List Comparison) → n < length xs → ((d : Comparison) → ComparesAt (slice_index_or cs n d) (ps n) (ms n) → answer ≡ differs (compared 0 (ps n) (ms n)))
-          → ((d : Comparison) → ComparesAt (slice_index_or cs n d) (ps n) (ms n)) → answer ≡ differs (compared 0 (ps n) (ms n))
+      from : (xs : List Kept) → n < length xs → ((d : Kept) → ComparesAt (slice_index_or cs n d) (ps n) (ms n) → answer ≡ differs (compared 0 (ps n) (ms n)))
+          → ((d : Kept) → ComparesAt (slice_index_or cs n d) (ps n) (ms n)) → answer ≡ differs (compared 0 (ps n) (ms n))
       from [] less tells has' = absurd (omega arith)
       from (x ∷ xs) less tells has' = tells x (has' x)
 
@@ -123,18 +122,18 @@ module _ (cs : List Comparison) (leak : Bool) (n : ℕ) (has : DifferBelow cs le
   pub differ_same : answer ≡ false → DifferBelow cs leak (n + 1)
   differ_same is = record { found = λ ps ms all. has.found ps ms all ∙ sym (differ_last ps ms n ∙ ap (λ b. any_differ n ps ms || b) (sym (at ps ms all) ∙ is) ∙ or-none (any_differ n ps ms)) }
 
-pub differ_done : (cs : List Comparison) (leak : Bool) (n : ℕ) → DifferBelow cs leak n → n ≡ length cs → (ps ms : ℕ → List (List ℕ)) → CompareAll cs ps ms → leak ≡ any_differ (length cs) ps ms
+pub differ_done : (cs : List Kept) (leak : Bool) (n : ℕ) → DifferBelow cs leak n → n ≡ length cs → (ps ms : ℕ → List (List ℕ)) → CompareAll cs ps ms → leak ≡ any_differ (length cs) ps ms
 differ_done cs leak n has all ps ms at = has.found ps ms at ∙ ap (λ k. any_differ k ps ms) all
 
 -- ---- the report
 
-pub record ReportsBelow (order : Order) (cs : List Comparison) (before now : List ℕ) (n : ℕ) : Type 0 where
+pub record ReportsBelow (order : Order) (cs : List Kept) (before now : List ℕ) (n : ℕ) : Type 0 where
   pub text_is : (ps ms : ℕ → List (List ℕ)) → CompareAll cs ps ms → now ≡ before ++ report_of order n ps ms
 
-pub report_start : (order : Order) (cs : List Comparison) (text : List ℕ) → ReportsBelow order cs text text 0
+pub report_start : (order : Order) (cs : List Kept) (text : List ℕ) → ReportsBelow order cs text text 0
 report_start order cs text = record { text_is = λ ps ms all. sym (append-nil text) }
 
-pub report_more : (order : Order) (cs : List Comparison) (before now longer : List ℕ) (n : ℕ) (v : Verdict) → ReportsBelow order cs before now n
+pub report_more : (order : Order) (cs : List Kept) (before now longer : List ℕ) (n : ℕ) (v : Verdict) → ReportsBelow order cs before now n
     → ((ps ms : ℕ → List (List ℕ)) → CompareAll cs ps ms → v ≡ compared 0 (ps n) (ms n)) → longer ≡ now ++ verdict_text (name order n) v → ReportsBelow order cs before longer (n + 1)
 report_more order cs before now longer n v has found added = record {
   text_is = λ ps ms all.
@@ -146,21 +145,21 @@ report_more order cs before now longer n v has found added = record {
     flat_map_last : (f : ℕ → List ℕ) (ns : List ℕ) (k : ℕ) → flat_map f (ns ++ k ∷ []) ≡ flat_map f ns ++ f k
     flat_map_last f ns k = flat_map-append f ns (k ∷ []) ∙ ap (λ xs. flat_map f ns ++ xs) (flat_map-cons f k [] ∙ append-nil (f k))
 
-pub report_done : (order : Order) (cs : List Comparison) (before now : List ℕ) (n : ℕ) → ReportsBelow order cs before now n → n ≡ size order
+pub report_done : (order : Order) (cs : List Kept) (before now : List ℕ) (n : ℕ) → ReportsBelow order cs before now n → n ≡ size order
     → (ps ms : ℕ → List (List ℕ)) → CompareAll cs ps ms → now ≡ before ++ report_of order (size order) ps ms
 report_done order cs before now n has all ps ms at = has.text_is ps ms at ∙ ap (λ k. before ++ report_of order k ps ms) all
 
 -- ---- what is found follows from the comparisons alone
 
-module _ (cs : List Comparison) (ps ms qs ns : ℕ → List (List ℕ)) (one : CompareAll cs ps ms) (other : CompareAll cs qs ns) where
+module _ (cs : List Kept) (ps ms qs ns : ℕ → List (List ℕ)) (one : CompareAll cs ps ms) (other : CompareAll cs qs ns) where
   same_found : (l : ℕ) → l < length cs → compared 0 (ps l) (ms l) ≡ compared 0 (qs l) (ns l)
   same_found l lt = from cs lt
     where
-      from : (xs : List Comparison) → l < length xs → compared 0 (ps l) (ms l) ≡ compared 0 (qs l) (ns l)
+      from : (xs : List Kept) → l < length xs → compared 0 (ps l) (ms l) ≡ compared 0 (qs l) (ns l)
       from [] less = absurd (omega arith)
       from (x ∷ xs) less =
           let c = slice_index_or cs l x in
-          at_now c.equal c.plain.items c.multi.items (ps l) (ms l) (one.each l x lt) ∙ sym (at_now c.equal c.plain.items c.multi.items (qs l) (ns l) (other.each l x lt))
+          at_now c.equal c.plain c.multi (ps l) (ms l) (one.each l x lt) ∙ sym (at_now c.equal c.plain c.multi (qs l) (ns l) (other.each l x lt))
 
   pub same_report : (order : Order) (n : ℕ) → n ≤ length cs → report_of order n ps ms ≡ report_of order n qs ns
   same_report order n all =
@@ -168,5 +167,5 @@ module _ (cs : List Comparison) (ps ms qs ns : ℕ → List (List ℕ)) (one : C
       (λ l lt. ap (verdict_text (name order l)) (same_found l (omega arith)))
 
 -- other names for the same lists
-pub compare_same : (cs : List Comparison) (ps ms qs ns : ℕ → List (List ℕ)) → ((l : ℕ) → ps l ≡ qs l) → ((l : ℕ) → ms l ≡ ns l) → CompareAll cs ps ms → CompareAll cs qs ns
+pub compare_same : (cs : List Kept) (ps ms qs ns : ℕ → List (List ℕ)) → ((l : ℕ) → ps l ≡ qs l) → ((l : ℕ) → ms l ≡ ns l) → CompareAll cs ps ms → CompareAll cs qs ns
 compare_same cs ps ms qs ns p_is m_is all = record { each = λ l d lt. subst (λ xs. ComparesAt (slice_index_or cs l d) xs (ns l)) (p_is l) (subst (ComparesAt (slice_index_or cs l d) (ps l)) (m_is l) (all.each l d lt)) }

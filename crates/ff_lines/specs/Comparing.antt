@@ -1,9 +1,9 @@
 -- Two lists of lines, compared.
-use Rattle.std.specs.Prelude.{◌≡◌, ◌≢◌, ℕ, suc, ◌+◌, ◌<◌, Bool, true, false, cond, bytes_eq, Option, Some, None, List, [], ◌∷◌, ◌++◌, length, slice_get, slice_index_or, ⊤}
+use Rattle.std.specs.Prelude.{◌≡◌, ◌≢◌, ℕ, suc, ◌+◌, ◌<◌, Bool, true, false, cond, bytes_eq, Option, Some, None, List, [], ◌∷◌, ◌++◌, length, slice_get, slice_index_or, refl, ⊤}
+use Rattle.std.specs.Coded.{Coded, code_by, coded×, coded_list, coded_ℕ}
 use Rattle.ff_lines.specs.OwnLines.{own_contents}
 use Rattle.ff_lines.specs.declared.verdict.Verdict.{Verdict}
 use Rattle.ff_lines.specs.declared.verdict.Verdict.TheVariants.{Clean, Differs}
-use Rattle.ff_lines.specs.declared.comparison.Comparison.{Comparison}
 use Rattle.ff_lines.specs.declared.comparison.Side.{Side}
 use Rattle.ff_lines.specs.declared.comparison.Side.TheVariants.{Plain, Multi}
 
@@ -67,16 +67,28 @@ pub data Meets (own other : List (List ℕ)) (equal : ℕ) (line : List ℕ) : L
   -- the lists differ already
   apart : 0 < length own → 0 < length other → Meets own other equal line own other equal
 
+-- What a comparison keeps of two lists of lines: how many are equal at the beginning, and what each
+-- list has after them, as far as it matters.
+pub record Kept : Type 0 where
+  pub equal : ℕ
+  pub plain : List (List ℕ)
+  pub multi : List (List ℕ)
+
+abbrev pub coded_kept : Coded Kept
+coded_kept =
+    code_by (ℕ × (List (List ℕ) × List (List ℕ))) (coded× coded_ℕ (coded× (coded_list (coded_list coded_ℕ)) (coded_list (coded_list coded_ℕ))))
+    (λ k. (k.equal, (k.plain, k.multi))) (λ p. record { equal = p.0; plain = p.1.0; multi = p.1.1 }) (λ _. refl)
+
 -- a comparison of these two lists of lines
-abbrev pub ComparesAt : Comparison → List (List ℕ) → List (List ℕ) → Type 0
-ComparesAt c ps ms = Compares c.equal c.plain.items c.multi.items ps ms
+abbrev pub ComparesAt : Kept → List (List ℕ) → List (List ℕ) → Type 0
+ComparesAt c ps ms = Compares c.equal c.plain c.multi ps ms
 
 -- a comparison for each level
-pub record CompareAll (cs : List Comparison) (ps ms : ℕ → List (List ℕ)) : Type 0 where
-  pub each : (l : ℕ) (d : Comparison) → l < length cs → ComparesAt (slice_index_or cs l d) (ps l) (ms l)
+pub record CompareAll (cs : List Kept) (ps ms : ℕ → List (List ℕ)) : Type 0 where
+  pub each : (l : ℕ) (d : Kept) → l < length cs → ComparesAt (slice_index_or cs l d) (ps l) (ms l)
 
 -- A line that comes next in both texts under a word was taken: what is left of them, and the comparison before and after.
-pub record TakesSame (word plain multi plain_rest multi_rest : List ℕ) (before now : Comparison) : Type 0 where
+pub record TakesSame (word plain multi plain_rest multi_rest : List ℕ) (before now : Kept) : Type 0 where
   pub line : List ℕ
   pub in_plain : own_contents word plain ≡ line ∷ own_contents word plain_rest
   pub in_multi : own_contents word multi ≡ line ∷ own_contents word multi_rest

@@ -1,12 +1,13 @@
 //! Two growing lists of lines, compared.
 ghost use Rattle.std.specs.Prelude.{◌≡◌, ◌+◌, [], ◌∷◌, ◌++◌, ℕ, List, IfOk, OnOk};
 ghost use Rattle.std.specs.Bool.{OnFalse};
-ghost use Rattle.ff_lines.specs.Comparing.{Compares, Meets, compared, differs, first, found, plain_more, multi_more};
+ghost use Rattle.ff_lines.specs.Comparing.{ComparesAt, Meets, compared, differs, first, found, plain_more, multi_more};
 
 use crate::verdict::Verdict;
 use ff_name::{NoMemory, Text};
 use std::alloc::{AllocError, Global};
 use std::collections::VecDeque;
+use std::marker::Model;
 
 /// Which program a line is of.
 #[derive(Clone, Copy)]
@@ -27,11 +28,21 @@ pub struct Comparison {
     multi: VecDeque<Text>,
 }
 
+impl Model for Comparison {
+    ghost use Rattle.ff_lines.specs.Comparing.{Kept, coded_kept};
+
+    ghost Value = { Kept };
+
+    ghost coded = { coded_kept };
+
+    ghost view = { λ c. record { equal = c.equal; plain = c.plain.items; multi = c.multi.items } };
+}
+
 impl Comparison {
     /// No lines.
     #[tactic(auto, using(crate::proofs::Comparing::compares_none))]
     pub fn new(alloc: Global) -> Comparison
-        ensures { Compares result.equal result.plain.items result.multi.items [] [] }
+        ensures { ComparesAt result [] [] }
     {
         Comparison {
             equal: 0,
@@ -42,8 +53,8 @@ impl Comparison {
 
     /// One line more.
     pub fn add(&mut self, side: Side, line: Text) -> Result<(), NoMemory>
-        ensures { OnOk result ((ps ms : List (List ℕ)) → Compares self.old.equal self.old.plain.items self.old.multi.items ps ms
-            → Compares self.new.equal self.new.plain.items self.new.multi.items (plain_more side ps (line ∷ [])) (multi_more side ms (line ∷ []))) }
+        ensures { OnOk result ((ps ms : List (List ℕ)) → ComparesAt self.old ps ms
+            → ComparesAt self.new (plain_more side ps (line ∷ [])) (multi_more side ms (line ∷ []))) }
     {
         match side {
             Side::Plain => meet(&mut self.plain, &mut self.multi, &mut self.equal, line),
@@ -53,10 +64,10 @@ impl Comparison {
 
     /// One line more that is the same in both, where no line waits for its like.
     pub fn add_same(&mut self) -> Result<(), NoMemory>
-        requires plain { self.old.plain.items ≡ [] }
-        requires multi { self.old.multi.items ≡ [] }
-        ensures { OnOk result ((line : List ℕ) (ps ms : List (List ℕ)) → Compares self.old.equal self.old.plain.items self.old.multi.items ps ms
-            → Compares self.new.equal self.new.plain.items self.new.multi.items (ps ++ line ∷ []) (ms ++ line ∷ [])) }
+        requires plain { self.old.plain ≡ [] }
+        requires multi { self.old.multi ≡ [] }
+        ensures { OnOk result ((line : List ℕ) (ps ms : List (List ℕ)) → ComparesAt self.old ps ms
+            → ComparesAt self.new (ps ++ line ∷ []) (ms ++ line ∷ [])) }
     {
         self.equal = one_more(self.equal)?;
         Ok(())
@@ -65,7 +76,7 @@ impl Comparison {
     /// What is found of them.
     #[tactic(auto, using(crate::proofs::Comparing::found_is))]
     pub fn verdict(&self) -> Result<Verdict, NoMemory>
-        ensures { IfOk result (λ verdict. (ps ms : List (List ℕ)) → Compares self.now.equal self.now.plain.items self.now.multi.items ps ms → verdict ≡ compared 0 ps ms) }
+        ensures { IfOk result (λ verdict. (ps ms : List (List ℕ)) → ComparesAt self.now ps ms → verdict ≡ compared 0 ps ms) }
     {
         let plain = next_of(&self.plain)?;
         let multi = next_of(&self.multi)?;
@@ -75,9 +86,9 @@ impl Comparison {
     /// Whether they differ.
     #[tactic(auto, using(crate::proofs::Comparing::differs_plain, crate::proofs::Comparing::differs_multi))]
     pub fn differs(&self) -> bool
-        ensures found { (ps ms : List (List ℕ)) → Compares self.now.equal self.now.plain.items self.now.multi.items ps ms → result ≡ differs (compared 0 ps ms) }
-        ensures plain { OnFalse result (self.now.plain.items ≡ []) }
-        ensures multi { OnFalse result (self.now.multi.items ≡ []) }
+        ensures found { (ps ms : List (List ℕ)) → ComparesAt self.now ps ms → result ≡ differs (compared 0 ps ms) }
+        ensures plain { OnFalse result (self.now.plain ≡ []) }
+        ensures multi { OnFalse result (self.now.multi ≡ []) }
     {
         match self.plain.front() {
             Some(_) => true,

@@ -7,7 +7,7 @@ ghost use Rattle.ff_lines.specs.Owned.{own};
 ghost use Rattle.ff_lines.specs.Comparing.{plain_more, multi_more, ComparesAt, CompareAll, TakesSame};
 
 use crate::comparison::{Comparison, Side};
-use crate::splitting::{content, is_headed, split_line};
+use crate::splitting::{content, is_headed, split_inclusive};
 use ff_lattice::Lattice;
 use ff_name::{Level, NoMemory, Text};
 use std::alloc::{AllocError, Global};
@@ -124,7 +124,7 @@ fn next_own<'a>(text: &'a [u8], name: &[u8]) -> Option<(&'a [u8], &'a [u8])>
 {
     let mut rest = text;
     'lines: while !rest.is_empty() {
-        let (line, more) = split_line(rest);
+        let (line, more) = split_inclusive(rest);
         if is_headed(line, name) {
             return Some((line, more));
         }

@@ -14,5 +14,5 @@ mod verdict;
 pub use comparison::{Comparison, Side};
 pub use hearing::hear_texts;
 pub use levels::{any_leak, fresh_levels, report_levels, verdict_at};
-pub use splitting::{is_headed, split_line};
+pub use splitting::{is_headed, split_inclusive};
 pub use verdict::{Verdict, print_verdict};

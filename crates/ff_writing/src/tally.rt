@@ -6,7 +6,7 @@ ghost use Rattle.ff_lines.specs.OwnLines.{own_lines};
 ghost use Rattle.ff_writing.specs.Generated.{tally_line, summary};
 
 use ff_lattice::Lattice;
-use ff_lines::{is_headed, split_line};
+use ff_lines::{is_headed, split_inclusive};
 use ff_name::Level;
 use ff_number::print_nat;
 use std::alloc::AllocError;
@@ -67,7 +67,7 @@ fn tally_of(text: &[u8], word: &[u8]) -> Tally
     let mut tally = Tally { lines: 0, bytes: 0 };
     let mut rest = text;
     'lines: while !rest.is_empty() {
-        let (line, more) = split_line(rest);
+        let (line, more) = split_inclusive(rest);
         if is_headed(line, word) {
             tally.lines += 1;
             tally.bytes += line.len();

@@ -1,5 +1,5 @@
 use Rattle.ff_lines.proofs.Lines.{all_cut}
-use Rattle.ff_lines.proofs.splitting.split_line.Goals as goal
+use Rattle.ff_lines.proofs.splitting.split_inclusive.Goals as goal
 
 pub returns-in-None-clause-lines : goal.returns-in-None-clause-lines
 returns-in-None-clause-lines c =
