@@ -6,7 +6,8 @@ use Rattle.std.specs.String.{string_bytes}
 use Rattle.ff_number.specs.Decimal.{nat_text}
 use Rattle.ff_gen.specs.declared.generator.TheConstants.{MOST_LINES}
 use Rattle.ff_session.specs.declared.work.Work.TheVariants.{Multi, Plain, Format}
-use Rattle.ff_words.specs.Words.{word_of, dash, Spell, MayFollow, AreUnder, AreNames, IsSlice, AsksBy, AreCommand, NeedsFile, NeedsPolicy}
+use Rattle.ff_words.specs.Words.{word_of, dash, Spell, MayFollow, AreUnder, AreNames, IsSlice, IsSliceOf, AsksBy, AreCommand, NeedsFile, NeedsPolicy}
+use Rattle.ff_words.specs.declared.words.TheConstants.{USUAL_SLICE}
 use Rattle.ff_words.specs.declared.words.Command.{Command}
 use Rattle.ff_words.specs.declared.words.Command.TheVariants.{Audit, Travel, Check, Upgrade, Trace, Generate, Resume, Release}
 
@@ -302,6 +303,17 @@ spell_names c name file files some_name some_file = from c files (record { words
     from Travel files' names = absurd files'
     from (Trace work) files' names = absurd files'
     from (Generate start inputs) files' names = absurd files'
+
+-- it makes the usual number of steps at a time
+pub usual_slice : (c : Command) (word name file : List ℕ) → NeedsFile c → IsSliceOf (word ∷ name ∷ file ∷ []) c USUAL_SLICE
+usual_slice Resume word name file files = refl
+usual_slice Release word name file files = refl
+usual_slice Check word name file files = absurd files
+usual_slice Upgrade word name file files = absurd files
+usual_slice Audit word name file files = absurd files
+usual_slice Travel word name file files = absurd files
+usual_slice (Trace work) word name file files = absurd files
+usual_slice (Generate start inputs) word name file files = absurd files
 
 -- the words that begin with its word
 file_words : (c : Command) (name file : List ℕ) → NeedsFile c → (d : Command) (other more : List ℕ) → Spell (word_of c ∷ name ∷ file ∷ []) d other more → AreNames (word_of c ∷ name ∷ file ∷ []) d other more

@@ -4,6 +4,7 @@ use Rattle.std.proofs.Common.{Global}
 use Rattle.ff_number.specs.Decimal.{nat_text}
 use Rattle.ff_gen.specs.declared.generator.TheConstants.{MOST_LINES}
 use Rattle.ff_session.specs.declared.work.Work.TheVariants.{Multi, Plain, Format}
+use Rattle.ff_words.specs.declared.words.TheConstants.{USUAL_SLICE}
 use Rattle.ff_words.specs.declared.words.Command.{Command}
 use Rattle.ff_words.specs.declared.words.Command.TheVariants.{Audit, Travel, Check, Upgrade, Trace, Generate, Resume, Release}
 
@@ -72,6 +73,12 @@ pub record AsksBy (words : List (String Global)) (command : Command) (name file 
 -- the words ask for the command, under the policy of this name and by no other file
 abbrev pub Asks : List (String Global) → Command → List ℕ → Type 0
 Asks words command name = AsksBy words command name dash
+
+-- how many steps a class of copies makes at a time under these words: the number that follows the
+-- name of the policy, where inputs are multi-executed, or else the usual number
+abbrev pub IsSliceOf : List (List ℕ) → Command → ℕ → Type 0
+IsSliceOf (word ∷ name ∷ number ∷ []) (Trace Multi) slice = number ≡ nat_text slice
+IsSliceOf words command slice = slice ≡ USUAL_SLICE
 
 -- The words are a command.
 pub record AreCommand (words : List (String Global)) : Type 0 where

@@ -3,4 +3,4 @@
 
 mod words;
 
-pub use words::{Asked, Command, asked_by};
+pub use words::{Asked, Command, USUAL_SLICE, asked_by};

@@ -1,8 +1,8 @@
 //! The words of the command line.
-ghost use Rattle.std.specs.Prelude.{◌≡◌, ◌≢◌, ◌<◌, ◌≤◌, [], ◌∷◌, ℕ, List, codes, MatchOption};
+ghost use Rattle.std.specs.Prelude.{◌≡◌, ◌≢◌, ◌<◌, ◌≤◌, [], ◌∷◌, ℕ, List, codes, map, string_bytes, IfSome, MatchOption};
 ghost use Rattle.ff_number.specs.Decimal.{nat_text};
 ghost use Rattle.ff_gen.specs.declared.generator.TheConstants.{MOST_LINES};
-ghost use Rattle.ff_words.specs.Words.{word_of, dash, Spell, AsksBy, AreCommand, NeedsFile, NeedsPolicy, IsSlice};
+ghost use Rattle.ff_words.specs.Words.{word_of, dash, Spell, AsksBy, AreCommand, NeedsFile, NeedsPolicy, IsSlice, IsSliceOf};
 ghost use Rattle.ff_words.specs.declared.words.Command.{Command};
 
 use ff_gen::MOST_LINES;
@@ -10,7 +10,7 @@ use ff_number::read_nat;
 use ff_session::Work;
 
 /// How many steps a class of copies makes at a time, where the words don't say.
-const USUAL_SLICE: u32 = 1_000;
+pub const USUAL_SLICE: u32 = 1_000;
 
 /// A command, apart from the names of its policy and of its other file.
 #[derive(Clone, Copy, Debug, PartialEq, Eq)]
@@ -68,7 +68,8 @@ pub struct Asked<'a> {
 /// What the words ask for, or `None` where they are no command.
 #[tactic(auto, using(crate::proofs::Commands::asks_other))]
 pub fn asked_by(words: &[String]) -> Option<Asked<'_>>
-    ensures { MatchOption result (¬ AreCommand words.now) (λ asked. AsksBy words.now asked.command asked.name.now asked.file.now × (0 < asked.slice)) }
+    ensures spelled { MatchOption result (¬ AreCommand words.now) (λ asked. AsksBy words.now asked.command asked.name.now asked.file.now × (0 < asked.slice)) }
+    ensures slice { IfSome result (λ asked. IsSliceOf (map string_bytes words.now) asked.command asked.slice) }
 {
     match words {
         [word, name] => asked_by_two(word.as_str(), name.as_str()),
@@ -80,7 +81,8 @@ pub fn asked_by(words: &[String]) -> Option<Asked<'_>>
 /// What a command and the name of its policy ask for.
 #[tactic(auto, using(crate::proofs::Commands::spell_two, crate::proofs::Commands::spell_no_name, crate::proofs::Commands::spell_no_two))]
 fn asked_by_two<'a>(word: &str, name: &'a str) -> Option<Asked<'a>>
-    ensures { MatchOption result ((command : Command) (other more : List ℕ) → ¬ Spell (word.now ∷ name.now ∷ []) command other more) (λ asked. Spell (word.now ∷ name.now ∷ []) asked.command asked.name.now asked.file.now × (0 < asked.slice)) }
+    ensures spelled { MatchOption result ((command : Command) (other more : List ℕ) → ¬ Spell (word.now ∷ name.now ∷ []) command other more) (λ asked. Spell (word.now ∷ name.now ∷ []) asked.command asked.name.now asked.file.now × (0 < asked.slice)) }
+    ensures slice { IfSome result (λ asked. IsSliceOf (word.now ∷ name.now ∷ []) asked.command asked.slice) }
 {
     if name.is_empty() {
         return None;
@@ -99,7 +101,8 @@ fn asked_by_two<'a>(word: &str, name: &'a str) -> Option<Asked<'a>>
 /// What three words ask for.
 #[tactic(auto, using(crate::proofs::Commands::spell_no_three))]
 fn asked_by_three<'a>(word: &str, first: &'a str, second: &'a str) -> Option<Asked<'a>>
-    ensures { MatchOption result ((command : Command) (other more : List ℕ) → ¬ Spell (word.now ∷ first.now ∷ second.now ∷ []) command other more) (λ asked. Spell (word.now ∷ first.now ∷ second.now ∷ []) asked.command asked.name.now asked.file.now × (0 < asked.slice)) }
+    ensures spelled { MatchOption result ((command : Command) (other more : List ℕ) → ¬ Spell (word.now ∷ first.now ∷ second.now ∷ []) command other more) (λ asked. Spell (word.now ∷ first.now ∷ second.now ∷ []) asked.command asked.name.now asked.file.now × (0 < asked.slice)) }
+    ensures slice { IfSome result (λ asked. IsSliceOf (word.now ∷ first.now ∷ second.now ∷ []) asked.command asked.slice) }
 {
     match word {
         "multi" => asked_with_slice(first, second),
@@ -113,7 +116,8 @@ fn asked_by_three<'a>(word: &str, first: &'a str, second: &'a str) -> Option<Ask
 /// A multi-executed run under the policy of this name, with this slice.
 #[tactic(auto, using(crate::proofs::Commands::spell_slice, crate::proofs::Commands::spell_no_slice, crate::proofs::Commands::spell_no_policy))]
 fn asked_with_slice<'a>(name: &'a str, slice: &str) -> Option<Asked<'a>>
-    ensures { MatchOption result ((command : Command) (other more : List ℕ) → ¬ Spell (codes "multi" ∷ name.now ∷ slice.now ∷ []) command other more) (λ asked. Spell (codes "multi" ∷ name.now ∷ slice.now ∷ []) asked.command asked.name.now asked.file.now × (0 < asked.slice)) }
+    ensures spelled { MatchOption result ((command : Command) (other more : List ℕ) → ¬ Spell (codes "multi" ∷ name.now ∷ slice.now ∷ []) command other more) (λ asked. Spell (codes "multi" ∷ name.now ∷ slice.now ∷ []) asked.command asked.name.now asked.file.now × (0 < asked.slice)) }
+    ensures slice { IfSome result (λ asked. IsSliceOf (codes "multi" ∷ name.now ∷ slice.now ∷ []) asked.command asked.slice) }
 {
     if name.is_empty() {
         return None;
@@ -130,10 +134,11 @@ fn asked_with_slice<'a>(name: &'a str, slice: &str) -> Option<Asked<'a>>
 }
 
 /// A command under the policy of this name, by the file of that name.
-#[tactic(auto, using(crate::proofs::Commands::spell_names, crate::proofs::Commands::spell_no_first, crate::proofs::Commands::spell_no_second))]
+#[tactic(auto, using(crate::proofs::Commands::spell_names, crate::proofs::Commands::usual_slice, crate::proofs::Commands::spell_no_first, crate::proofs::Commands::spell_no_second))]
 fn asked_by_file<'a>(command: Command, name: &'a str, file: &'a str) -> Option<Asked<'a>>
     requires { NeedsFile command }
-    ensures { MatchOption result ((which : Command) (other more : List ℕ) → ¬ Spell (word_of command ∷ name.now ∷ file.now ∷ []) which other more) (λ asked. Spell (word_of command ∷ name.now ∷ file.now ∷ []) asked.command asked.name.now asked.file.now × (0 < asked.slice)) }
+    ensures spelled { MatchOption result ((which : Command) (other more : List ℕ) → ¬ Spell (word_of command ∷ name.now ∷ file.now ∷ []) which other more) (λ asked. Spell (word_of command ∷ name.now ∷ file.now ∷ []) asked.command asked.name.now asked.file.now × (0 < asked.slice)) }
+    ensures slice { IfSome result (λ asked. IsSliceOf (word_of command ∷ name.now ∷ file.now ∷ []) asked.command asked.slice) }
 {
     if name.is_empty() {
         return None;
@@ -152,7 +157,8 @@ fn asked_by_file<'a>(command: Command, name: &'a str, file: &'a str) -> Option<A
 /// So many inputs that are drawn from a start.
 #[tactic(auto, using(crate::proofs::Commands::spell_numbers, crate::proofs::Commands::spell_no_start, crate::proofs::Commands::spell_no_inputs))]
 fn asked_for_inputs<'a>(start: &str, inputs: &str) -> Option<Asked<'a>>
-    ensures { MatchOption result ((command : Command) (other more : List ℕ) → ¬ Spell (codes "gen" ∷ start.now ∷ inputs.now ∷ []) command other more) (λ asked. Spell (codes "gen" ∷ start.now ∷ inputs.now ∷ []) asked.command asked.name.now asked.file.now × (0 < asked.slice)) }
+    ensures spelled { MatchOption result ((command : Command) (other more : List ℕ) → ¬ Spell (codes "gen" ∷ start.now ∷ inputs.now ∷ []) command other more) (λ asked. Spell (codes "gen" ∷ start.now ∷ inputs.now ∷ []) asked.command asked.name.now asked.file.now × (0 < asked.slice)) }
+    ensures slice { IfSome result (λ asked. IsSliceOf (codes "gen" ∷ start.now ∷ inputs.now ∷ []) asked.command asked.slice) }
 {
     let start = read_nat(start.as_bytes())?;
     let inputs = inputs_of(inputs)?;
