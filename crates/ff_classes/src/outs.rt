@@ -8,10 +8,19 @@ use std::marker::Model;
 use std::mem;
 
 /// A list of outputs.
-#[derive(Drop)]
 pub struct Outs {
     alloc: Global,
     items: Vec<Out>,
+}
+
+// Written out, so that the proof of a caller sees one call and not a part for each field.
+impl Drop for Outs {
+    fn drop(self) {
+        let Outs {
+            alloc: _,
+            items: _items,
+        } = self;
+    }
 }
 
 impl Model for Outs {

@@ -16,11 +16,22 @@ use std::marker::Model;
 
 /// The levels with their names and their order, which is a lattice. A level's number is its place
 /// among the names.
-#[derive(Debug, Drop)]
+#[derive(Debug)]
 pub struct Lattice {
     names: IndexSet<Text>,
     up: Vec<LevelSet>,
     down: Vec<LevelSet>,
+}
+
+// Written out, so that the proof of a caller sees one call and not a part for each field.
+impl Drop for Lattice {
+    fn drop(self) {
+        let Lattice {
+            names: _names,
+            up: _up,
+            down: _down,
+        } = self;
+    }
 }
 
 impl Model for Lattice {

@@ -4,7 +4,7 @@ use ff_name::{Name, NoMemory, Text, Url};
 use ff_value::{Body, Code, PageId, WinId};
 
 /// What a node is made of, by its kind.
-#[derive(Debug, Drop)]
+#[derive(Debug)]
 pub enum Shape {
     /// The root of a page.
     Page(PageId),
@@ -18,6 +18,22 @@ pub enum Shape {
     /// The address of a script, and whether it was started.
     Src(Name, bool, Url),
     Div(Name),
+}
+
+// Written out, so that the proof of a caller sees one call and not a case for each variant.
+impl Drop for Shape {
+    fn drop(self) {
+        match self {
+            Shape::Page(_) => (),
+            Shape::Text(_name, _text) => (),
+            Shape::Link(_name, _url, _text) => (),
+            Shape::TextBox(_name, _text) => (),
+            Shape::Button(_name, _text) => (),
+            Shape::Script(_name, _, _body) => (),
+            Shape::Src(_name, _, _url) => (),
+            Shape::Div(_name) => (),
+        }
+    }
 }
 
 impl Shape {
@@ -48,12 +64,22 @@ impl Shape {
 }
 
 /// One place in the queue of a page's scripts.
-#[derive(Debug, Drop)]
+#[derive(Debug)]
 pub enum Entry {
     /// A script that may run.
     Ready(Body),
     /// A slot, by its number, whose script hasn't come.
     Wait(u32),
+}
+
+// Written out, so that the proof of a caller sees one call and not a case for each variant.
+impl Drop for Entry {
+    fn drop(self) {
+        match self {
+            Entry::Ready(_body) => (),
+            Entry::Wait(_) => (),
+        }
+    }
 }
 
 impl Entry {
@@ -69,7 +95,7 @@ impl Entry {
 }
 
 /// What a reply is for.
-#[derive(Debug, Drop)]
+#[derive(Debug)]
 pub enum Dst {
     /// A window, which loads it.
     Window(WinId),
@@ -77,6 +103,17 @@ pub enum Dst {
     Slot(PageId, u32),
     /// A function of a page's script, which is called with it.
     Call(PageId, Code),
+}
+
+// Written out, so that the proof of a caller sees one call and not a case for each variant.
+impl Drop for Dst {
+    fn drop(self) {
+        match self {
+            Dst::Window(_) => (),
+            Dst::Slot(_, _) => (),
+            Dst::Call(_, _code) => (),
+        }
+    }
 }
 
 impl Dst {

@@ -20,10 +20,19 @@ use std::sync::ledger::Ledger;
 
 /// The cookies, seen as the map from domains and keys to values. They are valid at every return:
 /// spelled, and within their sizes and numbers.
-#[derive(Drop)]
 pub struct Jar {
     pub(crate) alloc: Global,
     pub(crate) cookies: Rows<Cookie>,
+}
+
+// Written out, so that the proof of a caller sees one call and not a part for each field.
+impl Drop for Jar {
+    fn drop(self) {
+        let Jar {
+            alloc: _,
+            cookies: _cookies,
+        } = self;
+    }
 }
 
 impl Model for Jar {

@@ -17,10 +17,19 @@ use std::marker::Model;
 use std::sync::ledger::Ledger;
 
 /// Node trees, seen as the list of the nodes by their numbers.
-#[derive(Drop)]
 pub struct Nodes {
     pub(crate) alloc: Global,
     pub(crate) cells: CowVec<NodeCell>,
+}
+
+// Written out, so that the proof of a caller sees one call and not a part for each field.
+impl Drop for Nodes {
+    fn drop(self) {
+        let Nodes {
+            alloc: _,
+            cells: _cells,
+        } = self;
+    }
 }
 
 impl Model for Nodes {

@@ -24,7 +24,7 @@ use std::marker::Model;
 
 /// Which levels there are, which two levels each kind of input has, and which level each domain and
 /// the user interface has.
-#[derive(Debug, Drop)]
+#[derive(Debug)]
 pub struct Policy {
     pub(crate) lattice: Lattice,
     pub(crate) ui: Level,
@@ -32,6 +32,20 @@ pub struct Policy {
     pub(crate) domains: Vec<Key>,
     pub(crate) kinds: Kinds,
     pub(crate) fuel: u32,
+}
+
+// Written out, so that the proof of a caller sees one call and not a part for each field.
+impl Drop for Policy {
+    fn drop(self) {
+        let Policy {
+            lattice: _lattice,
+            ui: _,
+            other: _,
+            domains: _domains,
+            kinds: _kinds,
+            fuel: _,
+        } = self;
+    }
 }
 
 impl Model for Policy {

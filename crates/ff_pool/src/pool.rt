@@ -27,7 +27,6 @@ use std::marker::Model;
 use std::sync::ledger::Ledger;
 
 /// One copy of the browser for each level, where the levels of one class share theirs.
-#[derive(Drop)]
 pub struct Pool {
     alloc: Global,
     fuel: u32,
@@ -39,6 +38,20 @@ pub struct Pool {
     puts: Vec<Outs>,
     /// For each level the least level of its class.
     leaders: Vec<usize>,
+}
+
+// Written out, so that the proof of a caller sees one call and not a part for each field.
+impl Drop for Pool {
+    fn drop(self) {
+        let Pool {
+            alloc: _,
+            fuel: _,
+            spent: _,
+            heads: _heads,
+            puts: _puts,
+            leaders: _leaders,
+        } = self;
+    }
 }
 
 impl Model for Pool {

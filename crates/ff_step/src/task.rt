@@ -11,10 +11,19 @@ use std::alloc::Global;
 use std::marker::Model;
 
 /// An expression that runs for a page.
-#[derive(Drop)]
 pub struct Task {
     pub(crate) page: PageId,
     pub(crate) control: Control,
+}
+
+// Written out, so that the proof of a caller sees one call and not a part for each field.
+impl Drop for Task {
+    fn drop(self) {
+        let Task {
+            page: _,
+            control: _control,
+        } = self;
+    }
 }
 
 impl Model for Task {

@@ -19,7 +19,6 @@ use std::sync::ledger::Ledger;
 /// The stores of one copy of the browser: nodes, windows, cookies, pending requests, the mass in
 /// bytes, and the pages that were touched. They are valid at all times, references from one store
 /// to another included. After want of memory they are the old ones, later ones or empty ones.
-#[derive(Drop)]
 pub struct Stores {
     pub(crate) alloc: Global,
     pub(crate) nodes: Nodes,
@@ -28,6 +27,21 @@ pub struct Stores {
     pub(crate) requests: Requests,
     pub(crate) mass: u64,
     pub(crate) touched: Touched,
+}
+
+// Written out, so that the proof of a caller sees one call and not a part for each field.
+impl Drop for Stores {
+    fn drop(self) {
+        let Stores {
+            alloc: _,
+            nodes: _nodes,
+            windows: _windows,
+            jar: _jar,
+            requests: _requests,
+            mass: _,
+            touched: _touched,
+        } = self;
+    }
 }
 
 impl Model for Stores {

@@ -32,7 +32,7 @@ fn entry(alloc: Global, words: &str) -> Result<Entry> {
 }
 
 fn entry_words(alloc: Global, entry: &Entry) -> Result<String> {
-    match entry.copy()? {
+    match &entry.copy()? {
         Entry::Ready(body) => {
             let body = spelled(alloc, body.get())?;
             Ok(format!(in alloc; "ready: {body}")?)

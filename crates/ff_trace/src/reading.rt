@@ -16,9 +16,15 @@ use std::mem;
 
 /// Memory that the reading of one line leaves to that of the next. What a line gives doesn't depend
 /// on it.
-#[derive(Drop)]
 pub struct Room {
     items: Items,
+}
+
+// Written out, so that the proof of a caller sees one call and not a part for each field.
+impl Drop for Room {
+    fn drop(self) {
+        let Room { items: _items } = self;
+    }
 }
 
 impl Room {

@@ -10,11 +10,22 @@ use std::cmp::{Eq, PartialEq};
 pub type Codes = SharedList<Code>;
 
 /// A function: its parameters, its body, and the activation in which it was made.
-#[derive(Debug, Drop)]
+#[derive(Debug)]
 pub struct Code {
     pub params: Names,
     pub body: Body,
     pub env: ActId,
+}
+
+// Written out, so that the proof of a caller sees one call and not a part for each field.
+impl Drop for Code {
+    fn drop(self) {
+        let Code {
+            params: _params,
+            body: _body,
+            env: _,
+        } = self;
+    }
 }
 
 impl Code {
