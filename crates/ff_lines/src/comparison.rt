@@ -1,5 +1,5 @@
 //! Two growing lists of lines, compared.
-ghost use Rattle.std.specs.Prelude.{◌≡◌, ◌+◌, [], ◌∷◌, ◌++◌, ℕ, List, IfOk, OnOk};
+ghost use Rattle.std.specs.Prelude.{◌≡◌, ◌+◌, [], ◌∷◌, ◌++◌, ℕ, List, IfOk, OnOk, OnErr};
 ghost use Rattle.std.specs.Bool.{OnFalse};
 ghost use Rattle.ff_lines.specs.Comparing.{ComparesAt, Meets, compared, differs, first, found, plain_more, multi_more};
 
@@ -51,10 +51,11 @@ impl Comparison {
         }
     }
 
-    /// One line more.
+    /// One line more. Its one refusal is want of memory, after which the lists are as they were.
     pub fn add(&mut self, side: Side, line: Text) -> Result<(), NoMemory>
-        ensures { OnOk result ((ps ms : List (List ℕ)) → ComparesAt self.old ps ms
+        ensures done { OnOk result ((ps ms : List (List ℕ)) → ComparesAt self.old ps ms
             → ComparesAt self.new (plain_more side ps (line ∷ [])) (multi_more side ms (line ∷ []))) }
+        ensures kept { OnErr result (self.new ≡ self.old) }
     {
         match side {
             Side::Plain => meet(&mut self.plain, &mut self.multi, &mut self.equal, line),
@@ -62,11 +63,13 @@ impl Comparison {
         }
     }
 
-    /// One line more that is the same in both, where no line waits for its like.
+    /// One line more that is the same in both, where no line waits for its like. Its one refusal is
+    /// a count that has no next number, after which the lists are as they were.
     pub fn add_same(&mut self) -> Result<(), NoMemory>
         requires plain { self.old.plain ≡ [] }
         requires multi { self.old.multi ≡ [] }
-        ensures { OnOk result ((line : List ℕ) (ps ms : List (List ℕ)) → ComparesAt self.old ps ms
+        ensures kept { OnErr result (self.new ≡ self.old) }
+        ensures done { OnOk result ((line : List ℕ) (ps ms : List (List ℕ)) → ComparesAt self.old ps ms
             → ComparesAt self.new (ps ++ line ∷ []) (ms ++ line ∷ [])) }
     {
         self.equal = one_more(self.equal)?;
@@ -104,7 +107,10 @@ fn meet(
     equal: &mut u64,
     line: Text,
 ) -> Result<(), NoMemory>
-    ensures { OnOk result (Meets own.old.items other.old.items equal.old line own.new.items other.new.items equal.new) }
+    ensures met { OnOk result (Meets own.old.items other.old.items equal.old line own.new.items other.new.items equal.new) }
+    ensures own { OnErr result (own.new.items ≡ own.old.items) }
+    ensures other { OnErr result (other.new.items ≡ other.old.items) }
+    ensures equal { OnErr result (equal.new ≡ equal.old) }
 {
     let Some(next) = other.front() else {
         own.push_back(line)?;
