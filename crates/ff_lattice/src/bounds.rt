@@ -6,7 +6,6 @@ ghost use Rattle.ff_lattice.specs.Rows.{Related, AreRows, AreOrdered, AreTurned}
 
 use crate::{LatticeFault, LevelSet, NoMemory};
 use ff_name::{Level, Text};
-use indexmap::IndexSet;
 
 /// The level that is related to just what both `a` and `b` are related to, which is their join.
 pub(crate) fn join_in(rows: &[LevelSet], a: Level, b: Level) -> Option<Level>
@@ -70,10 +69,10 @@ fn first_without_join(rows: &[LevelSet]) -> Option<(Level, Level)>
 }
 
 /// The names of two levels.
-fn names_of(levels: &IndexSet<Text>, a: Level, b: Level) -> Result<(Text, Text), NoMemory>
-    requires first { a.0 < length levels.now.keys }
-    requires second { b.0 < length levels.now.keys }
-    ensures { IfOk result (λ names. (names.0 ≡ nth levels.now.keys a.0) × (names.1 ≡ nth levels.now.keys b.0)) }
+fn names_of(levels: &Vec<Text>, a: Level, b: Level) -> Result<(Text, Text), NoMemory>
+    requires first { a.0 < length levels.now.items }
+    requires second { b.0 < length levels.now.items }
+    ensures { IfOk result (λ names. (names.0 ≡ nth levels.now.items a.0) × (names.1 ≡ nth levels.now.items b.0)) }
 {
     let low = levels[a.0 as usize].copy()?;
     let high = levels[b.0 as usize].copy()?;
@@ -82,16 +81,16 @@ fn names_of(levels: &IndexSet<Text>, a: Level, b: Level) -> Result<(Text, Text),
 
 /// Tests that an order, of which `up` and `down` are the two sides, is a lattice.
 pub(crate) fn check_order(
-    levels: &IndexSet<Text>,
+    levels: &Vec<Text>,
     up: &[LevelSet],
     down: &[LevelSet],
 ) -> Result<(), LatticeFault>
-    requires size { length up.now ≡ length levels.now.keys }
+    requires size { length up.now ≡ length levels.now.items }
     requires up { AreRows (length up.now) up.now }
     requires ordered { AreOrdered up.now }
     requires down { AreTurned up.now down.now }
-    ensures found { OnOk result (IsLattice (Related up.now) (length levels.now.keys)) }
-    ensures fault { IfErr result (λ fault. fault ≢ LatticeFault.NoMemory → IsOrderFault levels.now.keys (Related up.now) fault) }
+    ensures found { OnOk result (IsLattice (Related up.now) (length levels.now.items)) }
+    ensures fault { IfErr result (λ fault. fault ≢ LatticeFault.NoMemory → IsOrderFault levels.now.items (Related up.now) fault) }
 {
     if let Some((a, b)) = first_cycle(up) {
         let (low, high) = names_of(levels, a, b)?;

@@ -10,7 +10,6 @@ use crate::names::{check_names, distinct_names};
 use crate::rows::{close, given_rows, turned};
 use crate::{LatticeFault, LevelSet, NoMemory, Pair};
 use ff_name::{Level, Text};
-use indexmap::IndexSet;
 use std::alloc::Global;
 use std::marker::Model;
 
@@ -18,7 +17,7 @@ use std::marker::Model;
 /// among the names.
 #[derive(Debug)]
 pub struct Lattice {
-    names: IndexSet<Text>,
+    names: Vec<Text>,
     up: Vec<LevelSet>,
     down: Vec<LevelSet>,
 }
@@ -40,9 +39,9 @@ impl Model for Lattice {
 
     ghost Value = { Order };
 
-    ghost view = { λ s. record { names = s.names.keys; above = s.up.items } };
+    ghost view = { λ s. record { names = s.names.items; above = s.up.items } };
 
-    ghost invariant = { λ s. IsKept (record { names = s.names.keys; above = s.up.items }) s.down.items };
+    ghost invariant = { λ s. IsKept (record { names = s.names.items; above = s.up.items }) s.down.items };
 }
 
 impl Lattice {
@@ -79,14 +78,10 @@ impl Lattice {
     }
 
     /// The lattice of levels with names of their own.
-    fn of_levels(
-        alloc: Global,
-        names: IndexSet<Text>,
-        below: &[Pair],
-    ) -> Result<Lattice, LatticeFault>
-        requires { AreApart names.keys }
-        ensures found { IfOk result (IsLatticeOf names.keys below.now) }
-        ensures fault { IfErr result (λ fault. fault ≢ LatticeFault.NoMemory → IsFault names.keys below.now fault) }
+    fn of_levels(alloc: Global, names: Vec<Text>, below: &[Pair]) -> Result<Lattice, LatticeFault>
+        requires { AreApart names.items }
+        ensures found { IfOk result (IsLatticeOf names.items below.now) }
+        ensures fault { IfErr result (λ fault. fault ≢ LatticeFault.NoMemory → IsFault names.items below.now fault) }
     {
         let mut up = given_rows(alloc, &names, below)?;
         close(&mut up);
@@ -200,11 +195,11 @@ impl Lattice {
 }
 
 /// The names `L` and `H`.
-fn two_names(alloc: Global) -> Result<IndexSet<Text>, NoMemory>
-    ensures { IfOk result (λ names. names.keys ≡ codes "L" ∷ codes "H" ∷ []) }
+fn two_names(alloc: Global) -> Result<Vec<Text>, NoMemory>
+    ensures { IfOk result (λ names. names.items ≡ codes "L" ∷ codes "H" ∷ []) }
 {
-    let mut names = IndexSet::new(alloc);
-    names.insert(Text::of_utf8(alloc, b"L")?)?;
-    names.insert(Text::of_utf8(alloc, b"H")?)?;
+    let mut names = Vec::new(alloc);
+    names.push(Text::of_utf8(alloc, b"L")?)?;
+    names.push(Text::of_utf8(alloc, b"H")?)?;
     Ok(names)
 }

@@ -8,7 +8,6 @@ ghost use Rattle.ff_lattice.specs.declared.names.TheConstants.{MOST_LEVELS};
 use crate::names::level_named;
 use crate::{LatticeFault, LevelSet, NoMemory, Pair};
 use ff_name::{Level, Text};
-use indexmap::IndexSet;
 use std::alloc::Global;
 
 /// The table that relates each level below `size` to itself.
@@ -37,12 +36,12 @@ fn relate(rows: &mut [LevelSet], low: Level, high: Level)
 /// The table that relates each level to itself and the levels of each pair.
 pub(crate) fn given_rows(
     alloc: Global,
-    levels: &IndexSet<Text>,
+    levels: &Vec<Text>,
     below: &[Pair],
 ) -> Result<Vec<LevelSet>, LatticeFault>
-    requires { AreApart levels.now.keys }
-    ensures found { IfOk result (λ rows. HoldPairs (length below.now) levels.now.keys below.now rows.items) }
-    ensures fault { IfErr result (λ fault. fault ≢ LatticeFault.NoMemory → IsFault levels.now.keys below.now fault) }
+    requires { AreApart levels.now.items }
+    ensures found { IfOk result (λ rows. HoldPairs (length below.now) levels.now.items below.now rows.items) }
+    ensures fault { IfErr result (λ fault. fault ≢ LatticeFault.NoMemory → IsFault levels.now.items below.now fault) }
 {
     let mut rows = equal_rows(alloc, levels.len() as u8)?;
     for pair in below {

@@ -11,7 +11,7 @@ returns-in-Some-first_without_join-2-clause-fault c = λ _. (
   record {
     a = c.in-Some-first_without_join-2.a.0;
     b = c.in-Some-first_without_join-2.b.0;
-    pair = IsLeastPair-turned c.args.up.now c.args.down.now (length c.args.levels.now.keys) c.in-Some-first_without_join-2.a.0 c.in-Some-first_without_join-2.b.0 c.requires.size c.requires.down c.in-Some-first_without_join-2.ensures;
+    pair = IsLeastPair-turned c.args.up.now c.args.down.now (length c.args.levels.now.items) c.in-Some-first_without_join-2.a.0 c.in-Some-first_without_join-2.b.0 c.requires.size c.requires.down c.in-Some-first_without_join-2.ensures;
     low_is = c.in_ok-low-3.ensures.0;
     high_is = c.in_ok-low-3.ensures.1;
   },
@@ -19,5 +19,5 @@ returns-in-Some-first_without_join-2-clause-fault c = λ _. (
 
 pub returns-clause-found : goal.returns-clause-found
 returns-clause-found c =
-    IsLattice-from_checks c.args.up.now c.args.down.now (length c.args.levels.now.keys) c.requires.size c.requires.ordered c.requires.down
+    IsLattice-from_checks c.args.up.now c.args.down.now (length c.args.levels.now.items) c.requires.size c.requires.ordered c.requires.down
     c.in_default.ensures c.in_default-first_without_join.ensures c.in_default-first_without_join-2.ensures

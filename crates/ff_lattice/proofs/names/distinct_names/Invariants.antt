@@ -4,6 +4,6 @@ use Rattle.ff_lattice.proofs.names.distinct_names.Given as goal
 
 abbrev pub invariant-loop-name : goal.invariant-loop-name
 invariant-loop-name l = record {
-  keys : l.levels.keys ≡ take l.name-index l.names;
+  items : l.levels.items ≡ take l.name-index l.names;
   apart : (k : ℕ) → k < l.name-index → ¬ IsRepeat l.names k;
 }

@@ -5,8 +5,8 @@ use Rattle.ff_lattice.proofs.lattice.Lattice.join.Goals as goal
 
 pub unreachable-requires : goal.unreachable-requires
 unreachable-requires c =
-    let first : c.args.a.0 < length c.self.inside.names.keys = subst (λ (order : Order). c.args.a.0 < size order) (sym c.self.view_is) c.requires.first in
-    let second : c.args.b.0 < length c.self.inside.names.keys = subst (λ (order : Order). c.args.b.0 < size order) (sym c.self.view_is) c.requires.second in
+    let first : c.args.a.0 < length c.self.inside.names.items = subst (λ (order : Order). c.args.a.0 < size order) (sym c.self.view_is) c.requires.first in
+    let second : c.args.b.0 < length c.self.inside.names.items = subst (λ (order : Order). c.args.b.0 < size order) (sym c.self.view_is) c.requires.second in
     c.in-None.ensures.none (up_join _ _ c.self.invariant c.deref.result.now c.deref.ensures.value c.args.a.0 c.args.b.0 first second)
 
 pub returns-clause-value : goal.returns-clause-value

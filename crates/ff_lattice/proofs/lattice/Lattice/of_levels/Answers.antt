@@ -14,27 +14,27 @@ returns-in_err-check_order-clause-fault c =
     take_at c.close.new.rows (drop (length c.close.new.rows) c.in_ok-up.up.items) c.in_ok-up.up.len (closes.rows.count ∙ sym c.in_ok-up.up.ok.0) in
     let p = err_from_is_err_and c.from_residual-in_err-check_order.result c.from_residual-in_err-check_order.ensures.1 in
     rw (p.1, p.2) (λ named.
-    fault_from_order c.args.names.keys c.args.below.now c.in_ok-up.up.items c.close.new.rows c.requires c.in_ok-up.ensures.found closes c.in_err-check_order.field-0.0
-    (subst (λ (up : List (List ℕ)). IsOrderFault c.args.names.keys (Related up) c.in_err-check_order.field-0.0) (c.deref-2.ensures.value ∙ after) (c.in_err-check_order.ensures.fault named)))
+    fault_from_order c.args.names.items c.args.below.now c.in_ok-up.up.items c.close.new.rows c.requires c.in_ok-up.ensures.found closes c.in_err-check_order.field-0.0
+    (subst (λ (up : List (List ℕ)). IsOrderFault c.args.names.items (Related up) c.in_err-check_order.field-0.0) (c.deref-2.ensures.value ∙ after) (c.in_err-check_order.ensures.fault named)))
 
 pub invariant_of-result : goal.invariant_of-result
 invariant_of-result c =
     let closes : Closes c.in_ok-up.up.items c.close.new.rows = subst (λ (old : List (List ℕ)). Closes old c.close.new.rows) c.deref_mut.ensures.value c.close.ensures in
     let after : take c.in_ok-up.up.len (c.close.new.rows ++ drop (length c.close.new.rows) c.in_ok-up.up.items) ≡ c.close.new.rows =
     take_at c.close.new.rows (drop (length c.close.new.rows) c.in_ok-up.up.items) c.in_ok-up.up.len (closes.rows.count ∙ sym c.in_ok-up.up.ok.0) in
-    let lattice : IsLattice (Related c.close.new.rows) (length c.args.names.keys) =
-    subst (λ (up : List (List ℕ)). IsLattice (Related up) (length c.args.names.keys)) (c.deref-2.ensures.value ∙ after) c.in_ok-check_order.ensures.found in
+    let lattice : IsLattice (Related c.close.new.rows) (length c.args.names.items) =
+    subst (λ (up : List (List ℕ)). IsLattice (Related up) (length c.args.names.items)) (c.deref-2.ensures.value ∙ after) c.in_ok-check_order.ensures.found in
     let turned : AreTurned c.close.new.rows c.in_ok-down.down.items =
     subst (λ (up : List (List ℕ)). AreTurned up c.in_ok-down.down.items) (c.deref.ensures.value ∙ after) c.in_ok-down.ensures in
-    subst (λ (up : List (List ℕ)). IsKept (record { names = c.args.names.keys; above = up }) c.in_ok-down.down.items) (sym after)
-    (kept_is c.args.names.keys c.args.below.now c.in_ok-up.up.items c.close.new.rows c.requires c.in_ok-up.ensures.found closes lattice c.in_ok-down.down.items turned)
+    subst (λ (up : List (List ℕ)). IsKept (record { names = c.args.names.items; above = up }) c.in_ok-down.down.items) (sym after)
+    (kept_is c.args.names.items c.args.below.now c.in_ok-up.up.items c.close.new.rows c.requires c.in_ok-up.ensures.found closes lattice c.in_ok-down.down.items turned)
 
 pub returns-clause-found : goal.returns-clause-found
 returns-clause-found c =
     let closes : Closes c.in_ok-up.up.items c.close.new.rows = subst (λ (old : List (List ℕ)). Closes old c.close.new.rows) c.deref_mut.ensures.value c.close.ensures in
     let after : take c.in_ok-up.up.len (c.close.new.rows ++ drop (length c.close.new.rows) c.in_ok-up.up.items) ≡ c.close.new.rows =
     take_at c.close.new.rows (drop (length c.close.new.rows) c.in_ok-up.up.items) c.in_ok-up.up.len (closes.rows.count ∙ sym c.in_ok-up.up.ok.0) in
-    let lattice : IsLattice (Related c.close.new.rows) (length c.args.names.keys) =
-    subst (λ (up : List (List ℕ)). IsLattice (Related up) (length c.args.names.keys)) (c.deref-2.ensures.value ∙ after) c.in_ok-check_order.ensures.found in
-    subst (λ (up : List (List ℕ)). IsLatticeOf c.args.names.keys c.args.below.now (record { names = c.args.names.keys; above = up })) (sym after)
-    (lattice_is c.args.names.keys c.args.below.now c.in_ok-up.up.items c.close.new.rows c.requires c.in_ok-up.ensures.found closes lattice)
+    let lattice : IsLattice (Related c.close.new.rows) (length c.args.names.items) =
+    subst (λ (up : List (List ℕ)). IsLattice (Related up) (length c.args.names.items)) (c.deref-2.ensures.value ∙ after) c.in_ok-check_order.ensures.found in
+    subst (λ (up : List (List ℕ)). IsLatticeOf c.args.names.items c.args.below.now (record { names = c.args.names.items; above = up })) (sym after)
+    (lattice_is c.args.names.items c.args.below.now c.in_ok-up.up.items c.close.new.rows c.requires c.in_ok-up.ensures.found closes lattice)
