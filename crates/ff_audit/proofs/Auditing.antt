@@ -38,8 +38,7 @@ use Rattle.ff_session.proofs.Closing.{told_of, none_put, none_owed_at}
 use Rattle.ff_lines.specs.Owned.{own}
 use Rattle.ff_lines.specs.Comparing.{Kept, CompareAll}
 use Rattle.ff_lines.specs.Verdicts.{any_differ, report_of}
-use Rattle.ff_audit.specs.Audited.{plain_lines, multi_lines, report, audit_turns, feed_turns, no_entry, audit_duty, IsAuditAt, IsReported}
-use Rattle.ff_audit.specs.declared.books.Books.{Books}
+use Rattle.ff_audit.specs.Audited.{Account, plain_lines, multi_lines, report, audit_turns, feed_turns, no_entry, audit_duty, IsAuditAt, IsReported}
 use Rattle.ff_lines.proofs.Heard.{own-append, own_none}
 use Rattle.ff_lines.proofs.Leveled.{compare_same, same_report}
 
@@ -57,28 +56,28 @@ multi_longer : (p : Assignment) (is : List Input) (i : Input) (l : ℕ) → mult
 multi_longer p is i l = sym (own-append (levels p) p.order (multi (machine p) (levels p) is) (multi_text p (is ++ i ∷ [])) (copies_entry p (seen_by p) (fresh (machine p)) is i) l (text_more (machine p) (levels p) is i ∙ ap (λ os. multi_text p is ++ text_of (levels p) os) (sym (puts_fresh (machine p) (levels p) is i))))
 
 -- no input
-pub audit_none : (p : Assignment) (books : Books) → IsPlainAt p books.browser [] → AreCopiesAt p (seen_by p) (fresh (machine p)) books.pool [] → length books.levels.items ≡ size p.order → CompareAll books.levels.items (λ l. []) (λ l. []) → IsAuditAt p books []
+pub audit_none : (p : Assignment) (books : Account) → IsPlainAt p books.browser [] → AreCopiesAt p (seen_by p) (fresh (machine p)) books.pool [] → length books.levels ≡ size p.order → CompareAll books.levels (λ l. []) (λ l. []) → IsAuditAt p books []
 audit_none p books plain copies count all = record {
   plain = plain;
   copies = copies;
   count = count;
-  levels = compare_same books.levels.items (λ l. []) (λ l. []) (plain_lines p []) (multi_lines p [])
+  levels = compare_same books.levels (λ l. []) (λ l. []) (plain_lines p []) (multi_lines p [])
       (λ l. sym (own_none (levels p) p.order (plain_text p []) l (plain_text_start (machine p) (levels p))))
       (λ l. sym (own_none (levels p) p.order (multi_text p []) l (text_start (machine p) (levels p))))
       all;
 }
 
 -- one input more, whose lines came to the comparisons
-pub audit_more : (p : Assignment) (books now : Books) (is : List Input) (i : Input) (text other : List ℕ) → IsAuditAt p books is
-    → IsPlainAt p now.browser (is ++ i ∷ []) → AreCopiesAt p (seen_by p) (fresh (machine p)) now.pool (is ++ i ∷ []) → length now.levels.items ≡ length books.levels.items
+pub audit_more : (p : Assignment) (books now : Account) (is : List Input) (i : Input) (text other : List ℕ) → IsAuditAt p books is
+    → IsPlainAt p now.browser (is ++ i ∷ []) → AreCopiesAt p (seen_by p) (fresh (machine p)) now.pool (is ++ i ∷ []) → length now.levels ≡ length books.levels
     → text ≡ plain_entry p is i → other ≡ copies_entry p (seen_by p) (fresh (machine p)) is i
-    → ((ps ms : ℕ → List (List ℕ)) → CompareAll books.levels.items ps ms → CompareAll now.levels.items (λ l. ps l ++ own p.order text l) (λ l. ms l ++ own p.order other l))
+    → ((ps ms : ℕ → List (List ℕ)) → CompareAll books.levels ps ms → CompareAll now.levels (λ l. ps l ++ own p.order text l) (λ l. ms l ++ own p.order other l))
     → IsAuditAt p now (is ++ i ∷ [])
 audit_more p books now is i text other at plain copies count text_is other_is hears = record {
   plain = plain;
   copies = copies;
   count = count ∙ at.count;
-  levels = compare_same now.levels.items (λ l. plain_lines p is l ++ own p.order text l) (λ l. multi_lines p is l ++ own p.order other l) (plain_lines p (is ++ i ∷ [])) (multi_lines p (is ++ i ∷ []))
+  levels = compare_same now.levels (λ l. plain_lines p is l ++ own p.order text l) (λ l. multi_lines p is l ++ own p.order other l) (plain_lines p (is ++ i ∷ [])) (multi_lines p (is ++ i ∷ []))
       (λ l. ap (λ t. plain_lines p is l ++ own p.order t l) text_is ∙ plain_longer p is i l)
       (λ l. ap (λ t. multi_lines p is l ++ own p.order t l) other_is ∙ multi_longer p is i l)
       (hears (plain_lines p is) (multi_lines p is) at.levels);
@@ -119,15 +118,15 @@ good_end : (b : Bool) → IsGood (cond b Leaks Done)
 good_end true = tt
 good_end false = tt
 
-module _ (p : Assignment) (books : Books) (first : List Input) (at : IsAuditAt p books first) where
+module _ (p : Assignment) (books : Account) (first : List Input) (at : IsAuditAt p books first) where
   -- whatever inputs the books may be said to have taken
   same_text : (is : List Input) → IsAuditAt p books is → report p first ≡ report p is
-  same_text is other = same_report books.levels.items (plain_lines p first) (multi_lines p first) (plain_lines p is) (multi_lines p is) at.levels other.levels p.order (size p.order) (let count = at.count in omega (arith, count))
+  same_text is other = same_report books.levels (plain_lines p first) (multi_lines p first) (plain_lines p is) (multi_lines p is) at.levels other.levels p.order (size p.order) (let count = at.count in omega (arith, count))
 
   -- all of it was put, or a part
   pub reported : (end : End TraceFault) (leak : Bool) (text : List ℕ) (log_before log_now : Option (List Piece)) (before now : ℕ) (status : Status) (good : Status) → good ≡ cond leak Leaks Done
-      → ((ps ms : ℕ → List (List ℕ)) → CompareAll books.levels.items ps ms → leak ≡ any_differ (length books.levels.items) ps ms)
-      → ((ps ms : ℕ → List (List ℕ)) → CompareAll books.levels.items ps ms → text ≡ [] ++ report_of p.order (size p.order) ps ms)
+      → ((ps ms : ℕ → List (List ℕ)) → CompareAll books.levels ps ms → leak ≡ any_differ (length books.levels) ps ms)
+      → ((ps ms : ℕ → List (List ℕ)) → CompareAll books.levels ps ms → text ≡ [] ++ report_of p.order (size p.order) ps ms)
       → IsClosed end good text log_before log_now before now status → IsReported p books end log_before log_now before now status
   reported end leak text log_before log_now before now status good good_is leak_is text_is closed = record {
     text = text;
@@ -142,7 +141,7 @@ module _ (p : Assignment) (books : Books) (first : List Input) (at : IsAuditAt p
 
   -- there was no memory for it
   pub unreported : (end : End TraceFault) (log : Option (List Piece)) (writes : ℕ) → IsEnded end → (leak : Bool)
-      → ((ps ms : ℕ → List (List ℕ)) → CompareAll books.levels.items ps ms → leak ≡ any_differ (length books.levels.items) ps ms) → IsReported p books end log log writes writes NoMemory
+      → ((ps ms : ℕ → List (List ℕ)) → CompareAll books.levels ps ms → leak ≡ any_differ (length books.levels) ps ms) → IsReported p books end log log writes writes NoMemory
   unreported end log writes ended leak leak_is = record {
     text = report p first;
     good = cond leak Leaks Done;
@@ -192,7 +191,7 @@ stands p ended.ReadFault streams is = (streams.held.1.items, streams.held.1.at)
 stands p ended.WriteFault streams is = absurd is
 stands p ended.NoMemory streams is = absurd is
 
-module _ (p : Assignment) (books : Books) {log_before log_mid : Option (List Piece)} {rest_before rest_now : Option (List ℕ)} {turns_before turns_now : ℕ} (end : End TraceFault)
+module _ (p : Assignment) (books : Account) {log_before log_mid : Option (List Piece)} {rest_before rest_now : Option (List ℕ)} {turns_before turns_now : ℕ} (end : End TraceFault)
     (streams : Streams (Gives p.order) no_entry (feed_turns p) (IsAuditAt p books) log_before log_mid rest_before rest_now turns_before turns_now end) where
   -- the report was put once reading had ended
   pub audited : (s : Status) (log_now : Option (List Piece)) (reads_before reads_now writes_before writes_mid writes_now : ℕ) → IsReported p books end log_mid log_now writes_mid writes_now s

@@ -5,7 +5,9 @@ use Rattle.ff_reactive.specs.Runs.{work_plain}
 use Rattle.ff_value.specs.declared.input.Input.{Input}
 use Rattle.ff_io.specs.Pieces.{Piece}
 use Rattle.ff_lattice.specs.Order.{size}
+use Rattle.ff_machine.specs.State.{State}
 use Rattle.ff_policy.specs.Assignment.{Assignment}
+use Rattle.ff_pool.specs.Pooled.{Pooled}
 use Rattle.ff_session.specs.Levels.{machine}
 use Rattle.ff_status.specs.declared.status.TraceFault.{TraceFault}
 use Rattle.ff_status.specs.Words.{IsGood}
@@ -18,7 +20,7 @@ use Rattle.ff_reactive.specs.Standings.{fresh}
 use Rattle.ff_session.specs.Multi.{seen_by, multi_text, multi_turns, copies_turns, AreCopiesAt}
 use Rattle.ff_session.specs.Works.{Duty}
 use Rattle.ff_lines.specs.Owned.{own}
-use Rattle.ff_lines.specs.Comparing.{compared, CompareAll}
+use Rattle.ff_lines.specs.Comparing.{compared, CompareAll, Kept}
 use Rattle.ff_lines.specs.Verdicts.{any_differ, report_of}
 use Rattle.ff_lines.specs.declared.verdict.Verdict.{Verdict}
 use Rattle.ff_audit.specs.declared.books.Books.{Books}
@@ -61,15 +63,25 @@ no_entry is i = []
 abbrev pub audit_duty : Assignment → Duty Input
 audit_duty p = record { entry = no_entry; text = λ whole is. report p is; turns = audit_turns p; good = ending p }
 
+-- what the books have: the state of the browser, the pool, and for each level what is kept of its
+-- lines
+pub record Account : Type 0 where
+  pub browser : State
+  pub pool : Pooled
+  pub levels : List Kept
+
+abbrev pub account : {B : Type 0} → (B → State) → Books B → Account
+account state books = record { browser = state books.browser; pool = books.pool; levels = books.levels.items }
+
 -- Both runs have taken these inputs, and the lines of each level are compared.
-pub record IsAuditAt (p : Assignment) (books : Books) (is : List Input) : Type 0 where
+pub record IsAuditAt (p : Assignment) (books : Account) (is : List Input) : Type 0 where
   pub plain : IsPlainAt p books.browser is
   pub copies : AreCopiesAt p (seen_by p) (fresh (machine p)) books.pool is
-  pub count : length books.levels.items ≡ size p.order
-  pub levels : CompareAll books.levels.items (plain_lines p is) (multi_lines p is)
+  pub count : length books.levels ≡ size p.order
+  pub levels : CompareAll books.levels (plain_lines p is) (multi_lines p is)
 
 -- The report of the books was put, or what became of it, and the status.
-pub record IsReported (p : Assignment) (books : Books) (end : End TraceFault) (log_before log_now : Option (List Piece)) (writes_before writes_now : ℕ) (status : Status) : Type 0 where
+pub record IsReported (p : Assignment) (books : Account) (end : End TraceFault) (log_before log_now : Option (List Piece)) (writes_before writes_now : ℕ) (status : Status) : Type 0 where
   pub text : List ℕ
   pub good : Status
   pub fine : IsGood good

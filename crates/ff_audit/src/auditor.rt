@@ -10,27 +10,28 @@ use crate::books::Books;
 use ff_lines::Verdict;
 use ff_name::{Level, NoMemory};
 use ff_policy::Policy;
+use ff_session::Reactor;
 use ff_steps::Steps;
 use ff_value::Input;
 use std::alloc::{AllocError, Global};
 use std::sync::ledger::Ledger;
 
-/// The plain program and the multi-executed one under a policy, and the lines that they put at each
-/// level. Of lines that are the same in both it keeps the number alone; where a level's lines
+/// The plain program and the multi-executed one under a policy, both of browsers `B`, and the lines
+/// that they put at each level. Of lines that are the same in both it keeps the number alone; where a level's lines
 /// differ, no more than what is kept by then.
 #[derive(Drop)]
-pub struct Auditor {
+pub struct Auditor<B: Reactor> {
     alloc: Global,
     policy: Policy,
-    books: Books,
+    books: Books<B>,
     /// Set while an input is taken, so it stays set where there is no memory.
     spent: bool,
 }
 
-impl Auditor {
+impl<B: Reactor> Auditor<B> {
     /// An audit in which no input was taken. It is refused only for want of memory.
-    pub fn new(alloc: Global, policy: Policy) -> Result<Auditor, NoMemory>
-        ensures fed { IfOk result (λ auditor. IsFed auditor []) }
+    pub fn new(alloc: Global, policy: Policy) -> Result<Auditor<B>, NoMemory>
+        ensures fed { IfOk result (λ auditor. IsFed B.state auditor []) }
         ensures policy { IfOk result (λ auditor. auditor.policy ≡ policy) }
         ensures unspent { IfOk result (λ auditor. auditor.spent ≡ false) }
     {
@@ -69,14 +70,14 @@ impl Auditor {
         turns: &mut Steps<L>,
     ) -> Result<(), NoMemory>
         requires input { IsInputOf self.old.policy.order input.now }
-        requires at { self.old.spent ≡ false → (is : List Input) × IsFed self.old is }
-        ensures fed { OnOk result ((is : List Input) → IsFed self.old is → IsFed self.new (is ++ input.now ∷ [])) }
+        requires at { self.old.spent ≡ false → (is : List Input) × IsFed B.state self.old is }
+        ensures fed { OnOk result ((is : List Input) → IsFed B.state self.old is → IsFed B.state self.new (is ++ input.now ∷ [])) }
         ensures unspent { OnOk result ((self.old.spent ≡ false) × (self.new.spent ≡ false)) }
         ensures spent { OnErr result (self.new.spent ≡ true) }
         ensures policy { self.new.policy ≡ self.old.policy }
-        ensures count { OnOk result ((is : List Input) → IsFed self.old is → turns.new ≡ turns.old + feed_turns self.old.policy is input.now) }
+        ensures count { OnOk result ((is : List Input) → IsFed B.state self.old is → turns.new ≡ turns.old + feed_turns self.old.policy is input.now) }
         ensures later { turns.old ≤ turns.new }
-        ensures most { (is : List Input) → IsFed self.old is → turns.new ≤ turns.old + feed_turns self.old.policy is input.now }
+        ensures most { (is : List Input) → IsFed B.state self.old is → turns.new ≤ turns.old + feed_turns self.old.policy is input.now }
         ensures later_copies { copies.old ≤ copies.new }
     {
         if self.spent {
@@ -92,24 +93,24 @@ impl Auditor {
     /// What is found at a level.
     pub fn verdict(&self, level: Level) -> Result<Verdict, NoMemory>
         requires level { level.0 < size self.now.policy.order }
-        requires at { (is : List Input) × IsFed self.now is }
-        ensures { IfOk result (λ answer. (is : List Input) → IsFed self.now is → answer ≡ verdict self.now.policy is level.0) }
+        requires at { (is : List Input) × IsFed B.state self.now is }
+        ensures { IfOk result (λ answer. (is : List Input) → IsFed B.state self.now is → answer ≡ verdict self.now.policy is level.0) }
     {
         self.books.verdict(level)
     }
 
     /// Whether the lines of some level differ.
     pub fn leaks(&self) -> bool
-        requires { (is : List Input) × IsFed self.now is }
-        ensures { (is : List Input) → IsFed self.now is → result ≡ leaks self.now.policy is }
+        requires { (is : List Input) × IsFed B.state self.now is }
+        ensures { (is : List Input) → IsFed B.state self.now is → result ≡ leaks self.now.policy is }
     {
         self.books.leak()
     }
 
     /// Appends what is found at each level in order.
     pub fn report(&self, out: &mut Vec<u8>) -> Result<(), NoMemory>
-        requires { (is : List Input) × IsFed self.now is }
-        ensures { OnOk result ((is : List Input) → IsFed self.now is → out.new.items ≡ out.old.items ++ report self.now.policy is) }
+        requires { (is : List Input) × IsFed B.state self.now is }
+        ensures { OnOk result ((is : List Input) → IsFed B.state self.now is → out.new.items ≡ out.old.items ++ report self.now.policy is) }
     {
         self.books.report(self.policy.lattice(), out)
     }

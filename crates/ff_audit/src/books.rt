@@ -5,7 +5,7 @@ ghost use Rattle.ff_lattice.specs.Order.{size};
 ghost use Rattle.ff_trace.specs.Lines.{IsInputOf};
 ghost use Rattle.ff_lines.specs.Comparing.{compared, CompareAll};
 ghost use Rattle.ff_lines.specs.Verdicts.{any_differ, report_of};
-ghost use Rattle.ff_audit.specs.Audited.{IsAuditAt, feed_turns};
+ghost use Rattle.ff_audit.specs.Audited.{IsAuditAt, account, feed_turns};
 
 use ff_lattice::Lattice;
 use ff_lines::{
@@ -13,11 +13,12 @@ use ff_lines::{
 };
 use ff_name::{Level, NoMemory};
 use ff_policy::Policy;
-use ff_session::{Browser, Copies, Plain, Pool, new_pool};
+use ff_session::{Copies, Plain, Pool, Reactor, new_pool};
 use ff_steps::Steps;
 use ff_stream::Taker;
 use ff_value::Input;
 use std::alloc::Global;
+use std::marker::PhantomData;
 use std::sync::ledger::Ledger;
 
 /// How many steps a class of copies makes before the next one has its turn.
@@ -25,19 +26,19 @@ const SLICE: u32 = 1_000;
 
 /// Both programs, and for each level a comparison of their lines.
 #[derive(Drop)]
-pub(crate) struct Books {
-    browser: Browser,
-    pool: Pool,
+pub(crate) struct Books<B: Reactor> {
+    browser: B,
+    pool: Pool<B>,
     levels: Vec<Comparison>,
 }
 
-impl Books {
+impl<B: Reactor> Books<B> {
     /// Nothing was fed. It is refused only for want of memory.
-    pub(crate) fn new(alloc: Global, policy: &Policy) -> Result<Books, NoMemory>
-        ensures { IfOk result (λ books. IsAuditAt policy.now books []) }
+    pub(crate) fn new(alloc: Global, policy: &Policy) -> Result<Books<B>, NoMemory>
+        ensures { IfOk result (λ books. IsAuditAt policy.now (account B.state books) []) }
     {
         let pool = new_pool(alloc, policy)?;
-        let browser = Browser::new(alloc, policy.fuel());
+        let browser = B::new(alloc, policy.fuel());
         let levels = fresh_levels(alloc, policy.lattice())?;
         Ok(Books {
             browser,
@@ -56,20 +57,24 @@ impl Books {
         turns: &mut Steps<L>,
     ) -> Result<(), NoMemory>
         requires input { IsInputOf policy.now.order input.now }
-        requires at { (is : List Input) × IsAuditAt policy.now self.old is }
-        ensures fed { OnOk result ((is : List Input) → IsAuditAt policy.now self.old is → IsAuditAt policy.now self.new (is ++ input.now ∷ [])) }
-        ensures count { OnOk result ((is : List Input) → IsAuditAt policy.now self.old is → turns.new ≡ turns.old + feed_turns policy.now is input.now) }
+        requires at { (is : List Input) × IsAuditAt policy.now (account B.state self.old) is }
+        ensures fed { OnOk result ((is : List Input) → IsAuditAt policy.now (account B.state self.old) is → IsAuditAt policy.now (account B.state self.new) (is ++ input.now ∷ [])) }
+        ensures count { OnOk result ((is : List Input) → IsAuditAt policy.now (account B.state self.old) is → turns.new ≡ turns.old + feed_turns policy.now is input.now) }
         ensures later { turns.old ≤ turns.new }
-        ensures most { (is : List Input) → IsAuditAt policy.now self.old is → turns.new ≤ turns.old + feed_turns policy.now is input.now }
+        ensures most { (is : List Input) → IsAuditAt policy.now (account B.state self.old) is → turns.new ≤ turns.old + feed_turns policy.now is input.now }
         ensures later_copies { copies.old ≤ copies.new }
     {
         let lattice = policy.lattice();
-        let plain = Plain { policy };
+        let plain = Plain {
+            policy,
+            kind: PhantomData::<B>,
+        };
         let mut text = Vec::new(alloc);
         plain.take(alloc, &mut self.browser, input, &mut text, copies, turns)?;
         let multi = Copies {
             policy,
             slice: SLICE,
+            kind: PhantomData::<B>,
         };
         let mut other = Vec::new(alloc);
         multi.take(alloc, &mut self.pool, input, &mut other, copies, turns)?;

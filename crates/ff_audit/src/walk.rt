@@ -4,32 +4,35 @@ ghost use Rattle.ff_value.specs.declared.input.Input.{Input};
 ghost use Rattle.ff_session.specs.Giving.{Gives};
 ghost use Rattle.ff_session.specs.Works.{Exchanged};
 ghost use Rattle.ff_session.specs.Closing.{IsEnded};
-ghost use Rattle.ff_audit.specs.Audited.{IsAuditAt, IsReported, audit_duty};
+ghost use Rattle.ff_audit.specs.Audited.{IsAuditAt, IsReported, account, audit_duty};
 
 use crate::books::Books;
 use ff_io::Port;
 use ff_policy::Policy;
-use ff_session::{InputReader, close};
+use ff_session::{InputReader, Reactor, close};
 use ff_status::{Status, TraceFault};
 use ff_steps::Steps;
 use ff_stream::{End, Taker, stream};
 use ff_value::Input;
 use std::alloc::{AllocError, Global};
+use std::marker::PhantomData;
 use std::sync::ledger::Ledger;
 
 /// Each input is taken by both programs.
-#[derive(Clone, Copy)]
-pub(crate) struct Both<'a> {
+#[derive(Drop)]
+pub(crate) struct Both<'a, B: Reactor> {
     policy: &'a Policy,
+    /// Which kind of browser.
+    kind: PhantomData<B>,
 }
 
-impl Taker for Both<'_> {
+impl<B: Reactor> Taker for Both<'_, B> {
     ghost use Rattle.ff_trace.specs.Lines.{IsInputOf};
-    ghost use Rattle.ff_audit.specs.Audited.{IsAuditAt, feed_turns, no_entry};
+    ghost use Rattle.ff_audit.specs.Audited.{IsAuditAt, account, feed_turns, no_entry};
 
     type Item = Input;
 
-    type State = Books;
+    type State = Books<B>;
 
     ghost accepts = { λ taker input. IsInputOf taker.policy.now.order input };
 
@@ -37,7 +40,7 @@ impl Taker for Both<'_> {
 
     ghost turns = { λ taker start. feed_turns taker.policy.now };
 
-    ghost is_at = { λ taker start. IsAuditAt taker.policy.now };
+    ghost is_at = { λ taker start books. IsAuditAt taker.policy.now (account B.state books) };
 
     ghost copies_none = { λ taker. ⊥ };
 
@@ -45,7 +48,7 @@ impl Taker for Both<'_> {
     fn take<C: Ledger, L: Ledger>(
         &self,
         alloc: Global,
-        state: &mut Books,
+        state: &mut Books<B>,
         item: &Input,
         _text: &mut Vec<u8>,
         copies: &mut Steps<C>,
@@ -55,11 +58,11 @@ impl Taker for Both<'_> {
     }
 }
 
-/// Audits the trace that the port gives: `Leaks` where at some level the plain program puts other
+/// Audits the trace that the port gives, with browsers `B`: `Leaks` where at some level the plain program puts other
 /// lines than the multi-executed one, and else `Done`. The report is put once reading has ended,
 /// also after a bad line and after a read that failed, and nothing before it. `turns` counts the
 /// turns of both programs, and `copies` the cells that they copy.
-pub fn audit<P: Port, C: Ledger, L: Ledger>(
+pub fn audit<B: Reactor, P: Port, C: Ledger, L: Ledger>(
     alloc: Global,
     policy: &Policy,
     port: &mut P,
@@ -71,14 +74,17 @@ pub fn audit<P: Port, C: Ledger, L: Ledger>(
 {
     let lattice = policy.lattice();
     let reader = InputReader { lattice };
-    let mut books = match Books::new(alloc, policy) {
+    let mut books = match Books::<B>::new(alloc, policy) {
         Ok(books) => books,
         Err(_) => return Status::NoMemory,
     };
     let end = stream(
         alloc,
         &reader,
-        &Both { policy },
+        &Both {
+            policy,
+            kind: PhantomData::<B>,
+        },
         &mut books,
         port,
         copies,
@@ -92,16 +98,16 @@ pub fn audit<P: Port, C: Ledger, L: Ledger>(
 }
 
 /// Puts the report, once reading has ended.
-fn finish<P: Port>(
+fn finish<B: Reactor, P: Port>(
     alloc: Global,
     policy: &Policy,
-    books: &Books,
+    books: &Books<B>,
     end: End<TraceFault>,
     port: &mut P,
 ) -> Status
     requires ended { IsEnded end }
-    requires at { (is : List Input) × IsAuditAt policy.now books.now is }
-    ensures reported { IsReported policy.now books.now end (P.log port.old) (P.log port.new) (P.write_faults port.old) (P.write_faults port.new) result }
+    requires at { (is : List Input) × IsAuditAt policy.now (account B.state books.now) is }
+    ensures reported { IsReported policy.now (account B.state books.now) end (P.log port.old) (P.log port.new) (P.write_faults port.old) (P.write_faults port.new) result }
     ensures rest { P.rest port.new ≡ P.rest port.old }
     ensures others { P.read_faults port.new ≡ P.read_faults port.old }
     ensures later { P.write_faults port.old ≤ P.write_faults port.new }

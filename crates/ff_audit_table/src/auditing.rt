@@ -6,6 +6,7 @@ ghost use Rattle.ff_audit.specs.Fed.{IsFed};
 
 use crate::input_of;
 use ff_audit::{Auditor, Verdict};
+use ff_core::Browser;
 use ff_name::{Level, NoMemory, Text};
 use ff_policy::Policy;
 use ff_steps::Steps;
@@ -26,13 +27,13 @@ struct Findings {
 /// Both programs take the input of a line, if it holds one.
 fn hear<C: Ledger, L: Ledger>(
     alloc: Global,
-    auditor: &mut Auditor,
+    auditor: &mut Auditor<Browser>,
     line: &str,
     copies: &mut Steps<C>,
     turns: &mut Steps<L>,
 ) -> Result<(), NoMemory>
-    requires { (is : List Input) × IsFed auditor.old is }
-    ensures { OnOk result ((is : List Input) × IsFed auditor.new is) }
+    requires { (is : List Input) × IsFed (λ browser. browser) auditor.old is }
+    ensures { OnOk result ((is : List Input) × IsFed (λ browser. browser) auditor.new is) }
 {
     match input_of(alloc, auditor.policy(), line)? {
         Some(input) => auditor.feed(&input, copies, turns),
@@ -41,8 +42,8 @@ fn hear<C: Ledger, L: Ledger>(
 }
 
 /// What is found at each level in order.
-fn verdicts_of(alloc: Global, auditor: &Auditor) -> Result<Vec<Verdict>, NoMemory>
-    requires { (is : List Input) × IsFed auditor.now is }
+fn verdicts_of(alloc: Global, auditor: &Auditor<Browser>) -> Result<Vec<Verdict>, NoMemory>
+    requires { (is : List Input) × IsFed (λ browser. browser) auditor.now is }
 {
     let mut verdicts = Vec::new(alloc);
     for number in 0..auditor.policy().lattice().size() {
@@ -54,13 +55,13 @@ fn verdicts_of(alloc: Global, auditor: &Auditor) -> Result<Vec<Verdict>, NoMemor
 /// Both programs take the inputs of the lines.
 fn hear_all<C: Ledger, L: Ledger>(
     alloc: Global,
-    auditor: &mut Auditor,
+    auditor: &mut Auditor<Browser>,
     lines: &[String],
     copies: &mut Steps<C>,
     turns: &mut Steps<L>,
 ) -> Result<(), NoMemory>
-    requires { (is : List Input) × IsFed auditor.old is }
-    ensures { OnOk result ((is : List Input) × IsFed auditor.new is) }
+    requires { (is : List Input) × IsFed (λ browser. browser) auditor.old is }
+    ensures { OnOk result ((is : List Input) × IsFed (λ browser. browser) auditor.new is) }
 {
     for line in lines {
         hear(alloc, auditor, line.as_str(), copies, turns)?;
@@ -69,8 +70,8 @@ fn hear_all<C: Ledger, L: Ledger>(
 }
 
 /// What an audit has found.
-fn found(alloc: Global, auditor: &Auditor) -> Result<Findings, NoMemory>
-    requires { (is : List Input) × IsFed auditor.now is }
+fn found(alloc: Global, auditor: &Auditor<Browser>) -> Result<Findings, NoMemory>
+    requires { (is : List Input) × IsFed (λ browser. browser) auditor.now is }
 {
     let mut report = Vec::new(alloc);
     auditor.report(&mut report)?;
@@ -98,7 +99,7 @@ fn audit<C: Ledger, L: Ledger>(
 {
     let mut copies = Steps::<C>::new(copies);
     let mut turns = Steps::<L>::new(turns);
-    let mut auditor = Auditor::new(alloc, Policy::builtin(alloc)?)?;
+    let mut auditor = Auditor::<Browser>::new(alloc, Policy::builtin(alloc)?)?;
     hear_all(alloc, &mut auditor, lines, &mut copies, &mut turns)?;
     found(alloc, &auditor)
 }

@@ -9,6 +9,7 @@ ghost use Rattle.ff_value.specs.Spelled.{IsWellSpelledInput};
 ghost use Rattle.ff_trace.specs.Lines.{IsInputOf};
 
 use crate::is_of_two;
+use ff_core::Browser;
 use ff_name::Level;
 use ff_policy::Policy;
 use ff_pool::{NoMemory, Pool};
@@ -85,7 +86,7 @@ pub(crate) fn input_of(
 }
 
 /// Whether a level leads its class and has work.
-fn is_due(pool: &Pool, l: u8) -> bool
+fn is_due(pool: &Pool<Browser>, l: u8) -> bool
     requires { l < 2 }
 {
     if !is_of_two(pool) {
@@ -97,7 +98,7 @@ fn is_due(pool: &Pool, l: u8) -> bool
 
 /// The steps of a level's class until it has no work.
 fn steps<C: Ledger, L: Ledger>(
-    pool: &mut Pool,
+    pool: &mut Pool<Browser>,
     l: u8,
     copies: &mut Steps<C>,
     turns: &mut Steps<L>,
@@ -118,7 +119,7 @@ fn turns_of<C: Ledger, L: Ledger>(
     alloc: Global,
     policy: &Policy,
     input: &Input,
-    pool: &mut Pool,
+    pool: &mut Pool<Browser>,
     copies: &mut Steps<C>,
     turns: &mut Steps<L>,
 ) -> Result<u32, NoMemory>
@@ -143,7 +144,7 @@ fn counted<C: Ledger, L: Ledger>(
     alloc: Global,
     policy: &Policy,
     lines: &[String],
-    pool: &mut Pool,
+    pool: &mut Pool<Browser>,
     copies: &mut Steps<C>,
     turns: &mut Steps<L>,
 ) -> Result<Vec<u32>, NoMemory> {
@@ -173,6 +174,6 @@ pub fn count<C: Ledger, L: Ledger>(
     let mut copies = Steps::<C>::new(copies);
     let mut turns = Steps::<L>::new(turns);
     let policy = Policy::builtin(alloc)?;
-    let mut pool = Pool::new(alloc, 2, policy.fuel())?;
+    let mut pool = Pool::<Browser>::new(alloc, 2, policy.fuel())?;
     counted(alloc, &policy, lines, &mut pool, &mut copies, &mut turns)
 }

@@ -13,6 +13,7 @@ ghost use Rattle.std.specs.Prelude.{◌≡◌, false};
 ghost use Rattle.std.specs.Bool.{OnTrue};
 ghost use Rattle.ff_pool.specs.Pooled.{size};
 
+use ff_core::Browser;
 use ff_name::Level;
 use ff_pool::Pool;
 use std::io;
@@ -20,7 +21,7 @@ use std::marker::Brand;
 use std::sync::ledger::Blank;
 
 /// Whether the pool isn't spent and has two levels.
-fn is_of_two(pool: &Pool) -> bool
+fn is_of_two(pool: &Pool<Browser>) -> bool
     ensures unspent { OnTrue result (pool.now.spent ≡ false) }
     ensures levels { OnTrue result (size pool.now ≡ 2) }
 {
@@ -30,7 +31,7 @@ fn is_of_two(pool: &Pool) -> bool
 /// How many levels are in the class of each level, and whether each is quiet.
 type Classes = Option<(u32, u32, bool, bool)>;
 
-fn classes(pool: &Pool) -> Classes {
+fn classes(pool: &Pool<Browser>) -> Classes {
     if !is_of_two(pool) {
         return None;
     }

@@ -3,7 +3,7 @@
 ghost use Rattle.std.specs.Prelude.{◌<◌, ◌≤◌, All, IfOk};
 ghost use Rattle.ff_pool.specs.Restored.{IsReady};
 
-use ff_core::Browser;
+use ff_core::{Browser, Reactor};
 use ff_lattice::LevelSet;
 use ff_name::Level;
 use ff_pool::{Browsers, NoMemory, Pool};
@@ -34,7 +34,7 @@ fn classes_of(alloc: Global, words: &str) -> Result<Vec<LevelSet>, NoMemory> {
 }
 
 /// So many new browsers.
-fn browsers_of(alloc: Global, count: u8) -> Result<Browsers, NoMemory>
+fn browsers_of(alloc: Global, count: u8) -> Result<Browsers<Browser>, NoMemory>
     ensures { IfOk result (λ browsers. All (IsReady 5) browsers) }
 {
     let mut browsers = Vec::new(alloc);
@@ -45,7 +45,7 @@ fn browsers_of(alloc: Global, count: u8) -> Result<Browsers, NoMemory>
 }
 
 /// A pool of so many levels and browsers, where there is one.
-fn restored(alloc: Global, n: u8, count: u8, words: &str) -> Result<Option<Pool>, NoMemory>
+fn restored(alloc: Global, n: u8, count: u8, words: &str) -> Result<Option<Pool<Browser>>, NoMemory>
     requires { n ≤ 9 }
 {
     let classes = classes_of(alloc, words)?;
@@ -61,7 +61,7 @@ fn parts_of(line: &str) -> Option<(u8, u8, &str)> {
 }
 
 /// Prints how many levels are one copy with each level of a pool, and whether its browser is quiet.
-fn show_pool(rt: &HostRuntime, pool: &Pool) -> io::Result<()> {
+fn show_pool(rt: &HostRuntime, pool: &Pool<Browser>) -> io::Result<()> {
     if pool.spent() {
         return println!(rt; " spent");
     }

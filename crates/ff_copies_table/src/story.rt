@@ -11,7 +11,7 @@
 //! | `fork` | a fork of the pool is kept, in place of the one before |
 //! | `swap` | the story goes on with the fork, and the pool is kept in its place |
 ghost use Rattle.std.specs.Prelude.{◌≡◌, ◌<◌, ◌≤◌, All, IfOk, IfSome, OnOk, false};
-ghost use Rattle.ff_core.specs.declared.browser.TheConstants.{MOST_BUDGET};
+ghost use Rattle.ff_reactor.specs.declared.reactor.TheConstants.{MOST_BUDGET};
 ghost use Rattle.ff_lattice.specs.Order.{size as count_levels};
 ghost use Rattle.ff_value.specs.Spelled.{IsWellSpelledInput};
 ghost use Rattle.ff_trace.specs.Lines.{IsInputOf};
@@ -21,6 +21,7 @@ ghost use Rattle.ff_pool.specs.Events.{IsEvent};
 
 use crate::counting::{input_of, offers, two_offers};
 use crate::{Classes, classes, is_of_two, show_classes};
+use ff_core::Browser;
 use ff_name::Level;
 use ff_policy::Policy;
 use ff_pool::{Event, NoMemory, Pool};
@@ -45,8 +46,8 @@ struct Ending {
 /// The pool that a story is of, and the one that is kept.
 #[derive(Drop)]
 struct Pools {
-    pool: Pool,
-    kept: Pool,
+    pool: Pool<Browser>,
+    kept: Pool<Browser>,
 }
 
 /// What is told of a story: the classes after each line, the endings of the pool and of its fork,
@@ -101,8 +102,8 @@ fn new_pools(alloc: Global, fuel: u32) -> Result<Pools, NoMemory>
     requires some { 1 ≤ fuel }
     requires most { fuel ≤ MOST_BUDGET }
 {
-    let pool = Pool::new(alloc, 2, fuel)?;
-    let kept = Pool::new(alloc, 2, fuel)?;
+    let pool = Pool::<Browser>::new(alloc, 2, fuel)?;
+    let kept = Pool::<Browser>::new(alloc, 2, fuel)?;
     Ok(Pools { pool, kept })
 }
 
@@ -119,7 +120,7 @@ fn slice_of(rest: &str) -> Result<u32, NoMemory>
 /// Makes so many steps of a level's class.
 fn make_steps<C: Ledger, L: Ledger>(
     rest: &str,
-    pool: &mut Pool,
+    pool: &mut Pool<Browser>,
     copies: &mut Steps<C>,
     turns: &mut Steps<L>,
 ) -> Result<(), NoMemory> {
@@ -139,7 +140,7 @@ fn arrive<C: Ledger>(
     policy: &Policy,
     word: &str,
     rest: &str,
-    pool: &mut Pool,
+    pool: &mut Pool<Browser>,
     copies: &mut Steps<C>,
 ) -> Result<(), NoMemory> {
     if !is_of_two(pool) {
@@ -280,7 +281,12 @@ fn events_of<'a>(
 }
 
 /// The lines of all that a level's copy has put.
-fn put_by(alloc: Global, policy: &Policy, pool: &mut Pool, l: u8) -> Result<Vec<u8>, NoMemory>
+fn put_by(
+    alloc: Global,
+    policy: &Policy,
+    pool: &mut Pool<Browser>,
+    l: u8,
+) -> Result<Vec<u8>, NoMemory>
     requires { l < 2 }
 {
     let mut text = Vec::new(alloc);
@@ -294,7 +300,7 @@ fn put_by(alloc: Global, policy: &Policy, pool: &mut Pool, l: u8) -> Result<Vec<
 }
 
 /// What is told of a pool in the end.
-fn end_of(alloc: Global, policy: &Policy, pool: &mut Pool) -> Result<Ending, NoMemory> {
+fn end_of(alloc: Global, policy: &Policy, pool: &mut Pool<Browser>) -> Result<Ending, NoMemory> {
     let classes = classes(pool);
     Ok(Ending {
         low: put_by(alloc, policy, pool, 0)?,
@@ -314,7 +320,7 @@ fn play<C: Ledger, L: Ledger>(
 ) -> Result<Ending, NoMemory> {
     let lines = lines_of(alloc, policy, lines)?;
     let events = events_of(alloc, policy, &lines)?;
-    let mut pool = Pool::new(alloc, 2, policy.fuel())?;
+    let mut pool = Pool::<Browser>::new(alloc, 2, policy.fuel())?;
     play_all(&events, &mut pool, copies, turns)?;
     end_of(alloc, policy, &mut pool)
 }
@@ -322,7 +328,7 @@ fn play<C: Ledger, L: Ledger>(
 /// Lets a pool of two levels play all events.
 fn play_all<C: Ledger, L: Ledger>(
     events: &[Event<'_>],
-    pool: &mut Pool,
+    pool: &mut Pool<Browser>,
     copies: &mut Steps<C>,
     turns: &mut Steps<L>,
 ) -> Result<(), NoMemory>

@@ -1,5 +1,4 @@
 pub mod Holding
-pub mod Keeping
 pub mod Turning
 pub mod Lifted
 pub mod Pointed

@@ -9,11 +9,10 @@
 mod browser;
 mod calls;
 mod inputs;
-mod law;
 mod parts;
 mod replies;
 mod turns;
 
-pub use browser::{Browser, MOST_BUDGET};
+pub use browser::Browser;
 pub use ff_name::NoMemory;
-pub use law::an_input_takes_few_turns;
+pub use ff_reactor::{MOST_BUDGET, Reactor};

@@ -10,7 +10,7 @@ use Rattle.ff_value.specs.declared.output.Out.{Out}
 use Rattle.ff_machine.specs.State.{State}
 use Rattle.ff_machine.specs.Valid.{IsState}
 use Rattle.ff_machine.specs.Machine.{reactor}
-use Rattle.ff_core.proofs.Keeping.{keeps, fuelled}
+use Rattle.ff_reactor.proofs.Keeping.{keeps, fuelled}
 use Rattle.ff_reactive.specs.Worlds.{Copy, leader, offer, each, copy_at, step_copy, offered, emptied, has_work, step_turns, new_leader, split, new_world, world_arrive, world_turn, world_take, Ends, IsCopy, AreOffers}
 use Rattle.ff_reactive.proofs.Below.{length-each, get_or-each, each_agree}
 use Rattle.ff_reactive.specs.Runs.{Handled}

@@ -13,7 +13,7 @@ use Rattle.ff_value.specs.contracts.input.Input as input
 use Rattle.ff_machine.specs.State.{State, empty}
 use Rattle.ff_machine.specs.Valid.{IsState}
 use Rattle.ff_machine.specs.Machine.{reactor}
-use Rattle.ff_core.specs.contracts.browser.Browser as browser
+use Rattle.ff_machine.specs.Codes.{coded_state}
 use Rattle.ff_reactive.specs.Worlds.{Copy, World, IsWorld, each, leader, offer, split, stepped, works, step_turns}
 
 -- the copy of a class: the state of its browser, and the inputs that wait
@@ -23,7 +23,7 @@ pub record Head : Type 0 where
 
 abbrev pub coded_head : Coded Head
 coded_head =
-    code_by (State × List Input) (coded× browser.the_row.coded (coded_list input.the_row.coded)) (λ h. (h.state, h.inbox)) (λ p. record { state = p.0; inbox = p.1 }) (λ _. refl)
+    code_by (State × List Input) (coded× coded_state (coded_list input.the_row.coded)) (λ h. (h.state, h.inbox)) (λ p. record { state = p.0; inbox = p.1 }) (λ _. refl)
 
 -- a browser to which nothing was offered
 abbrev pub new_head : ℕ → Head

@@ -8,7 +8,7 @@ use Rattle.ff_value.specs.contracts.input.Input as input
 use Rattle.ff_value.specs.contracts.output.Out as out
 use Rattle.ff_machine.specs.State.{State}
 use Rattle.ff_machine.specs.Machine.{reactor}
-use Rattle.ff_core.specs.contracts.browser.Browser as browser
+use Rattle.ff_machine.specs.Codes.{coded_state}
 use Rattle.ff_reactive.specs.Worlds as worlds
 use Rattle.ff_reactive.specs.Worlds.{Copy, World, Event, new_world, world_arrive, world_turn, world_take, world_drain, world_left, play_events, AreOffers}
 use Rattle.ff_value.specs.Same.{same_input}
@@ -24,7 +24,7 @@ pub record Pooled : Type 0 where
 abbrev coded_copy : Coded (Copy Input Out State)
 coded_copy =
     code_by (State × (List Input × List Out))
-    (coded× browser.the_row.coded (coded× (coded_list input.the_row.coded) (coded_list out.the_row.coded)))
+    (coded× coded_state (coded× (coded_list input.the_row.coded) (coded_list out.the_row.coded)))
     (λ c. (c.state, (c.inbox, c.outputs))) (λ p. record { state = p.0; inbox = p.1.0; outputs = p.1.1 }) (λ _. refl)
 
 abbrev pub coded_pooled : Coded Pooled

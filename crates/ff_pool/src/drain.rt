@@ -5,13 +5,13 @@ ghost use Rattle.ff_pool.specs.Pooled as pooled;
 ghost use Rattle.ff_pool.specs.Pooled.{size, drained, left};
 
 use crate::pool::Pool;
-use ff_core::NoMemory;
 use ff_name::Level;
+use ff_reactor::{NoMemory, Reactor};
 use ff_steps::Steps;
 use std::alloc::AllocError;
 use std::sync::ledger::Ledger;
 
-impl Pool {
+impl<B: Reactor> Pool<B> {
     /// Lets all classes make steps until every level is quiet and no input waits. It visits the
     /// classes in the order of their least levels, again and again, for at most `slice` steps each.
     /// `turns` counts the turns of each class once. After want of memory the pool is spent.

@@ -1,13 +1,12 @@
 //! The copy of one class: a browser, and the inputs that wait for it.
 ghost use Rattle.std.specs.Prelude.{◌≡◌, ◌+◌, ◌≤◌, ◌++◌, ◌∷◌, [], false, All, IfOk, OnOk, OnErr, Some};
 ghost use Rattle.ff_value.specs.Spelled.{IsWellSpelledInput};
-ghost use Rattle.ff_core.specs.Copies.{turning};
 ghost use Rattle.ff_machine.specs.Valid.{IsState};
-ghost use Rattle.ff_core.specs.declared.browser.TheConstants.{MOST_BUDGET};
+ghost use Rattle.ff_reactor.specs.declared.reactor.TheConstants.{MOST_BUDGET};
 ghost use Rattle.ff_pool.specs.Heads.{IsStepped, MayCount, new_head, step_of, step_head, offer_head, head_works, head_turns};
 
 use ff_classes::Inbox;
-use ff_core::{Browser, NoMemory};
+use ff_reactor::{NoMemory, Reactor};
 use ff_steps::Steps;
 use ff_value::{Input, Out};
 use std::alloc::Global;
@@ -16,39 +15,39 @@ use std::sync::ledger::Ledger;
 
 /// A browser, and the inputs that wait for it in order.
 #[derive(Drop)]
-pub(crate) struct Group {
-    browser: Browser,
+pub(crate) struct Group<B: Reactor> {
+    browser: B,
     inbox: Inbox,
 }
 
-impl Model for Group {
+impl<B: Reactor> Model for Group<B> {
     ghost use Rattle.ff_pool.specs.Heads.{Head, coded_head};
 
     ghost Value = { Head };
 
     ghost coded = { coded_head };
 
-    ghost view = { λ g. record { state = g.browser; inbox = g.inbox } };
+    ghost view = { λ g. record { state = B.state g.browser; inbox = g.inbox } };
 }
 
-impl Group {
+impl<B: Reactor> Group<B> {
     /// A browser to which each input brings so much fuel, from 1 to `MOST_BUDGET`. Nothing waits
     /// for it.
-    pub(crate) fn new(alloc: Global, fuel: u32) -> Group
+    pub(crate) fn new(alloc: Global, fuel: u32) -> Group<B>
         requires some { 1 ≤ fuel }
         requires few { fuel ≤ MOST_BUDGET }
         ensures { result ≡ new_head fuel }
     {
         Group {
-            browser: Browser::new(alloc, fuel),
+            browser: B::new(alloc, fuel),
             inbox: Inbox::new(alloc),
         }
     }
 
     /// A group of this browser. Nothing waits for it.
-    pub(crate) fn of(alloc: Global, browser: Browser) -> Group
-        ensures made { result ≡ record { state = browser; inbox = [] } }
-        ensures valid { IsState browser.budget browser }
+    pub(crate) fn of(alloc: Global, browser: B) -> Group<B>
+        ensures made { result ≡ record { state = B.state browser; inbox = [] } }
+        ensures valid { IsState (B.state browser).budget (B.state browser) }
     {
         let _known = browser.quiet();
         Group {
@@ -58,7 +57,7 @@ impl Group {
     }
 
     /// An equal group, and neither changes with the other. Its one refusal is want of memory.
-    pub(crate) fn fork<C: Ledger>(&self, copies: &mut Steps<C>) -> Result<Group, NoMemory>
+    pub(crate) fn fork<C: Ledger>(&self, copies: &mut Steps<C>) -> Result<Group<B>, NoMemory>
         ensures equal { IfOk result (λ group. group ≡ self.now) }
         ensures copies { copies.new ≡ copies.old }
     {
@@ -70,8 +69,8 @@ impl Group {
     }
 
     /// The browser.
-    pub(crate) fn browser(&self) -> &Browser
-        ensures { result.now ≡ self.now.state }
+    pub(crate) fn browser(&self) -> &B
+        ensures { B.state result.now ≡ self.now.state }
     {
         &self.browser
     }
@@ -105,7 +104,7 @@ impl Group {
         ensures most { turns.new ≤ turns.old + head_turns self.old }
         ensures turns_later { turns.old ≤ turns.new }
         ensures later { copies.old ≤ copies.new }
-        ensures copies { self.old.state.quiet ≡ false → copies.new ≤ copies.old + turning self.old.state }
+        ensures copies { self.old.state.quiet ≡ false → copies.new ≤ copies.old + B.turning self.old.state }
     {
         if !self.browser.quiet() {
             return self.browser.turn(outs, copies, turns);

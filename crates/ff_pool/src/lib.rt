@@ -6,7 +6,8 @@
 //! copy of a class does, all of them do, so it is done once. Offers that differ part a class, at
 //! any moment, also in the middle of a script; classes never join again.
 //!
-//! The pool knows what a level is offered and not why: it knows no policy.
+//! The pool knows what a level is offered and not why: it knows no policy. Nor does it know what a
+//! browser is made of: any [`Reactor`] will do.
 //!
 //! It holds a slot for each level and an array of leaders, the least level of each class. Classes
 //! only part, so a slot that leads no class is the empty browser. In a drain a class is visited
@@ -29,6 +30,6 @@ mod restoring;
 mod steps;
 
 pub use event::Event;
-pub use ff_core::{Browser, NoMemory};
+pub use ff_reactor::{MOST_BUDGET, NoMemory, Reactor};
 pub use pool::Pool;
 pub use restoring::Browsers;

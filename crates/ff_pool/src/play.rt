@@ -7,12 +7,12 @@ ghost use Rattle.ff_pool.specs.Events.{events_of, played_one, turns_of_event, tu
 
 use crate::event::Event;
 use crate::pool::Pool;
-use ff_core::NoMemory;
+use ff_reactor::{NoMemory, Reactor};
 use ff_steps::Steps;
 use std::alloc::AllocError;
 use std::sync::ledger::Ledger;
 
-impl Pool {
+impl<B: Reactor> Pool<B> {
     /// The events in order, where a step of a level without work changes nothing. `turns` counts
     /// the turns of each class once, as single steps do. After want of memory the pool is spent.
     ///

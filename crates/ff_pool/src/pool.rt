@@ -1,7 +1,6 @@
 //! The pool and its single steps.
-ghost use Rattle.std.specs.Prelude.{◌≡◌, ◌+◌, ◌<◌, ◌≤◌, ◌↔◌, true, false, not, All, IsTrue, IfOk, OnOk, OnErr};
-ghost use Rattle.ff_core.specs.Copies.{turning};
-ghost use Rattle.ff_core.specs.declared.browser.TheConstants.{MOST_BUDGET};
+ghost use Rattle.std.specs.Prelude.{◌≡◌, ◌+◌, ◌<◌, ◌≤◌, ◌↔◌, true, false, not, All, IsTrue, IfOk, OnOk, OnErr, map};
+ghost use Rattle.ff_reactor.specs.declared.reactor.TheConstants.{MOST_BUDGET};
 ghost use Rattle.ff_lattice.specs.declared.names.TheConstants.{MOST_LEVELS};
 ghost use Rattle.ff_reactive.specs.Worlds.{leader};
 ghost use Rattle.ff_pool.specs.Draining.{IsOnward, steps_left};
@@ -17,23 +16,23 @@ use crate::steps::{
     arrive_heads, browser_of, forked_heads, forked_outs, has_work, step_class, steps_class,
 };
 use ff_classes::{Outs, class_of, leaders_of};
-use ff_core::{Browser, NoMemory};
 use ff_lattice::LevelSet;
 use ff_name::Level;
+use ff_reactor::{NoMemory, Reactor};
 use ff_steps::Steps;
 use ff_value::{Offers, Out};
 use std::alloc::{AllocError, Global};
 use std::marker::Model;
 use std::sync::ledger::Ledger;
 
-/// One copy of the browser for each level, where the levels of one class share theirs.
-pub struct Pool {
+/// One copy of a browser `B` for each level, where the levels of one class share theirs.
+pub struct Pool<B: Reactor> {
     alloc: Global,
     fuel: u32,
     /// Set while a call changes the parts, so it stays set where the call finds no memory.
     spent: bool,
     /// The copies of the classes, at the places of the levels that lead them.
-    heads: Vec<Group>,
+    heads: Vec<Group<B>>,
     /// The outputs of each level.
     puts: Vec<Outs>,
     /// For each level the least level of its class.
@@ -41,7 +40,7 @@ pub struct Pool {
 }
 
 // Written out, so that the proof of a caller sees one call and not a part for each field.
-impl Drop for Pool {
+impl<B: Reactor> Drop for Pool<B> {
     fn drop(self) {
         let Pool {
             alloc: _,
@@ -54,7 +53,7 @@ impl Drop for Pool {
     }
 }
 
-impl Model for Pool {
+impl<B: Reactor> Model for Pool<B> {
     ghost use Rattle.std.specs.Prelude.{◌≡◌, false};
     ghost use Rattle.ff_pool.specs.Pooled.{Pooled, coded_pooled, seen};
     ghost use Rattle.ff_pool.specs.Heads.{IsKept};
@@ -68,11 +67,11 @@ impl Model for Pool {
     ghost invariant = { λ p. p.spent ≡ false → IsKept p.fuel p.heads.items p.puts.items p.leaders.items };
 }
 
-impl Pool {
+impl<B: Reactor> Pool<B> {
     /// A pool of `n` levels, from 1 to `MOST_LEVELS`, all in one class, to whose browsers each
     /// input brings so much fuel, from 1 to `MOST_BUDGET`. Its one refusal is want of memory.
     #[tactic(auto, using(crate::proofs::Making::made_more))]
-    pub fn new(alloc: Global, n: u8, fuel: u32) -> Result<Pool, NoMemory>
+    pub fn new(alloc: Global, n: u8, fuel: u32) -> Result<Pool<B>, NoMemory>
         requires some { 1 ≤ n }
         requires most { n ≤ MOST_LEVELS }
         requires fuel_some { 1 ≤ fuel }
@@ -106,13 +105,13 @@ impl Pool {
         n: u8,
         fuel: u32,
         classes: &[LevelSet],
-        browsers: Browsers,
-    ) -> Result<Option<Pool>, NoMemory>
+        browsers: Browsers<B>,
+    ) -> Result<Option<Pool<B>>, NoMemory>
         requires most { n ≤ MOST_LEVELS }
         requires fuel_some { 1 ≤ fuel }
         requires fuel_most { fuel ≤ MOST_BUDGET }
-        requires ready { All (IsReady fuel) browsers }
-        ensures { IfOk result (Restores (IsResting n fuel) pool_recs (record { classes = classes.now; browsers = browsers })) }
+        requires ready { All (λ browser. IsReady fuel (B.state browser)) browsers }
+        ensures { IfOk result (Restores (IsResting n fuel) pool_recs (record { classes = classes.now; browsers = map B.state browsers })) }
     {
         if classes.len() != browsers.len() {
             return Ok(None);
@@ -191,10 +190,10 @@ impl Pool {
     }
 
     /// The browser of a level.
-    pub fn browser(&self, l: Level) -> &Browser
+    pub fn browser(&self, l: Level) -> &B
         requires unspent { self.now.spent ≡ false }
         requires level { l.0 < size self.now }
-        ensures { result.now ≡ (copy_of self.now l.0).state }
+        ensures { B.state result.now ≡ (copy_of self.now l.0).state }
     {
         browser_of(
             self.heads.as_slice(),
@@ -252,7 +251,7 @@ impl Pool {
         ensures most { turns.new ≤ turns.old + step_turns self.old l.0 }
         ensures turns_later { turns.old ≤ turns.new }
         ensures later { copies.old ≤ copies.new }
-        ensures copies { (copy_of self.old l.0).state.quiet ≡ false → copies.new ≤ copies.old + turning (copy_of self.old l.0).state }
+        ensures copies { (copy_of self.old l.0).state.quiet ≡ false → copies.new ≤ copies.old + B.turning (copy_of self.old l.0).state }
     {
         if self.spent {
             return Err(AllocError);
@@ -323,7 +322,7 @@ impl Pool {
     }
 
     /// An equal pool, and neither changes with the other. Want of memory leaves this pool as it is.
-    pub fn fork<C: Ledger>(&self, copies: &mut Steps<C>) -> Result<Pool, NoMemory>
+    pub fn fork<C: Ledger>(&self, copies: &mut Steps<C>) -> Result<Pool<B>, NoMemory>
         ensures unspent { OnOk result (self.now.spent ≡ false) }
         ensures equal { IfOk result (λ pool. pool ≡ self.now) }
         ensures copies { copies.new ≡ copies.old }

@@ -1,32 +1,32 @@
 //! The heads and the outputs of a pool at rest.
-ghost use Rattle.std.specs.Prelude.{◌≡◌, ◌≤◌, [], All, IfOk, length};
-ghost use Rattle.ff_core.specs.declared.browser.TheConstants.{MOST_BUDGET};
+ghost use Rattle.std.specs.Prelude.{◌≡◌, ◌≤◌, [], All, IfOk, length, map};
+ghost use Rattle.ff_reactor.specs.declared.reactor.TheConstants.{MOST_BUDGET};
 ghost use Rattle.ff_classes.specs.Classes.{tops};
 ghost use Rattle.ff_pool.specs.Restored.{IsReady, HaveBrowsers};
 ghost use Rattle.ff_reactive.specs.Worlds.{each};
 
 use crate::group::Group;
 use ff_classes::Outs;
-use ff_core::{Browser, NoMemory};
+use ff_reactor::{NoMemory, Reactor};
 use ff_shared::OwnedList;
 use std::alloc::Global;
 
 /// Browsers, one for each class.
-pub type Browsers = OwnedList<Browser>;
+pub type Browsers<B> = OwnedList<B>;
 
 /// The heads of the levels: those that lead get these browsers in their order, and the others new
 /// ones. Its one refusal is want of memory.
-pub(crate) fn led_heads(
+pub(crate) fn led_heads<B: Reactor>(
     alloc: Global,
     fuel: u32,
     leaders: &[usize],
-    browsers: Browsers,
-) -> Result<Vec<Group>, NoMemory>
+    browsers: Browsers<B>,
+) -> Result<Vec<Group<B>>, NoMemory>
     requires fuel_some { 1 ≤ fuel }
     requires fuel_most { fuel ≤ MOST_BUDGET }
-    requires ready { All (IsReady fuel) browsers }
+    requires ready { All (λ browser. IsReady fuel (B.state browser)) browsers }
     requires count { length (tops leaders.now) ≡ length browsers }
-    ensures { IfOk result (λ heads. HaveBrowsers fuel leaders.now browsers heads.items) }
+    ensures { IfOk result (λ heads. HaveBrowsers fuel leaders.now (map B.state browsers) heads.items) }
 {
     let mut browsers = browsers.into_vec();
     let mut heads = Vec::new(alloc);

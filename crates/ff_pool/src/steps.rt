@@ -2,14 +2,13 @@
 ghost use Rattle.std.specs.Prelude.{◌≡◌, ◌+◌, ◌<◌, ◌≤◌, ℕ, [], false, length, slice_index_or, slice_set, All, IfOk, OnOk, OnErr};
 ghost use Rattle.std.specs.Option.{option_copied};
 ghost use Rattle.ff_value.specs.Spelled.{IsWellSpelledInput};
-ghost use Rattle.ff_core.specs.Copies.{turning};
 ghost use Rattle.ff_reactive.specs.Worlds.{leader, offer, split, AreLeaders};
 ghost use Rattle.ff_value.specs.Same.{same_input};
 ghost use Rattle.ff_pool.specs.Heads.{Head, HasArrived, HasForked, IsClassStepped, MayCount, step_of, step_head, offer_head, head_works, head_turns, given};
 
 use crate::group::Group;
 use ff_classes::{Outs, split, stay};
-use ff_core::{Browser, NoMemory};
+use ff_reactor::{NoMemory, Reactor};
 use ff_steps::Steps;
 use ff_value::{Input, Offers, Out};
 use std::alloc::Global;
@@ -17,9 +16,9 @@ use std::sync::ledger::Ledger;
 
 /// One step of a level's class: its one browser makes it, and each level of the class gets what it
 /// puts.
-pub(crate) fn step_class<C: Ledger, L: Ledger>(
+pub(crate) fn step_class<B: Reactor, C: Ledger, L: Ledger>(
     alloc: Global,
-    heads: &mut [Group],
+    heads: &mut [Group<B>],
     puts: &mut [Outs],
     leaders: &[usize],
     l: usize,
@@ -36,7 +35,7 @@ pub(crate) fn step_class<C: Ledger, L: Ledger>(
     ensures most { (d : Head) → turns.new ≤ turns.old + head_turns (slice_index_or heads.old (leader leaders.now l) d) }
     ensures turns_later { turns.old ≤ turns.new }
     ensures later { copies.old ≤ copies.new }
-    ensures copies { (d : Head) → (slice_index_or heads.old (leader leaders.now l) d).state.quiet ≡ false → copies.new ≤ copies.old + turning (slice_index_or heads.old (leader leaders.now l) d).state }
+    ensures copies { (d : Head) → (slice_index_or heads.old (leader leaders.now l) d).state.quiet ≡ false → copies.new ≤ copies.old + B.turning (slice_index_or heads.old (leader leaders.now l) d).state }
 {
     let top = leaders[l];
     let mut outs = Vec::new(alloc);
@@ -45,9 +44,9 @@ pub(crate) fn step_class<C: Ledger, L: Ledger>(
 }
 
 /// One step of a level's class, and up to `more` further ones as long as it has work.
-pub(crate) fn steps_class<C: Ledger, L: Ledger>(
+pub(crate) fn steps_class<B: Reactor, C: Ledger, L: Ledger>(
     alloc: Global,
-    heads: &mut [Group],
+    heads: &mut [Group<B>],
     puts: &mut [Outs],
     leaders: &[usize],
     l: usize,
@@ -92,7 +91,7 @@ fn give_class(
 }
 
 /// Whether the class of a level has work.
-pub(crate) fn has_work(heads: &[Group], leaders: &[usize], l: usize) -> bool
+pub(crate) fn has_work<B: Reactor>(heads: &[Group<B>], leaders: &[usize], l: usize) -> bool
     requires level { l < length leaders.now }
     requires led { leader leaders.now l < length heads.now }
     ensures { (d : Head) → result ≡ head_works (slice_index_or heads.now (leader leaders.now l) d) }
@@ -101,19 +100,23 @@ pub(crate) fn has_work(heads: &[Group], leaders: &[usize], l: usize) -> bool
 }
 
 /// The browser of a level's class.
-pub(crate) fn browser_of<'a>(heads: &'a [Group], leaders: &[usize], l: usize) -> &'a Browser
+pub(crate) fn browser_of<'a, B: Reactor>(
+    heads: &'a [Group<B>],
+    leaders: &[usize],
+    l: usize,
+) -> &'a B
     requires level { l < length leaders.now }
     requires led { leader leaders.now l < length heads.now }
-    ensures { (d : Head) → result.now ≡ (slice_index_or heads.now (leader leaders.now l) d).state }
+    ensures { (d : Head) → B.state result.now ≡ (slice_index_or heads.now (leader leaders.now l) d).state }
 {
     heads[leaders[l]].browser()
 }
 
 /// The offers arrive: the leaders part, new ones get forks of the browsers that led them, and each
 /// class gets its offer.
-pub(crate) fn arrive_heads<C: Ledger>(
+pub(crate) fn arrive_heads<B: Reactor, C: Ledger>(
     alloc: Global,
-    heads: &mut [Group],
+    heads: &mut [Group<B>],
     leaders: &mut Vec<usize>,
     offers: &Offers<'_>,
     copies: &mut Steps<C>,
@@ -132,9 +135,9 @@ pub(crate) fn arrive_heads<C: Ledger>(
 
 /// Classes whose levels are offered different things part, and new leaders get forks of the browsers
 /// that led them. Where none parts, this takes no memory.
-fn part_heads<C: Ledger>(
+fn part_heads<B: Reactor, C: Ledger>(
     alloc: Global,
-    heads: &mut [Group],
+    heads: &mut [Group<B>],
     leaders: &mut Vec<usize>,
     offers: &Offers<'_>,
     copies: &mut Steps<C>,
@@ -158,8 +161,8 @@ fn part_heads<C: Ledger>(
 
 /// Each level that leads a class now and led none before gets a fork of the browser and the inbox
 /// of its class.
-fn fork_heads<C: Ledger>(
-    heads: &mut [Group],
+fn fork_heads<B: Reactor, C: Ledger>(
+    heads: &mut [Group<B>],
     old: &[usize],
     new: &[usize],
     copies: &mut Steps<C>,
@@ -179,8 +182,8 @@ fn fork_heads<C: Ledger>(
 }
 
 /// One level gets a fork of another one's group.
-fn fork_head<C: Ledger>(
-    heads: &mut [Group],
+fn fork_head<B: Reactor, C: Ledger>(
+    heads: &mut [Group<B>],
     from: usize,
     to: usize,
     copies: &mut Steps<C>,
@@ -196,7 +199,11 @@ fn fork_head<C: Ledger>(
 }
 
 /// Each class gets the offer of its leader.
-fn offer_heads(heads: &mut [Group], leaders: &[usize], offers: &Offers<'_>) -> Result<(), NoMemory>
+fn offer_heads<B: Reactor>(
+    heads: &mut [Group<B>],
+    leaders: &[usize],
+    offers: &Offers<'_>,
+) -> Result<(), NoMemory>
     requires heads { length heads.old ≡ length leaders.now }
     requires count { length offers.now ≡ length leaders.now }
     ensures { OnOk result ((l : ℕ) (d : Head) → l < length leaders.now → leader leaders.now l ≡ l → slice_index_or heads.new l d ≡ offer_head (slice_index_or heads.old l d) (offer offers.now l)) }
@@ -210,7 +217,7 @@ fn offer_heads(heads: &mut [Group], leaders: &[usize], offers: &Offers<'_>) -> R
 }
 
 /// What is offered waits, where there is something.
-fn offer_head(head: &mut Group, offer: Option<&Input>) -> Result<(), NoMemory>
+fn offer_head<B: Reactor>(head: &mut Group<B>, offer: Option<&Input>) -> Result<(), NoMemory>
     ensures { OnOk result (head.new ≡ offer_head head.old (option_copied offer.entry)) }
 {
     match offer {
@@ -220,11 +227,11 @@ fn offer_head(head: &mut Group, offer: Option<&Input>) -> Result<(), NoMemory>
 }
 
 /// Forks of all these groups. Its one refusal is want of memory.
-pub(crate) fn forked_heads<C: Ledger>(
+pub(crate) fn forked_heads<B: Reactor, C: Ledger>(
     alloc: Global,
-    heads: &[Group],
+    heads: &[Group<B>],
     copies: &mut Steps<C>,
-) -> Result<Vec<Group>, NoMemory>
+) -> Result<Vec<Group<B>>, NoMemory>
     ensures equal { IfOk result (λ forks. forks.items ≡ heads.now) }
     ensures copies { copies.new ≡ copies.old }
 {

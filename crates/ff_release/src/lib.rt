@@ -8,5 +8,4 @@ mod walk;
 
 pub use ff_rules::{MOST_RULES_BYTES, Release, ReleaseFail, ReleaseFault, Rule, Rules};
 pub use law::a_released_run_tells_no_more_than_is_offered;
-pub use releasing::{Releasing, Standing};
 pub use walk::release;

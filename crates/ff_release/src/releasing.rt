@@ -2,35 +2,38 @@
 ghost use Rattle.std.specs.Prelude.{◌<◌};
 
 use ff_policy::Policy;
-use ff_pool::Pool;
+use ff_pool::{Pool, Reactor};
 use ff_rules::Release;
 use ff_session::take_offers;
 use ff_steps::Steps;
 use ff_stream::Taker;
 use ff_value::Input;
 use std::alloc::{AllocError, Global};
+use std::marker::PhantomData;
 use std::sync::ledger::Ledger;
 
 /// A copy of the browser for each level takes what the rules that are left offer to the level;
 /// levels that were offered the same so far share theirs.
-#[derive(Clone, Copy)]
-pub struct Releasing<'a> {
+#[derive(Drop)]
+pub(crate) struct Releasing<'a, B: Reactor> {
     /// It says what each level sees, and which level each line is at.
-    pub policy: &'a Policy,
+    pub(crate) policy: &'a Policy,
     /// How many steps a class makes before the next one has its turn, from 1 on.
-    pub slice: u32,
+    pub(crate) slice: u32,
+    /// Which kind of browser.
+    pub(crate) kind: PhantomData<B>,
 }
 
 /// Where a released run stands between two inputs.
 #[derive(Drop)]
-pub struct Standing {
+pub(crate) struct Standing<B: Reactor> {
     /// The copies.
-    pub pool: Pool,
+    pub(crate) pool: Pool<B>,
     /// What is left of the rules.
-    pub release: Release,
+    pub(crate) release: Release,
 }
 
-impl Taker for Releasing<'_> {
+impl<B: Reactor> Taker for Releasing<'_, B> {
     ghost use Rattle.std.specs.Prelude.{◌<◌, List};
     ghost use Rattle.ff_trace.specs.Lines.{IsInputOf};
     ghost use Rattle.ff_rules.specs.declared.rule.Rule.{Rule};
@@ -38,7 +41,7 @@ impl Taker for Releasing<'_> {
 
     type Item = Input;
 
-    type State = Standing;
+    type State = Standing<B>;
 
     ghost Start = { List Rule };
 
@@ -55,7 +58,7 @@ impl Taker for Releasing<'_> {
     fn take<C: Ledger, L: Ledger>(
         &self,
         alloc: Global,
-        state: &mut Standing,
+        state: &mut Standing<B>,
         item: &Input,
         text: &mut Vec<u8>,
         copies: &mut Steps<C>,

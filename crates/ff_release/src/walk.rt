@@ -10,19 +10,21 @@ use crate::releasing::{Releasing, Standing};
 use ff_io::Port;
 use ff_lattice::Lattice;
 use ff_policy::Policy;
+use ff_pool::Reactor;
 use ff_rules::{Release, Rules};
 use ff_session::{InputReader, new_pool, status_of};
 use ff_status::Status;
 use ff_steps::Steps;
 use ff_stream::stream;
 use std::alloc::Global;
+use std::marker::PhantomData;
 use std::sync::ledger::Ledger;
 
-/// Multi-executes the trace that the port gives, line by line, where these rules let a stated
-/// number of inputs pass to lower levels. A class makes up to `slice` steps before the next one has
+/// Multi-executes the trace that the port gives, line by line, with copies of a browser `B`, where
+/// these rules let a stated number of inputs pass to lower levels. A class makes up to `slice` steps before the next one has
 /// its turn, from 1 on. `turns` counts the turns of each class once, and `copies` the cells that
 /// are copied.
-pub fn release<P: Port, C: Ledger, L: Ledger>(
+pub fn release<B: Reactor, P: Port, C: Ledger, L: Ledger>(
     alloc: Global,
     policy: &Policy,
     rules: Rules,
@@ -39,11 +41,11 @@ pub fn release<P: Port, C: Ledger, L: Ledger>(
     ensures later_copies { copies.old ≤ copies.new }
 {
     let lattice = policy.lattice();
-    walk_release(alloc, policy, lattice, rules, slice, port, copies, turns)
+    walk_release::<B, P, C, L>(alloc, policy, lattice, rules, slice, port, copies, turns)
 }
 
 /// The same, by the levels of the policy.
-fn walk_release<P: Port, C: Ledger, L: Ledger>(
+fn walk_release<B: Reactor, P: Port, C: Ledger, L: Ledger>(
     alloc: Global,
     policy: &Policy,
     lattice: &Lattice,
@@ -60,7 +62,7 @@ fn walk_release<P: Port, C: Ledger, L: Ledger>(
     ensures later_copies { copies.old ≤ copies.new }
 {
     let reader = InputReader { lattice };
-    let pool = match new_pool(alloc, policy) {
+    let pool = match new_pool::<B>(alloc, policy) {
         Ok(pool) => pool,
         Err(_) => return Status::NoMemory,
     };
@@ -69,7 +71,11 @@ fn walk_release<P: Port, C: Ledger, L: Ledger>(
     let end = stream(
         alloc,
         &reader,
-        &Releasing { policy, slice },
+        &Releasing {
+            policy,
+            slice,
+            kind: PhantomData::<B>,
+        },
         &mut standing,
         port,
         copies,

@@ -8,6 +8,7 @@ ghost use Rattle.ff_session.specs.Closing.{IsClosed};
 ghost use Rattle.ff_session.specs.Giving.{Gives};
 ghost use Rattle.ff_session.specs.Works.{Exchanged};
 
+use ff_core::Browser;
 use ff_io::Port;
 use ff_policy::Policy;
 use ff_pool::Pool;
@@ -27,7 +28,7 @@ pub fn resume<P: Port, C: Ledger, L: Ledger>(
     alloc: Global,
     policy: &Policy,
     slice: u32,
-    pool: Pool,
+    pool: Pool<Browser>,
     port: &mut P,
     copies: &mut Steps<C>,
     turns: &mut Steps<L>,
@@ -46,7 +47,7 @@ pub fn resume<P: Port, C: Ledger, L: Ledger>(
 }
 
 /// Puts the saved text of the pool, once a good trace was read.
-fn finish<P: Port>(alloc: Global, policy: &Policy, pool: &Pool, port: &mut P) -> Status
+fn finish<P: Port>(alloc: Global, policy: &Policy, pool: &Pool<Browser>, port: &mut P) -> Status
     requires rests { IsResting (size policy.now.order) policy.now.fuel pool.now }
     ensures closed { IsClosed End.Done Status.Done (saved_text policy.now (saved_recs pool.now)) (P.log port.old) (P.log port.new) (P.write_faults port.old) (P.write_faults port.new) result }
     ensures rest { P.rest port.new ≡ P.rest port.old }

@@ -9,6 +9,7 @@ ghost use Rattle.ff_words.specs.declared.words.Command.{Command};
 
 use crate::named::find;
 use crate::rules::RulesFile;
+use ff_core::Browser;
 use ff_io::{Port, Shelf};
 use ff_policy::Policy;
 use ff_release::release;
@@ -41,7 +42,7 @@ pub(crate) fn release_by<S: Shelf, P: Port, C: Ledger, L: Ledger>(
 {
     let _known = policy.lattice();
     match find(alloc, &RulesFile { policy }, shelf, file, copies) {
-        Ok(rules) => release(alloc, policy, rules, slice, port, copies, turns),
+        Ok(rules) => release::<Browser, P, C, L>(alloc, policy, rules, slice, port, copies, turns),
         Err(status) => status,
     }
 }

@@ -5,6 +5,7 @@ ghost use Rattle.ff_run.specs.States.{IsBadState};
 ghost use Rattle.ff_save.specs.Whole.{IsSaved};
 
 use crate::named::Named;
+use ff_core::Browser;
 use ff_policy::Policy;
 use ff_pool::Pool;
 use ff_save::{MOST_SAVED_BYTES, SavedFail, read_saved};
@@ -30,7 +31,7 @@ impl Named for StateFile<'_> {
     ghost use Rattle.ff_run.specs.declared.states.TheConstants.{MOST_FETCHED};
     ghost use Rattle.ff_save.specs.Whole.{IsSaved};
 
-    type Found = Pool;
+    type Found = Pool<Browser>;
 
     ghost at_dash = { λ file. new_copies file.policy.now };
 
@@ -46,7 +47,7 @@ impl Named for StateFile<'_> {
         MOST_FETCHED
     }
 
-    fn at_dash(&self, alloc: Global) -> Result<Pool, AllocError> {
+    fn at_dash(&self, alloc: Global) -> Result<Pool<Browser>, AllocError> {
         let lattice = self.policy.lattice();
         Pool::new(alloc, lattice.size(), self.policy.fuel())
     }
@@ -58,7 +59,7 @@ impl Named for StateFile<'_> {
         alloc: Global,
         bytes: &[u8],
         copies: &mut Steps<C>,
-    ) -> Result<Pool, Status> {
+    ) -> Result<Pool<Browser>, Status> {
         match read_saved(alloc, self.policy, bytes, copies) {
             Ok(pool) => Ok(pool),
             Err(SavedFail::Fault(fault)) => Err(Status::Saved(fault)),

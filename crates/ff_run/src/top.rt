@@ -17,6 +17,7 @@ use crate::policies::PolicyFile;
 use crate::released::release_by;
 use crate::resumed::resume_by;
 use ff_audit::audit;
+use ff_core::Browser;
 use ff_io::{Port, Shelf, Sink};
 use ff_policy::Policy;
 use ff_session::walk;
@@ -212,11 +213,13 @@ fn perform<P: Port, C: Ledger, L: Ledger>(
     match command {
         Command::Check => check(alloc, lattice, port),
         Command::Upgrade => upgrade(alloc, policy, port),
-        Command::Audit => audit(alloc, policy, port, copies, turns),
-        Command::Travel => travel(alloc, policy, port, copies, turns),
-        Command::Trace(work) => walk(alloc, work, policy, slice, port, copies, turns),
+        Command::Audit => audit::<Browser, P, C, L>(alloc, policy, port, copies, turns),
+        Command::Travel => travel::<Browser, P, C, L>(alloc, policy, port, copies, turns),
+        Command::Trace(work) => walk::<Browser, P, C, L>(
+            alloc, work, policy, slice, port, copies, turns,
+        ),
         Command::Generate(start, inputs) => {
-            generate(alloc, policy, slice, start, inputs, port, copies, turns)
+            generate::<Browser, P, C, L>(alloc, policy, slice, start, inputs, port, copies, turns)
         }
         Command::Resume => unreachable!(),
         Command::Release => unreachable!(),

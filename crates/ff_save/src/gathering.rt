@@ -1,6 +1,6 @@
 //! The classes of a saved text, gathered from its lines.
 ghost use Rattle.std.specs.Prelude.{◌≡◌, ◌≢◌, ◌≤◌, false, IfOk};
-ghost use Rattle.ff_core.specs.declared.browser.TheConstants.{MOST_BUDGET};
+ghost use Rattle.ff_reactor.specs.declared.reactor.TheConstants.{MOST_BUDGET};
 ghost use Rattle.ff_lattice.specs.declared.names.TheConstants.{MOST_LEVELS};
 ghost use Rattle.ff_pool.specs.Restored.{IsResting};
 ghost use Rattle.ff_records.specs.Restored.{Restores};
@@ -133,7 +133,7 @@ impl Gathering {
         self,
         n: u8,
         copies: &mut Steps<C>,
-    ) -> Result<Option<Pool>, NoMemory>
+    ) -> Result<Option<Pool<Browser>>, NoMemory>
         requires some { 1 ≤ self.fuel }
         requires few { self.fuel ≤ MOST_BUDGET }
         requires most { n ≤ MOST_LEVELS }

@@ -14,6 +14,7 @@ ghost use Rattle.ff_saved.specs.declared.fault.SavedFault.{SavedFault};
 use crate::fail::SavedFail;
 use crate::gathering::Gathering;
 use crate::write::{policy_text, write_saved};
+use ff_core::Browser;
 use ff_io::split_line;
 use ff_name::{NoMemory, Text};
 use ff_policy::Policy;
@@ -38,7 +39,7 @@ pub fn read_saved<C: Ledger>(
     policy: &Policy,
     bytes: &[u8],
     copies: &mut Steps<C>,
-) -> Result<Pool, SavedFail>
+) -> Result<Pool<Browser>, SavedFail>
     ensures found { IfOk result (IsSaved policy.now bytes.now) }
     ensures only { (pool : Pooled) → IsSaved policy.now bytes.now pool → Answers result (Ok pool) (Err SavedFail.NoMemory) }
     ensures fault { IfErr result (λ fail. (fault : SavedFault) → fail ≡ SavedFail.Fault fault → HasFault policy.now bytes.now fault) }
@@ -61,7 +62,7 @@ fn read_pool<C: Ledger>(
     policy: &Policy,
     bytes: &[u8],
     copies: &mut Steps<C>,
-) -> Result<Option<Pool>, NoMemory>
+) -> Result<Option<Pool<Browser>>, NoMemory>
     requires utf8 { IsUtf8 (printed policy.now) }
     ensures value { IfOk result (IsPoolOf policy.now bytes.now) }
     ensures later { copies.old ≤ copies.new }
@@ -107,7 +108,12 @@ fn gather<C: Ledger>(
 }
 
 /// Whether these bytes are the saved text of the pool.
-fn is_text_of(alloc: Global, policy: &Policy, pool: &Pool, bytes: &[u8]) -> Result<bool, NoMemory>
+fn is_text_of(
+    alloc: Global,
+    policy: &Policy,
+    pool: &Pool<Browser>,
+    bytes: &[u8],
+) -> Result<bool, NoMemory>
     requires { IsResting (size policy.now.order) policy.now.fuel pool.now }
     ensures { IfOk result (λ same. IsTrue same ↔ (bytes.now ≡ saved_text policy.now (saved_recs pool.now))) }
 {

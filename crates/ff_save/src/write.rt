@@ -13,6 +13,7 @@ ghost use Rattle.ff_reactive.specs.Worlds.{leader};
 ghost use Rattle.ff_save.specs.LevelByLevel.{level_rows};
 ghost use Rattle.ff_save.specs.Saved.{saved_recs, saved_rows, saved_text};
 
+use ff_core::Browser;
 use ff_name::{Level, NoMemory, Text};
 use ff_policy::Policy;
 use ff_pool::Pool;
@@ -28,7 +29,7 @@ use std::alloc::Global;
 pub fn write_saved(
     alloc: Global,
     policy: &Policy,
-    pool: &Pool,
+    pool: &Pool<Browser>,
     out: &mut Vec<u8>,
 ) -> Result<(), NoMemory>
     requires { IsResting (size policy.now.order) policy.now.fuel pool.now }
@@ -50,7 +51,7 @@ pub(crate) fn policy_text(alloc: Global, policy: &Policy) -> Result<Text, NoMemo
     Text::of_utf8(alloc, bytes.as_slice())
 }
 
-fn write_rows(policy: &Policy, text: &Text, pool: &Pool, out: &mut Printer)
+fn write_rows(policy: &Policy, text: &Text, pool: &Pool<Browser>, out: &mut Printer)
     requires policy_is { text.now ≡ printed policy.now }
     requires rests { IsResting (size policy.now.order) policy.now.fuel pool.now }
     ensures { Prints out.old out.new (rows_text policy.now.order (saved_rows policy.now (saved_recs pool.now))) }
@@ -61,7 +62,7 @@ fn write_rows(policy: &Policy, text: &Text, pool: &Pool, out: &mut Printer)
     put_end(out);
 }
 
-fn write_classes(policy: &Policy, pool: &Pool, out: &mut Printer)
+fn write_classes(policy: &Policy, pool: &Pool<Browser>, out: &mut Printer)
     requires { IsResting (size policy.now.order) policy.now.fuel pool.now }
     ensures { Prints out.old out.new (rows_text policy.now.order (flat_map (level_rows pool.now) (below (size policy.now.order)))) }
 {
@@ -71,7 +72,7 @@ fn write_classes(policy: &Policy, pool: &Pool, out: &mut Printer)
 }
 
 /// Appends the rows of the class of a level that is the least of it, and else nothing.
-fn write_level(policy: &Policy, level: Level, pool: &Pool, out: &mut Printer)
+fn write_level(policy: &Policy, level: Level, pool: &Pool<Browser>, out: &mut Printer)
     requires rests { IsResting (size policy.now.order) policy.now.fuel pool.now }
     requires there { level.0 < size policy.now.order }
     ensures { Prints out.old out.new (rows_text policy.now.order (level_rows pool.now level.0)) }
@@ -83,7 +84,7 @@ fn write_level(policy: &Policy, level: Level, pool: &Pool, out: &mut Printer)
 }
 
 /// Whether a level is the least of its class.
-fn leads(pool: &Pool, level: Level) -> bool
+fn leads(pool: &Pool<Browser>, level: Level) -> bool
     requires unspent { pool.now.spent ≡ false }
     requires there { level.0 < size_of pool.now }
     ensures { IsTrue result ↔ (leader pool.now.world.leaders level.0 ≡ level.0) }

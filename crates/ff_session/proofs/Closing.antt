@@ -6,7 +6,7 @@ use Rattle.std.specs.Result.{OnOk, OnErr}
 use Rattle.ff_io.specs.Counts.{Rose, HasCause}
 use Rattle.ff_io.specs.Pieces.{Piece, got_of, put_of, has_end, AllPut}
 use Rattle.ff_io.specs.Pieces.Piece.{Got, Put}
-use Rattle.ff_io.specs.Port.{Told, Adds, Leaves, AtEnd}
+use Rattle.ff_io.specs.Port.{Told, Adds, Leaves}
 use Rattle.ff_io.specs.Fronts.{IsFront, IsProperFront}
 use Rattle.ff_io.specs.Whole.{Puts}
 use Rattle.ff_io.proofs.Joins.{got_of-then_put, has_end-then_put, put_of-append, Adds-trans, Adds-nil}
@@ -22,7 +22,7 @@ use Rattle.ff_stream.specs.declared.end.End.{End}
 use Rattle.ff_stream.specs.declared.end.End.TheVariants.{Done, Bad, ReadFault, WriteFault, NoMemory}
 use Rattle.ff_stream.proofs.Laws as laws
 use Rattle.ff_session.specs.Closing.{IsEnded, ends_whole, Closes, IsClosed}
-use Rattle.ff_session.specs.Works.{Duty, AreGot, IsOwed, IsOwedMore, IsFinished, IsWritten, Exchanged, status_as, fault_as, is_whole}
+use Rattle.ff_session.specs.Works.{Duty, AreGot, IsOwed, IsOwedMore, IsFinished, IsWritten, Exchanged, status_as, is_whole}
 
 -- ---- fronts
 

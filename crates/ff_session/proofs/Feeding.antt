@@ -2,7 +2,7 @@
 use Rattle.std.proofs.Common.{◌≡◌, ℕ, ◌+◌, ◌<◌, Option, Some, List, [], ◌∷◌, ◌++◌, length, refl, sym, ap, subst, ◌∙◌, append-nil, append_assoc}
 use Rattle.ff_reactive.specs.Copies.{at_level}
 use Rattle.ff_reactive.specs.Text.{text_of}
-use Rattle.ff_reactive.specs.Worlds.{levels, copy_at, world_arrive, world_take, world_drain, world_left, AreOffers}
+use Rattle.ff_reactive.specs.Worlds.{copy_at, world_arrive, world_take, world_drain, world_left, AreOffers}
 use Rattle.ff_reactive.proofs.Text.{text_of_none, text_of-append}
 use Rattle.ff_reactive.proofs.Worlds.{new_world_ok, arrive_ok, take_ok, drain_ok, leaders-take}
 use Rattle.ff_reactive.specs.Standings.{Standing, Offering, fresh, puts_own, puts_below}

@@ -1,6 +1,6 @@
 -- Where copies stand, inputs leave them: each browser valid and quiet, and levels that are one copy
 -- with one browser.
-use Rattle.std.proofs.Common.{◌≡◌, ℕ, ◌+◌, true, Some, List, ◌++◌, All, refl}
+use Rattle.std.proofs.Common.{◌≡◌, ℕ, true, Some, List, ◌++◌, All, refl}
 use Rattle.ff_reactive.specs.Copies.{multi}
 use Rattle.ff_reactive.specs.Sharing.{work}
 use Rattle.ff_reactive.specs.Standings.{Standing, Offering, fresh, run, work_of}

@@ -1,6 +1,5 @@
 -- A browser takes an input and makes one turn after another until it is quiet.
 use Rattle.std.proofs.Common.{◌≡◌, ℕ, suc, ◌+◌, ◌-◌, ◌<◌, ◌≤◌, true, false, List, [], ◌∷◌, ◌++◌, sym, ap, subst, ◌∙◌, arith}
-use Rattle.ff_reactive.specs.Runs.{after}
 use Rattle.ff_reactive.specs.Turns.{settle, turns_left, IsSettling}
 use Rattle.ff_reactive.proofs.Runs.{after_more, after_start}
 use Rattle.ff_reactive.proofs.Turns.{settle_turn, settle_enough, settling_start, settling_turn, settling_room, handling_done, turns_left_falls}
@@ -77,6 +76,9 @@ module _ (s : State) (i : Input) (before : ℕ) (now : State) (outs : List Out) 
   -- a quiet state is the end
   pub outputs_done : now.quiet ≡ true → outs ≡ (handled s i).outputs
   outputs_done quiet = (handling_done (reactor s.budget) (s.budget + 1) s i [] now outs at.made at.settling quiet).0
+
+  pub state_done : now.quiet ≡ true → now ≡ (handled s i).after
+  state_done quiet = (handling_done (reactor s.budget) (s.budget + 1) s i [] now outs at.made at.settling quiet).1
 
   -- and each turn brings it nearer
   pub handling_falls : now.quiet ≡ false → turns_left (reactor s.budget) (λ t. t.fuel) (turn now).after < turns_left (reactor s.budget) (λ t. t.fuel) now

@@ -14,7 +14,7 @@ mod printing;
 mod work;
 
 pub use ending::{close, status_of};
-pub use ff_pool::{Browser, Pool};
+pub use ff_pool::{Pool, Reactor};
 pub use format::Formatting;
 pub use input_reader::InputReader;
 pub use law::{

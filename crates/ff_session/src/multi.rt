@@ -16,26 +16,29 @@ use crate::offered::{new_pool, take_offers};
 use crate::work::Work;
 use ff_io::Port;
 use ff_policy::Policy;
-use ff_pool::Pool;
+use ff_pool::{Pool, Reactor};
 use ff_route::offers;
 use ff_status::{Status, TraceFault};
 use ff_steps::Steps;
 use ff_stream::{End, Taker, stream};
 use ff_value::Input;
 use std::alloc::{AllocError, Global};
+use std::marker::PhantomData;
 use std::sync::ledger::Ledger;
 
 /// A copy of the browser for each level takes what the level sees of the inputs, from wherever the
 /// copies stand; levels that are one copy make their turns once.
-#[derive(Clone, Copy)]
-pub struct Copies<'a> {
+#[derive(Drop)]
+pub struct Copies<'a, B: Reactor> {
     /// It says what each level sees, and which level each line is at.
     pub policy: &'a Policy,
     /// How many steps a class makes before the next one has its turn, from 1 on.
     pub slice: u32,
+    /// Which kind of browser.
+    pub kind: PhantomData<B>,
 }
 
-impl Taker for Copies<'_> {
+impl<B: Reactor> Taker for Copies<'_, B> {
     ghost use Rattle.std.specs.Prelude.{◌<◌};
     ghost use Rattle.ff_trace.specs.Lines.{IsInputOf};
     ghost use Rattle.ff_machine.specs.State.{State as BrowserState};
@@ -44,7 +47,7 @@ impl Taker for Copies<'_> {
 
     type Item = Input;
 
-    type State = Pool;
+    type State = Pool<B>;
 
     ghost Start = { Standing BrowserState };
 
@@ -61,7 +64,7 @@ impl Taker for Copies<'_> {
     fn take<C: Ledger, L: Ledger>(
         &self,
         alloc: Global,
-        state: &mut Pool,
+        state: &mut Pool<B>,
         item: &Input,
         text: &mut Vec<u8>,
         copies: &mut Steps<C>,
@@ -76,11 +79,11 @@ impl Taker for Copies<'_> {
 /// class makes up to `slice` steps before the next one has its turn. After want of memory nothing
 /// is known of the pool.
 #[tactic(auto, using(crate::proofs::Giving::is_given))]
-pub fn walk_copies<P: Port, C: Ledger, L: Ledger>(
+pub fn walk_copies<B: Reactor, P: Port, C: Ledger, L: Ledger>(
     alloc: Global,
     policy: &Policy,
     slice: u32,
-    pool: &mut Pool,
+    pool: &mut Pool<B>,
     port: &mut P,
     copies: &mut Steps<C>,
     turns: &mut Steps<L>,
@@ -102,7 +105,11 @@ pub fn walk_copies<P: Port, C: Ledger, L: Ledger>(
     stream(
         alloc,
         &reader,
-        &Copies { policy, slice },
+        &Copies {
+            policy,
+            slice,
+            kind: PhantomData::<B>,
+        },
         pool,
         port,
         copies,
@@ -112,7 +119,7 @@ pub fn walk_copies<P: Port, C: Ledger, L: Ledger>(
 
 /// Multi-executes the trace that the port gives. A class makes up to `slice` steps before the next
 /// one has its turn.
-pub(crate) fn walk_multi<P: Port, C: Ledger, L: Ledger>(
+pub(crate) fn walk_multi<B: Reactor, P: Port, C: Ledger, L: Ledger>(
     alloc: Global,
     policy: &Policy,
     slice: u32,
@@ -124,7 +131,7 @@ pub(crate) fn walk_multi<P: Port, C: Ledger, L: Ledger>(
     ensures exchanged { Exchanged (Gives policy.now.order) (duty Work.Multi policy.now) (P.told port.old) (P.told port.new) turns.old turns.new result }
     ensures later_copies { copies.old ≤ copies.new }
 {
-    match new_pool(alloc, policy) {
+    match new_pool::<B>(alloc, policy) {
         Ok(mut pool) => status_of(
             walk_copies(alloc, policy, slice, &mut pool, port, copies, turns),
             Status::Done,

@@ -12,7 +12,7 @@ ghost use Rattle.ff_session.specs.Multi.{AreCopiesAt, AreTakenBelow, IsOffered, 
 
 use crate::printing::print_level;
 use ff_policy::Policy;
-use ff_pool::Pool;
+use ff_pool::{Pool, Reactor};
 use ff_steps::Steps;
 use ff_value::{Level, Offers};
 use std::alloc::{AllocError, Global};
@@ -22,10 +22,10 @@ use std::sync::ledger::Ledger;
 /// appends the lines of what they put, level by level. `turns` counts the turns of each class once.
 /// A class makes up to `slice` steps before the next one has its turn, from 1 on. Its one refusal
 /// is want of memory, and then the pool isn't used any more.
-pub fn take_offers<C: Ledger, L: Ledger>(
+pub fn take_offers<B: Reactor, C: Ledger, L: Ledger>(
     policy: &Policy,
     slice: u32,
-    pool: &mut Pool,
+    pool: &mut Pool<B>,
     offers: &Offers<'_>,
     text: &mut Vec<u8>,
     copies: &mut Steps<C>,
@@ -46,10 +46,10 @@ pub fn take_offers<C: Ledger, L: Ledger>(
 }
 
 /// Lets offers come to the levels, and all classes do what then waits.
-fn give<C: Ledger, L: Ledger>(
+fn give<B: Reactor, C: Ledger, L: Ledger>(
     policy: &Policy,
     slice: u32,
-    pool: &mut Pool,
+    pool: &mut Pool<B>,
     offers: &Offers<'_>,
     copies: &mut Steps<C>,
     turns: &mut Steps<L>,
@@ -69,7 +69,11 @@ fn give<C: Ledger, L: Ledger>(
 }
 
 /// Takes the outputs of each level in order, and appends the lines of those that are at the level.
-fn let_out(policy: &Policy, pool: &mut Pool, text: &mut Vec<u8>) -> Result<(), AllocError>
+fn let_out<B: Reactor>(
+    policy: &Policy,
+    pool: &mut Pool<B>,
+    text: &mut Vec<u8>,
+) -> Result<(), AllocError>
     requires { pooled.size pool.old ≡ size policy.now.order }
     ensures taken { OnOk result ((all : Offering Input) (from : Standing State) (is : List Input) (i : Input) → AreTakenBelow policy.now all from pool.old is i 0 → AreCopiesAt policy.now all from pool.new (is ++ i ∷ [])) }
     ensures text { OnOk result ((all : Offering Input) (from : Standing State) (is : List Input) (i : Input) → AreTakenBelow policy.now all from pool.old is i 0 → text.new.items ≡ text.old.items ++ copies_entry policy.now all from is i) }
@@ -84,7 +88,7 @@ fn let_out(policy: &Policy, pool: &mut Pool, text: &mut Vec<u8>) -> Result<(), A
 
 /// A pool for the levels of a policy, in which nothing came to any of them yet. It is refused only
 /// for want of memory.
-pub fn new_pool(alloc: Global, policy: &Policy) -> Result<Pool, AllocError>
+pub fn new_pool<B: Reactor>(alloc: Global, policy: &Policy) -> Result<Pool<B>, AllocError>
     ensures { IfOk result (λ pool. (all : Offering Input) → AreCopiesAt policy.now all (fresh (machine policy.now)) pool []) }
 {
     Pool::new(alloc, policy.lattice().size(), policy.fuel())

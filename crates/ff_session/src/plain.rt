@@ -10,29 +10,32 @@ use crate::printing::print_all;
 use crate::work::Work;
 use ff_io::Port;
 use ff_policy::Policy;
-use ff_pool::Browser;
+use ff_pool::Reactor;
 use ff_status::Status;
 use ff_steps::Steps;
 use ff_stream::{Taker, stream};
 use ff_value::Input;
 use std::alloc::{AllocError, Global};
+use std::marker::PhantomData;
 use std::sync::ledger::Ledger;
 
 /// One browser takes all inputs.
-#[derive(Clone, Copy)]
-pub struct Plain<'a> {
+#[derive(Drop)]
+pub struct Plain<'a, B: Reactor> {
     /// It says which level each line is at.
     pub policy: &'a Policy,
+    /// Which kind of browser.
+    pub kind: PhantomData<B>,
 }
 
-impl Taker for Plain<'_> {
+impl<B: Reactor> Taker for Plain<'_, B> {
     ghost use Rattle.std.specs.Prelude.{true};
     ghost use Rattle.ff_trace.specs.Lines.{IsInputOf};
     ghost use Rattle.ff_session.specs.Plain.{plain_entry, plain_turns, IsPlainAt};
 
     type Item = Input;
 
-    type State = Browser;
+    type State = B;
 
     ghost accepts = { λ taker input. IsInputOf taker.policy.now.order input };
 
@@ -40,14 +43,14 @@ impl Taker for Plain<'_> {
 
     ghost turns = { λ taker start. plain_turns taker.policy.now };
 
-    ghost is_at = { λ taker start. IsPlainAt taker.policy.now };
+    ghost is_at = { λ taker start browser. IsPlainAt taker.policy.now (B.state browser) };
 
     ghost copies_none = { λ taker. ⊥ };
 
     fn take<C: Ledger, L: Ledger>(
         &self,
         alloc: Global,
-        state: &mut Browser,
+        state: &mut B,
         item: &Input,
         text: &mut Vec<u8>,
         copies: &mut Steps<C>,
@@ -60,7 +63,7 @@ impl Taker for Plain<'_> {
 
 /// Runs one browser over the trace that the port gives.
 #[tactic(auto, using(crate::proofs::Giving::is_given, crate::proofs::Turning::fresh_plain))]
-pub(crate) fn walk_plain<P: Port, C: Ledger, L: Ledger>(
+pub(crate) fn walk_plain<B: Reactor, P: Port, C: Ledger, L: Ledger>(
     alloc: Global,
     policy: &Policy,
     port: &mut P,
@@ -72,11 +75,14 @@ pub(crate) fn walk_plain<P: Port, C: Ledger, L: Ledger>(
 {
     let lattice = policy.lattice();
     let reader = InputReader { lattice };
-    let mut browser = Browser::new(alloc, policy.fuel());
+    let mut browser = B::new(alloc, policy.fuel());
     let end = stream(
         alloc,
         &reader,
-        &Plain { policy },
+        &Plain {
+            policy,
+            kind: PhantomData::<B>,
+        },
         &mut browser,
         port,
         copies,

@@ -12,6 +12,7 @@ use crate::multi::walk_multi;
 use crate::plain::walk_plain;
 use ff_io::Port;
 use ff_policy::Policy;
+use ff_pool::Reactor;
 use ff_status::Status;
 use ff_steps::Steps;
 use std::alloc::Global;
@@ -28,11 +29,11 @@ pub enum Work {
     Format,
 }
 
-/// Does the work over the trace that the port gives, line by line: before the port is read again,
-/// the whole text of the lines that were got is written. `turns` counts the turns of all
+/// Does the work over the trace that the port gives, line by line, with browsers `B`: before the
+/// port is read again, the whole text of the lines that were got is written. `turns` counts the turns of all
 /// browsers, and `copies` the cells that are copied. Where the inputs are multi-executed, copies
 /// with work take turns, and each makes up to `slice` steps at a time, from 1 on.
-pub fn walk<P: Port, C: Ledger, L: Ledger>(
+pub fn walk<B: Reactor, P: Port, C: Ledger, L: Ledger>(
     alloc: Global,
     work: Work,
     policy: &Policy,
@@ -52,8 +53,8 @@ pub fn walk<P: Port, C: Ledger, L: Ledger>(
 {
     let lattice = policy.lattice();
     match work {
-        Work::Multi => walk_multi(alloc, policy, slice, port, copies, turns),
-        Work::Plain => walk_plain(alloc, policy, port, copies, turns),
+        Work::Multi => walk_multi::<B, P, C, L>(alloc, policy, slice, port, copies, turns),
+        Work::Plain => walk_plain::<B, P, C, L>(alloc, policy, port, copies, turns),
         Work::Format => walk_format(alloc, lattice, port, copies, turns),
     }
 }

@@ -4,7 +4,7 @@ use Rattle.std.proofs.lemmas.Bool.{eqb-true, eqb-false}
 use Rattle.ff_machine.specs.Machine.{reactor}
 use Rattle.ff_pool.specs.Pooled as pooled
 use Rattle.ff_pool.specs.Pooled.{Pooled, taken, copy_of}
-use Rattle.ff_reactive.specs.Worlds.{levels, emptied}
+use Rattle.ff_reactive.specs.Worlds.{emptied}
 use Rattle.ff_reactive.proofs.Worlds.{copy-take, leaders-take}
 use Rattle.ff_stream.specs.Owed.{Begins}
 use Rattle.ff_travel.specs.Beside.{put_at, under}

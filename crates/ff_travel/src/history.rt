@@ -12,7 +12,7 @@ use crate::showing::show;
 use crate::steps::{arrive, gather, go_back, keep, new_pool, no_outputs};
 use ff_commands::Command;
 use ff_policy::Policy;
-use ff_pool::{NoMemory, Pool};
+use ff_pool::{NoMemory, Pool, Reactor};
 use ff_steps::Steps;
 use std::alloc::{AllocError, Global};
 use std::marker::Model;
@@ -21,25 +21,26 @@ use std::sync::ledger::Ledger;
 /// How many steps a class makes at a time where all are drained.
 const SLICE: u32 = 1_000;
 
-/// The copies of a policy's levels, as they are and as they were before each command in force.
+/// The copies of a browser `B` for a policy's levels, as they are and as they were before each
+/// command in force.
 ///
 /// Forks share the stores of browsers and the inputs that wait, and what was put lies beside them
 /// once for each level: so a travel is as long as its commands and its outputs.
 #[derive(Drop)]
-pub struct Travel<'a> {
+pub struct Travel<'a, B: Reactor> {
     alloc: Global,
     policy: &'a Policy,
     /// Set while a command is carried out, so it stays set where that finds no memory.
     spent: bool,
     /// What is kept from before each command in force, that of the first one first.
-    kept: Vec<Kept>,
+    kept: Vec<Kept<B>>,
     /// What each level's copy has put since the beginning.
     puts: Vec<Outputs>,
     /// The copies, of which all outputs were taken.
-    pool: Pool,
+    pool: Pool<B>,
 }
 
-impl<'a> Model for Travel<'a> {
+impl<'a, B: Reactor> Model for Travel<'a, B> {
     ghost use Rattle.std.specs.Prelude.{◌≡◌, false};
     ghost use Rattle.ff_travel.specs.Beside.{ArePartsFor, history_of};
     ghost use Rattle.ff_travel.specs.Travelled.{Travelled, coded_travelled};
@@ -53,9 +54,9 @@ impl<'a> Model for Travel<'a> {
     ghost invariant = { λ t. t.spent ≡ false → ArePartsFor t.policy.now t.kept.items t.puts.items t.pool };
 }
 
-impl<'a> Travel<'a> {
+impl<'a, B: Reactor> Travel<'a, B> {
     /// A travel under a policy, to which nothing came yet. Its one refusal is want of memory.
-    pub fn new(alloc: Global, policy: &'a Policy) -> Result<Travel<'a>, NoMemory>
+    pub fn new(alloc: Global, policy: &'a Policy) -> Result<Travel<'a, B>, NoMemory>
         ensures { IfOk result (λ travel. travel ≡ new_travel policy.now) }
     {
         let pool = new_pool(alloc, policy)?;
@@ -135,13 +136,13 @@ impl<'a> Travel<'a> {
 
 /// Carries out a command on the pool. Before an arrival, a turn and a drain, a fork of the pool is
 /// kept, and after it what was put is laid beside.
-fn carry_out<C: Ledger, L: Ledger>(
+fn carry_out<B: Reactor, C: Ledger, L: Ledger>(
     alloc: Global,
     policy: &Policy,
     command: &Command,
-    kept: &mut Vec<Kept>,
+    kept: &mut Vec<Kept<B>>,
     puts: &mut Vec<Outputs>,
-    pool: &mut Pool,
+    pool: &mut Pool<B>,
     out: &mut Vec<u8>,
     copies: &mut Steps<C>,
     turns: &mut Steps<L>,

@@ -1,17 +1,17 @@
 //! A step that is kept, so that it can be taken back.
 ghost use Rattle.std.specs.Prelude.{◌≡◌};
 
-use ff_pool::Pool;
+use ff_pool::{Pool, Reactor};
 use std::marker::Model;
 
 /// The pool before a step, and how many outputs of each level lay beside it.
 #[derive(Drop)]
-pub(crate) struct Kept {
-    pool: Pool,
+pub(crate) struct Kept<B: Reactor> {
+    pool: Pool<B>,
     counts: Vec<usize>,
 }
 
-impl Model for Kept {
+impl<B: Reactor> Model for Kept<B> {
     ghost use Rattle.ff_travel.specs.Beside as beside;
     ghost use Rattle.ff_travel.specs.Beside.{coded_kept};
 
@@ -22,8 +22,8 @@ impl Model for Kept {
     ghost view = { λ k. record { pool = k.pool; counts = k.counts.items } };
 }
 
-impl Kept {
-    pub(crate) fn of(pool: Pool, counts: Vec<usize>) -> Kept
+impl<B: Reactor> Kept<B> {
+    pub(crate) fn of(pool: Pool<B>, counts: Vec<usize>) -> Kept<B>
         ensures { result ≡ record { pool = pool; counts = counts.items } }
     {
         Kept { pool, counts }
@@ -37,7 +37,7 @@ impl Kept {
     }
 
     /// The pool.
-    pub(crate) fn pool(self) -> Pool
+    pub(crate) fn pool(self) -> Pool<B>
         ensures { result ≡ self.pool }
     {
         self.pool

@@ -1,10 +1,11 @@
 //! Travel: a pool of browsers under commands, which turn it step by step and take steps back.
 //!
-//! A trace of commands takes the place of one of inputs, and a [`Travel`] keeps the pool as it was before each command that is in force, so that
-//! `back` is as exact as it is quick. It is kept as a fork of which all outputs were taken, and the
-//! number of each level's outputs until then; the outputs lie beside the pool once for each level,
-//! and stepping back cuts them. Inputs that wait are shared by forks but for the last sixteen. So a
-//! travel is as long as its commands and its outputs.
+//! A trace of commands takes the place of one of inputs, and a [`Travel`] keeps the pool as it was
+//! before each command that is in force, so that `back` is as exact as it is quick. It is kept as a
+//! fork of which all outputs were taken, and the number of each level's outputs until then; the
+//! outputs lie beside the pool once for each level, and stepping back cuts them. Inputs that wait
+//! are shared by forks but for the last sixteen. So a travel is as long as its commands and its
+//! outputs.
 //!
 //! What `show` writes is read off the definitions alone: it is what a fresh replay of the commands
 //! still in force would show.
@@ -24,7 +25,7 @@ mod traveller;
 pub use ff_commands::{
     Command, CommandFault, CommandReader, Verb, a_line_is_one_command, read_command,
 };
-pub use ff_name::NoMemory;
+pub use ff_pool::{NoMemory, Reactor};
 pub use history::Travel;
 pub use law::a_turn_without_work_changes_nothing;
-pub use traveller::{Traveller, travel};
+pub use traveller::travel;

@@ -9,14 +9,14 @@ ghost use Rattle.ff_travel.specs.Shown.{class_line, names_text, show_line, shown
 use crate::outputs::Outputs;
 use ff_lattice::{Lattice, LevelSet};
 use ff_policy::Policy;
-use ff_pool::{NoMemory, Pool};
+use ff_pool::{NoMemory, Pool, Reactor};
 use ff_session::print_level;
 use ff_value::Level;
 
 /// Appends what a level's copy has put, and its class.
-pub(crate) fn show(
+pub(crate) fn show<B: Reactor>(
     policy: &Policy,
-    pool: &Pool,
+    pool: &Pool<B>,
     puts: &[Outputs],
     level: Level,
     out: &mut Vec<u8>,
@@ -43,9 +43,9 @@ fn print_head(lattice: &Lattice, level: Level, out: &mut Vec<u8>) -> Result<(), 
 }
 
 /// Appends the line of a level's class.
-fn print_class(
+fn print_class<B: Reactor>(
     policy: &Policy,
-    pool: &Pool,
+    pool: &Pool<B>,
     level: Level,
     out: &mut Vec<u8>,
 ) -> Result<(), NoMemory>

@@ -11,7 +11,7 @@ ghost use Rattle.ff_route.specs.Route.{offers as offers_for};
 use crate::kept::Kept;
 use crate::outputs::Outputs;
 use ff_policy::Policy;
-use ff_pool::{NoMemory, Pool};
+use ff_pool::{NoMemory, Pool, Reactor};
 use ff_route::offers;
 use ff_steps::Steps;
 use ff_value::{Input, Level};
@@ -19,7 +19,7 @@ use std::alloc::Global;
 use std::sync::ledger::Ledger;
 
 /// A pool for the levels of a policy, in which nothing came to any of them yet.
-pub(crate) fn new_pool(alloc: Global, policy: &Policy) -> Result<Pool, NoMemory>
+pub(crate) fn new_pool<B: Reactor>(alloc: Global, policy: &Policy) -> Result<Pool<B>, NoMemory>
     ensures { IfOk result (λ pool. (pool.world ≡ first_world policy.now) × IsPoolFor policy.now pool) }
 {
     Pool::new(alloc, policy.lattice().size(), policy.fuel())
@@ -37,11 +37,11 @@ pub(crate) fn no_outputs(alloc: Global, levels: u8) -> Result<Vec<Outputs>, NoMe
 }
 
 /// Keeps a fork of the pool, and how many outputs of each level lie beside it.
-pub(crate) fn keep<C: Ledger>(
+pub(crate) fn keep<B: Reactor, C: Ledger>(
     alloc: Global,
-    kept: &mut Vec<Kept>,
+    kept: &mut Vec<Kept<B>>,
     puts: &[Outputs],
-    pool: &Pool,
+    pool: &Pool<B>,
     copies: &mut Steps<C>,
 ) -> Result<(), NoMemory>
     ensures done { OnOk result (kept.new.items ≡ kept.old.items ++ kept_now puts.now pool.now ∷ []) }
@@ -64,11 +64,11 @@ fn counts_of(alloc: Global, puts: &[Outputs]) -> Result<Vec<usize>, NoMemory>
 }
 
 /// What the levels see of an input comes to them.
-pub(crate) fn arrive<C: Ledger>(
+pub(crate) fn arrive<B: Reactor, C: Ledger>(
     alloc: Global,
     policy: &Policy,
     input: &Input,
-    pool: &mut Pool,
+    pool: &mut Pool<B>,
     copies: &mut Steps<C>,
 ) -> Result<(), NoMemory>
     requires pool { IsPoolFor policy.now pool.old }
@@ -82,7 +82,10 @@ pub(crate) fn arrive<C: Ledger>(
 }
 
 /// Takes the outputs of each level, and puts them behind those that lie beside the pool.
-pub(crate) fn gather(pool: &mut Pool, puts: &mut Vec<Outputs>) -> Result<(), NoMemory>
+pub(crate) fn gather<B: Reactor>(
+    pool: &mut Pool<B>,
+    puts: &mut Vec<Outputs>,
+) -> Result<(), NoMemory>
     requires unspent { pool.old.spent ≡ false }
     requires count { length puts.old.items ≡ pooled.size pool.old }
     ensures { OnOk result (HasGathered pool.old puts.old.items pool.new puts.new.items) }
@@ -96,7 +99,11 @@ pub(crate) fn gather(pool: &mut Pool, puts: &mut Vec<Outputs>) -> Result<(), NoM
 
 /// The last step that is kept is taken back, where there is one: its pool is the pool again, and
 /// the outputs that lay beside it are those that stay.
-pub(crate) fn go_back(kept: &mut Vec<Kept>, puts: &mut Vec<Outputs>, pool: &mut Pool)
+pub(crate) fn go_back<B: Reactor>(
+    kept: &mut Vec<Kept<B>>,
+    puts: &mut Vec<Outputs>,
+    pool: &mut Pool<B>,
+)
     requires { (p : Assignment) × ArePartsFor p kept.old.items puts.old.items pool.old }
     ensures done { history_of kept.new.items puts.new.items pool.new ≡ taken_back (history_of kept.old.items puts.old.items pool.old) }
     ensures parts { (p : Assignment) → ArePartsFor p kept.old.items puts.old.items pool.old → ArePartsFor p kept.new.items puts.new.items pool.new }

@@ -7,28 +7,32 @@ use crate::history::Travel;
 use ff_commands::{Command, CommandReader};
 use ff_io::Port;
 use ff_policy::Policy;
+use ff_pool::Reactor;
 use ff_session::status_of;
 use ff_status::Status;
 use ff_steps::Steps;
 use ff_stream::{Taker, stream};
 use std::alloc::{AllocError, Global};
+use std::marker::PhantomData;
 use std::sync::ledger::Ledger;
 
 /// Carries out commands one after another.
-#[derive(Clone, Copy)]
-pub struct Traveller<'a> {
+#[derive(Drop)]
+pub(crate) struct Traveller<'a, B: Reactor> {
     /// It says what each level sees, and which level each line is at.
-    pub policy: &'a Policy,
+    policy: &'a Policy,
+    /// Which kind of browser.
+    kind: PhantomData<B>,
 }
 
-impl<'a> Taker for Traveller<'a> {
+impl<'a, B: Reactor> Taker for Traveller<'a, B> {
     ghost use Rattle.ff_commands.specs.Commands.{IsCommandOf};
     ghost use Rattle.ff_travel.specs.Shown.{travel_entry, travel_turns};
     ghost use Rattle.ff_travel.specs.Travelled.{IsTravelAt};
 
     type Item = Command;
 
-    type State = Travel<'a>;
+    type State = Travel<'a, B>;
 
     ghost accepts = { λ taker command. IsCommandOf taker.policy.now.order command };
 
@@ -43,7 +47,7 @@ impl<'a> Taker for Traveller<'a> {
     fn take<C: Ledger, L: Ledger>(
         &self,
         _alloc: Global,
-        state: &mut Travel<'a>,
+        state: &mut Travel<'a, B>,
         item: &Command,
         text: &mut Vec<u8>,
         copies: &mut Steps<C>,
@@ -53,12 +57,12 @@ impl<'a> Taker for Traveller<'a> {
     }
 }
 
-/// Carries out the commands of the trace that the port gives, line by line: before the port is
-/// read again, all that the lines that were got show is written. `turns` counts the turns that
+/// Carries out the commands of the trace that the port gives on a pool of browsers `B`, line by
+/// line: before the port is read again, all that the lines that were got show is written. `turns` counts the turns that
 /// turns and drains make, also of those that are taken back later, and `copies` the cells that are
 /// copied.
 #[tactic(auto, using(ff_commands::proofs::Giving::is_given, crate::proofs::Force::fresh_travel))]
-pub fn travel<P: Port, C: Ledger, L: Ledger>(
+pub fn travel<B: Reactor, P: Port, C: Ledger, L: Ledger>(
     alloc: Global,
     policy: &Policy,
     port: &mut P,
@@ -70,14 +74,17 @@ pub fn travel<P: Port, C: Ledger, L: Ledger>(
 {
     let lattice = policy.lattice();
     let reader = CommandReader { lattice };
-    let mut travel = match Travel::new(alloc, policy) {
+    let mut travel = match Travel::<B>::new(alloc, policy) {
         Ok(travel) => travel,
         Err(_) => return Status::NoMemory,
     };
     let end = stream(
         alloc,
         &reader,
-        &Traveller { policy },
+        &Traveller {
+            policy,
+            kind: PhantomData::<B>,
+        },
         &mut travel,
         port,
         copies,

@@ -10,19 +10,21 @@ use ff_gen::Draws;
 use ff_io::Port;
 use ff_lattice::Lattice;
 use ff_policy::Policy;
-use ff_session::{Copies, InputReader, new_pool};
+use ff_session::{Copies, InputReader, Reactor, new_pool};
 use ff_status::Status;
 use ff_steps::Steps;
 use ff_stream::{Reader, Taker};
 use ff_trace::Room;
 use ff_value::Input;
 use std::alloc::{AllocError, Global};
+use std::marker::PhantomData;
 use std::sync::ledger::Ledger;
 
-/// Draws so many inputs from a start and multi-executes them, whatever their kinds. It writes how
+/// Draws so many inputs from a start and multi-executes them with copies of a browser `B`, whatever
+/// their kinds. It writes how
 /// many they are, and for each level how many lines it has, and how many bytes. The port is never
 /// read.
-pub fn generate<P: Port, C: Ledger, L: Ledger>(
+pub fn generate<B: Reactor, P: Port, C: Ledger, L: Ledger>(
     alloc: Global,
     policy: &Policy,
     slice: u32,
@@ -37,13 +39,13 @@ pub fn generate<P: Port, C: Ledger, L: Ledger>(
     ensures later_copies { copies.old ≤ copies.new }
 {
     write(
-        summed(alloc, policy, slice, start, inputs, copies, turns),
+        summed::<B, C, L>(alloc, policy, slice, start, inputs, copies, turns),
         port,
     )
 }
 
 /// The summary of a run over drawn inputs.
-fn summed<C: Ledger, L: Ledger>(
+fn summed<B: Reactor, C: Ledger, L: Ledger>(
     alloc: Global,
     policy: &Policy,
     slice: u32,
@@ -57,14 +59,14 @@ fn summed<C: Ledger, L: Ledger>(
     ensures most { AtMostDrawn policy.now start inputs turns.old turns.new }
     ensures later_copies { copies.old ≤ copies.new }
 {
-    let text = ran(alloc, policy, slice, start, inputs, copies, turns)?;
+    let text = ran::<B, C, L>(alloc, policy, slice, start, inputs, copies, turns)?;
     let mut sum = Vec::new(alloc);
     print_summary(policy.lattice(), inputs, text.as_slice(), &mut sum)?;
     Ok(sum)
 }
 
 /// The text of a run over drawn inputs.
-fn ran<C: Ledger, L: Ledger>(
+fn ran<B: Reactor, C: Ledger, L: Ledger>(
     alloc: Global,
     policy: &Policy,
     slice: u32,
@@ -78,7 +80,11 @@ fn ran<C: Ledger, L: Ledger>(
     ensures most { AtMostDrawn policy.now start inputs turns.old turns.new }
     ensures later_copies { copies.old ≤ copies.new }
 {
-    let taker = Copies { policy, slice };
+    let taker = Copies {
+        policy,
+        slice,
+        kind: PhantomData::<B>,
+    };
     let mut draws = Draws::new(start);
     let mut text = Vec::new(alloc);
     let mut pool = new_pool(alloc, policy)?;

@@ -3,6 +3,7 @@ use Rattle.ff_stream.specs.declared.end.End.TheVariants.{WriteFault, NoMemory}
 use Rattle.ff_session.specs.Giving.{Gives}
 use Rattle.ff_session.proofs.Giving.{is_given}
 use Rattle.ff_session.proofs.Closing.{is_ended}
+use Rattle.ff_audit.specs.Audited.{account}
 use Rattle.ff_audit.proofs.Auditing.{audited, unaudited_as, unmade, stands}
 use Rattle.ff_audit.proofs.walk.audit.Goals as goal
 
@@ -34,7 +35,7 @@ pub returns : goal.returns
 returns g c = record {
   exchanged =
       rw (g.met.P.Port.tells c.args.port.now, g.met.P.Port.tells c.finish.new.port, c.finish.ensures.rest, c.finish.ensures.others)
-      (audited c.args.policy.now c.stream-end.new.state c.stream-end.result (rw c.lattice-lattice.ensures.value at (c.stream-end.ensures.streams tt c.in-Ok.ensures)) c.finish.result _ _ _ _ _ _ c.finish.ensures.reported c.stream-end.ensures.later
+      (audited c.args.policy.now (account g.B.Reactor.state c.stream-end.new.state) c.stream-end.result (rw c.lattice-lattice.ensures.value at (c.stream-end.ensures.streams tt c.in-Ok.ensures)) c.finish.result _ _ _ _ _ _ c.finish.ensures.reported c.stream-end.ensures.later
       c.stream-end.ensures.read_fault c.stream-end.ensures.write_fault c.stream-end.ensures.later_writes c.finish.ensures.later);
   later_copies = c.stream-end.ensures.later_copies;
 }

@@ -2,4 +2,4 @@ use Rattle.ff_pool.proofs.Offering.{IsOffering}
 use Rattle.ff_pool.proofs.steps.offer_heads.Given as goal
 
 abbrev pub invariant-loop-l : goal.invariant-loop-l
-invariant-loop-l l = IsOffering l.initial.heads l.leaders l.offers l.heads l.l
+invariant-loop-l g l = IsOffering l.initial.heads l.leaders l.offers l.heads l.l

@@ -5,5 +5,5 @@ use Rattle.ff_session.proofs.Feeding.{fresh_copies}
 use Rattle.ff_session.proofs.offered.new_pool.Goals as goal
 
 pub returns : goal.returns
-returns c =
+returns g c =
     IfOk-weaker c.new.result _ _ (λ pool fresh all. fresh_copies c.args.policy.now all pool c.size.result c.fuel.result (c.size.ensures.value ∙ ap size c.lattice.ensures.value) c.fuel.ensures.value fresh) c.new.ensures

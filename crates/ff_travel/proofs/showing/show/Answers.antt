@@ -6,7 +6,7 @@ use Rattle.ff_travel.proofs.Naming.{shown_printed}
 use Rattle.ff_travel.proofs.showing.show.Goals as goal
 
 pub returns : goal.returns
-returns c =
+returns g c =
     let from = c.from.ensures in
     let level = c.requires.level in
     let count = c.requires.puts in

@@ -5,7 +5,7 @@ use Rattle.ff_travel.proofs.Gathering.{gather_step}
 use Rattle.ff_travel.proofs.steps.gather.Goals as goal
 
 pub loop-number-preserved : goal.loop-number-preserved
-loop-number-preserved c =
+loop-number-preserved g c =
     let at = c.loop-number in
     let size : c.size-number-end.result ≡ pooled.size c.args.pool.now = c.size-number-end.ensures in
     let levels = at.invariant.levels in

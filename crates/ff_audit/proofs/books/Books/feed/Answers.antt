@@ -4,6 +4,7 @@ use Rattle.ff_reactive.specs.Standings.{fresh}
 use Rattle.ff_session.specs.Levels.{machine}
 use Rattle.ff_session.specs.Multi.{seen_by, copies_entry}
 use Rattle.ff_session.specs.Plain.{plain_entry}
+use Rattle.ff_audit.specs.Audited.{account}
 use Rattle.ff_audit.proofs.Auditing.{audit_more, heard_as}
 use Rattle.ff_audit.proofs.books.Books.feed.Goals as goal
 
@@ -30,7 +31,7 @@ returns-clause-fed g c =
     let i = c.args.input.now in
     on_ok_weaker c.hear_texts.result
     (λ heard is at.
-    audit_more p c.args.self.now (record { browser = c.take.new.state; pool = c.take-2.new.state; levels = c.hear_texts.new.levels }) is i c.take.new.text.items c.take-2.new.text.items at
+    audit_more p (account g.B.Reactor.state c.args.self.now) (record { browser = g.B.Reactor.state c.take.new.state; pool = c.take-2.new.state; levels = c.hear_texts.new.levels.items }) is i c.take.new.text.items c.take-2.new.text.items at
     (c.in_ok-take.ensures.taken tt is at.plain)
     (c.in_ok-take-2.ensures.taken (fresh (machine p)) is (at.copies, some_slice)).0
     c.hear_texts.ensures.count

@@ -6,5 +6,5 @@ use Rattle.ff_audit.proofs.Auditing.{audit_none}
 use Rattle.ff_audit.proofs.books.Books.new.Goals as goal
 
 pub returns : goal.returns
-returns c =
+returns g c =
     audit_none c.args.policy.now _ (fresh_plain c.args.policy.now _ c.fuel.result c.fuel.ensures.value c.new-browser.ensures) (c.in_ok-pool.ensures (seen_by c.args.policy.now)) (c.in_ok-levels.ensures.count ∙ ap size c.lattice.ensures.value) c.in_ok-levels.ensures.fresh

@@ -4,7 +4,7 @@ use Rattle.ff_pool.proofs.Reading.{read_work}
 use Rattle.ff_pool.proofs.pool.Pool.has_work.Goals as goal
 
 pub returns : goal.returns
-returns c =
+returns g c =
     let unspent : c.self.inside.spent ≡ false = ap (λ p. p.spent) c.self.view_is ∙ c.requires.unspent in
     let none = new_head c.self.inside.fuel in
     c.has_work.ensures none

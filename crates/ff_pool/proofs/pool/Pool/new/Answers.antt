@@ -7,12 +7,12 @@ use Rattle.ff_pool.proofs.Making.{made_more}
 use Rattle.ff_pool.proofs.pool.Pool.new.Goals as goal
 
 pub invariant_of-result : goal.invariant_of-result
-invariant_of-result c = λ unspent.
+invariant_of-result g c = λ unspent.
     let at = c.loop-level in
     kept-new c.args.fuel at._level at.heads.items at.puts.items at.leaders.items (omega arith) at.invariant.heads at.invariant.puts at.invariant.leaders
 
 pub returns : goal.returns
-returns c =
+returns g c =
     let at = c.loop-level in
     let all : at._level ≡ c.args.n = omega arith in
     ap (λ w. record { fuel = c.args.fuel; spent = false; world = w })
@@ -20,7 +20,7 @@ returns c =
     ∙ ap (new_world (reactor c.args.fuel)) all)
 
 pub loop-level-preserved : goal.loop-level-preserved
-loop-level-preserved c =
+loop-level-preserved g c =
     let at = c.loop-level in
     record {
       heads = c.in_ok-push.ensures.items ∙ ap (λ head. at.heads.items ++ head ∷ []) c.new.ensures ∙ made_more (new_head c.args.fuel) at.heads.items at._level at.invariant.heads;

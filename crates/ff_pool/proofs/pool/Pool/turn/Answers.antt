@@ -1,7 +1,6 @@
 use Rattle.std.proofs.Common.{◌≡◌, ◌∙◌, ◌≤◌, ◌+◌, ap, subst, length, arith}
 use Rattle.std.proofs.lemmas.List.{with_items_is}
 use Rattle.ff_pool.specs.Heads.{new_head}
-use Rattle.ff_core.specs.Copies.{turning}
 use Rattle.ff_pool.proofs.Reading.{read_spelled, read_turns, read_state, turn_kept, turn_seen}
 use Rattle.ff_pool.proofs.pool.Pool.turn.Goals as goal
 
@@ -49,10 +48,10 @@ pub returns-in_err-step_class-clause-copies : goal.returns-in_err-step_class-cla
 returns-in_err-step_class-clause-copies g c = λ busy.
     let none = new_head c.self.inside.fuel in
     let state = read_state c.self.invariant c.if-self.false c.self.view_is c.requires c.as_mut_slice.ensures.value c.as_slice.ensures.value c.from.ensures none in
-    subst (λ s. c.step_class.new.copies ≤ c.args.copies.now + turning s) state (c.in_err-step_class.ensures.copies none (ap (λ s. s.quiet) state ∙ busy))
+    subst (λ s. c.step_class.new.copies ≤ c.args.copies.now + g.B.Reactor.turning s) state (c.in_err-step_class.ensures.copies none (ap (λ s. s.quiet) state ∙ busy))
 
 pub returns-clause-copies : goal.returns-clause-copies
 returns-clause-copies g c = λ busy.
     let none = new_head c.self.inside.fuel in
     let state = read_state c.self.invariant c.if-self.false c.self.view_is c.requires c.as_mut_slice.ensures.value c.as_slice.ensures.value c.from.ensures none in
-    subst (λ s. c.step_class.new.copies ≤ c.args.copies.now + turning s) state (c.in_ok-step_class.ensures.copies none (ap (λ s. s.quiet) state ∙ busy))
+    subst (λ s. c.step_class.new.copies ≤ c.args.copies.now + g.B.Reactor.turning s) state (c.in_ok-step_class.ensures.copies none (ap (λ s. s.quiet) state ∙ busy))

@@ -1,4 +1,7 @@
-use Rattle.std.proofs.Common.{◌≤◌, sym, subst}
+use Rattle.std.proofs.Common.{◌≤◌, IfOk, sym, subst}
+use Rattle.std.proofs.lemmas.List.{map-id}
+use Rattle.ff_pool.specs.Restored.{pool_recs, IsResting}
+use Rattle.ff_records.specs.Restored.{Restores}
 use Rattle.ff_save.specs.Holding.{Ends}
 use Rattle.ff_save.proofs.Finished.{spoiled_pool, finished, finished_ready}
 use Rattle.ff_save.proofs.gathering.Gathering.finish.Goals as goal
@@ -25,4 +28,5 @@ restore-requires-clause-ready g c =
 pub returns-clause-value : goal.returns-clause-value
 returns-clause-value g c gathered holds =
     finished c.args.n c.args.self.fuel gathered c.end_class.new.self
-    (subst (λ found. Ends c.args.self.fuel gathered found c.end_class.new.self) c.if-not-branch.false (c.in_ok-end_class.ensures.value gathered holds)) c.as_slice.result.now c.from_vec.result c.as_slice.ensures.value c.from_vec.ensures c.restore.result c.restore.ensures
+    (subst (λ found. Ends c.args.self.fuel gathered found c.end_class.new.self) c.if-not-branch.false (c.in_ok-end_class.ensures.value gathered holds)) c.as_slice.result.now c.from_vec.result c.as_slice.ensures.value c.from_vec.ensures c.restore.result
+    (subst (λ browsers. IfOk c.restore.result (Restores (IsResting c.args.n c.end_class.new.self.fuel) pool_recs (record { classes = c.as_slice.result.now; browsers = browsers }))) (map-id c.from_vec.result) c.restore.ensures)

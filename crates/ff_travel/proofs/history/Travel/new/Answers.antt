@@ -5,12 +5,12 @@ use Rattle.ff_travel.proofs.Carrying.{new_history}
 use Rattle.ff_travel.proofs.history.Travel.new.Goals as goal
 
 pub invariant_of-result : goal.invariant_of-result
-invariant_of-result c = λ unspent.
+invariant_of-result g c = λ unspent.
     rw c.new.ensures.items
     (new_history c.args.policy.now c.in_ok-pool.pool c.in_ok-puts.puts.items c.size.result c.in_ok-pool.ensures c.in_ok-puts.ensures (c.size.ensures.value ∙ ap size c.lattice.ensures.value)).1
 
 pub returns : goal.returns
-returns c =
+returns g c =
     ap (λ h. record { policy = c.args.policy.now; spent = false; history = h })
     (ap (λ ks. history_of ks c.in_ok-puts.puts.items c.in_ok-pool.pool) c.new.ensures.items
     ∙ (new_history c.args.policy.now c.in_ok-pool.pool c.in_ok-puts.puts.items c.size.result c.in_ok-pool.ensures c.in_ok-puts.ensures (c.size.ensures.value ∙ ap size c.lattice.ensures.value)).0)

@@ -3,7 +3,7 @@ use Rattle.ff_machine.specs.State.{State, empty}
 use Rattle.ff_machine.specs.Valid.{IsState}
 use Rattle.ff_core.specs.declared.browser.Browser.TheInside.{Inside}
 use Rattle.ff_core.proofs.Holding.{new_valid, at_its_own, begun_valid, begun_busy}
-use Rattle.ff_core.proofs.browser.Browser.accept.Goals as goal
+use Rattle.ff_core.proofs.browser.BrowserReactor.accept.Goals as goal
 
 pub invariant_of-self : goal.invariant_of-self
 invariant_of-self g c = at_its_own c.args.self.now.budget c.begin.new.self (begun_valid c.self.inside.parts c.args.self.now c.begin.new.self c.args.input.now c.self.view_is c.self.invariant c.requires.input (c.in-Ok.ensures.step.0))

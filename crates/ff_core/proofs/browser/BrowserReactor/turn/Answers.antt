@@ -3,7 +3,7 @@ use Rattle.ff_machine.specs.State.{State, empty}
 use Rattle.ff_machine.specs.Valid.{IsState}
 use Rattle.ff_core.specs.declared.browser.Browser.TheInside.{Inside}
 use Rattle.ff_core.proofs.Holding.{new_valid, at_its_own, turned_valid}
-use Rattle.ff_core.proofs.browser.Browser.turn.Goals as goal
+use Rattle.ff_core.proofs.browser.BrowserReactor.turn.Goals as goal
 
 pub invariant_of-self : goal.invariant_of-self
 invariant_of-self g c = at_its_own c.args.self.now.budget c.turn.new.self (turned_valid c.self.inside.parts c.args.self.now c.turn.new.self c.self.view_is c.self.invariant (c.in-Ok.ensures.step.0))
