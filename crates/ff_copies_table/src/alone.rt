@@ -2,7 +2,7 @@
 ghost use Rattle.std.specs.Prelude.{◌≡◌, ◌<◌};
 ghost use Rattle.ff_value.specs.Spelled.{IsWellSpelledInput};
 
-use ff_core::{Browser, NoMemory, Reactor};
+use ff_core::{Browser, NoMemory, Reactor, Restorable};
 use ff_name::Url;
 use ff_steps::Steps;
 use ff_value::{Act, Input, Out};

@@ -1,15 +1,12 @@
 -- A browser is valid: a new one, one that took an input, and one that made a turn.
-use Rattle.std.proofs.Common.{◌≡◌, ℕ, false, refl, sym, ap, subst, ◌∙◌, arith}
-use Rattle.std.specs.FinSet as finset
+use Rattle.std.proofs.Common.{◌≡◌, ℕ, false, sym, ap, subst, ◌∙◌}
 use Rattle.ff_value.specs.Spelled.{IsWellSpelledInput}
 use Rattle.ff_value.specs.declared.input.Input.{Input}
 use Rattle.ff_machine.specs.State.{State, empty}
 use Rattle.ff_machine.specs.Inputs.{begin}
 use Rattle.ff_machine.specs.Turns.{turn}
-use Rattle.ff_machine.specs.Stores.{Stores}
-use Rattle.ff_machine.specs.Valid.{IsState, IsStores}
+use Rattle.ff_machine.specs.Valid.{IsState}
 use Rattle.ff_machine.proofs.Empty.{empty_state}
-use Rattle.ff_core.specs.Resting.{resting}
 use Rattle.ff_laws.proofs.States.{begin_state, turn_state}
 use Rattle.ff_laws.proofs.LaterTurns.{begin_busy}
 
@@ -20,16 +17,6 @@ at_its_own budget s is = subst (λ n. IsState n s) (sym is.budget_is) is
 -- a new browser
 pub new_valid : (budget : ℕ) (s : State) → s ≡ empty budget → IsState budget s
 new_valid budget s e = subst (λ (t : State). IsState budget t) (sym e) (empty_state budget)
-
--- a browser at rest
-pub resting_valid : (budget : ℕ) (stores : Stores) (s : State) → IsStores stores → stores.touched ≡ finset.empty → s ≡ resting budget stores → IsState budget s
-resting_valid budget stores s valid untouched e = subst (λ (t : State). IsState budget t) (sym e) (record {
-  stores = valid;
-  tasks = λ k d less. absurd (omega (arith, less));
-  budget_is = refl;
-  within = omega arith;
-  quiet = λ _. record { tasks = refl; fuel = refl; touched = untouched };
-})
 
 -- a browser that took a well spelled input, where `old` is what it was
 pub begun_valid : (s old new : State) (i : Input) → s ≡ old → IsState s.budget s → IsWellSpelledInput i → new ≡ (begin s i).after → IsState old.budget new

@@ -1,4 +1,3 @@
 pub mod Copies
 pub mod Views
 pub mod Calls
-pub mod Resting

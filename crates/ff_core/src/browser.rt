@@ -1,12 +1,8 @@
 //! The browser.
-ghost use Rattle.std.specs.Prelude.{◌≡◌, ◌≤◌};
-ghost use Rattle.std.specs.FinSet as finset;
-ghost use Rattle.ff_reactor.specs.declared.reactor.TheConstants.{MOST_BUDGET};
-ghost use Rattle.ff_core.specs.Resting.{resting};
 
 use crate::parts::Parts;
 use ff_name::NoMemory;
-use ff_reactor::Reactor;
+use ff_restorable::{Reactor, Restorable};
 use ff_steps::Steps;
 use ff_stores::Stores;
 use ff_value::{Input, Out};
@@ -40,30 +36,6 @@ impl Model for Browser {
     ghost view = { λ b. b.parts };
 
     ghost invariant = { λ b. IsState b.parts.budget b.parts };
-}
-
-impl Browser {
-    /// A quiet browser with these stores, in which no page is touched, and with no fuel left. Each
-    /// input brings it so much fuel, from 1 to [`MOST_BUDGET`](ff_reactor::MOST_BUDGET). It takes no
-    /// memory.
-    pub fn restore(alloc: Global, fuel: u32, stores: Stores) -> Browser
-        requires some { 1 ≤ fuel }
-        requires few { fuel ≤ MOST_BUDGET }
-        requires untouched { stores.touched ≡ finset.empty }
-        ensures { result ≡ resting fuel stores }
-    {
-        let _known = stores.nodes();
-        Browser {
-            parts: Parts::resting(alloc, fuel, stores),
-        }
-    }
-
-    /// The stores.
-    pub fn stores(&self) -> &Stores
-        ensures { result.now ≡ self.now.stores }
-    {
-        &self.parts.stores
-    }
 }
 
 impl Reactor for Browser {
@@ -119,6 +91,19 @@ impl Reactor for Browser {
                 self.parts.reset(budget);
                 Err(refused)
             }
+        }
+    }
+}
+
+impl Restorable for Browser {
+    fn stores(&self) -> &Stores {
+        &self.parts.stores
+    }
+
+    fn restore(alloc: Global, fuel: u32, stores: Stores) -> Browser {
+        let _known = stores.nodes();
+        Browser {
+            parts: Parts::resting(alloc, fuel, stores),
         }
     }
 }

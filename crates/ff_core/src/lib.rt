@@ -15,4 +15,4 @@ mod turns;
 
 pub use browser::Browser;
 pub use ff_name::NoMemory;
-pub use ff_reactor::{MOST_BUDGET, Reactor};
+pub use ff_restorable::{MOST_BUDGET, Reactor, Restorable};

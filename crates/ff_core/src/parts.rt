@@ -5,7 +5,7 @@
 //! once, at the return, by the law that steps keep states valid.
 ghost use Rattle.std.specs.Prelude.{◌≡◌, IfOk};
 ghost use Rattle.ff_machine.specs.State as state;
-ghost use Rattle.ff_core.specs.Resting.{resting};
+ghost use Rattle.ff_restorable.specs.Resting.{resting};
 
 use ff_name::NoMemory;
 use ff_step::Task;

@@ -8,10 +8,10 @@ ghost use Rattle.ff_session.specs.Closing.{IsClosed};
 ghost use Rattle.ff_session.specs.Giving.{Gives};
 ghost use Rattle.ff_session.specs.Works.{Exchanged};
 
-use ff_core::Browser;
 use ff_io::Port;
 use ff_policy::Policy;
 use ff_pool::Pool;
+use ff_restorable::Restorable;
 use ff_save::write_saved;
 use ff_session::{close, status_of, walk_copies};
 use ff_status::Status;
@@ -21,14 +21,14 @@ use std::alloc::Global;
 use std::sync::ledger::Ledger;
 
 /// Multi-executes the trace that the port gives, line by line, from where the copies of a pool at
-/// rest stand. Once the end of the trace was seen and no line is bad, it puts the saved text of
-/// where the copies then stand. A class makes up to `slice` steps before the next one has its turn,
+/// rest stand, whatever browsers `B` these are. Once the end of the trace was seen and no line is
+/// bad, it puts the saved text of where the copies then stand. A class makes up to `slice` steps before the next one has its turn,
 /// from 1 on. `turns` counts the turns of each class once, and `copies` the cells that are copied.
-pub fn resume<P: Port, C: Ledger, L: Ledger>(
+pub fn resume<B: Restorable, P: Port, C: Ledger, L: Ledger>(
     alloc: Global,
     policy: &Policy,
     slice: u32,
-    pool: Pool<Browser>,
+    pool: Pool<B>,
     port: &mut P,
     copies: &mut Steps<C>,
     turns: &mut Steps<L>,
@@ -47,7 +47,12 @@ pub fn resume<P: Port, C: Ledger, L: Ledger>(
 }
 
 /// Puts the saved text of the pool, once a good trace was read.
-fn finish<P: Port>(alloc: Global, policy: &Policy, pool: &Pool<Browser>, port: &mut P) -> Status
+fn finish<B: Restorable, P: Port>(
+    alloc: Global,
+    policy: &Policy,
+    pool: &Pool<B>,
+    port: &mut P,
+) -> Status
     requires rests { IsResting (size policy.now.order) policy.now.fuel pool.now }
     ensures closed { IsClosed End.Done Status.Done (saved_text policy.now (saved_recs pool.now)) (P.log port.old) (P.log port.new) (P.write_faults port.old) (P.write_faults port.new) result }
     ensures rest { P.rest port.new ≡ P.rest port.old }

@@ -2,8 +2,8 @@
 use Rattle.std.proofs.Common.{◌≡◌, ◌≢◌, ◌≤◌, ◌<◌, ◌==◌, ℕ, Bool, true, false, Option, Some, None, Result, Ok, Err, IfOk, List, [], ◌∷◌, ◌++◌, length, map, All, ◌⊎◌, inl, inr, refl, sym, ap, subst, ◌∙◌, arith}
 use Rattle.std.proofs.lemmas.List.{map-append}
 use Rattle.std.proofs.lemmas.List.Elements.{All-push}
-use Rattle.ff_core.specs.Resting.{resting}
-use Rattle.ff_core.proofs.Holding.{resting_valid}
+use Rattle.ff_restorable.specs.Resting.{resting}
+use Rattle.ff_restorable.proofs.Rested.{resting_valid}
 use Rattle.ff_io.specs.Cutting.{content, after_line}
 use Rattle.ff_lattice.specs.Order.{Order}
 use Rattle.ff_machine.specs.State.{State}
@@ -23,21 +23,20 @@ use Rattle.ff_saved.specs.declared.row.Row.{Row}
 use Rattle.ff_saved.specs.declared.row.Row.TheVariants as row
 use Rattle.ff_save.specs.Gathered.{Gathered, no_classes, with_last_class, browsers_of, gathered_more, IsNoText}
 use Rattle.ff_stored.specs.Rest.{IsAtRest}
-use Rattle.ff_save.specs.Holding.{records_of, Holds, AreOfNone, IsSpoiled, Ends, Begins, IsStuck, nowhere, spoiled, AddsRow, IsLineOf, AddsLine}
-use Rattle.ff_save.specs.declared.gathering.Gathering.{Gathering}
+use Rattle.ff_save.specs.Holding.{Held, records_of, Holds, AreOfNone, IsSpoiled, Ends, Begins, IsStuck, nowhere, spoiled, AddsRow, IsLineOf, AddsLine}
 use Rattle.ff_save.proofs.Grown.{with_more, other_row}
 use Rattle.ff_save.proofs.Texts.{IsReading, reading_more, reading_stuck, something_left}
 
 -- the records of the last class, which there is, are of no stores
-pub spoiled_by : (fuel : ℕ) (g : Gathered) (h : Gathering) (recs : StoresRecs) (found : Option Stores) (empty : Bool) → Holds fuel g h → recs ≡ so_far h.draft → Restores AreUntouched stores_recs recs found → found ≡ None
-    → empty ≡ (length h.classes.items == 0) → empty ≡ false → IsSpoiled g
+pub spoiled_by : (fuel : ℕ) (g : Gathered) (h : Held) (recs : StoresRecs) (found : Option Stores) (empty : Bool) → Holds fuel g h → recs ≡ so_far h.draft → Restores AreUntouched stores_recs recs found → found ≡ None
+    → empty ≡ (length h.classes == 0) → empty ≡ false → IsSpoiled g
 spoiled_by fuel g h recs found empty holds recs_is restores none test some = from g.classes refl
   where
     of_none : AreOfNone g.last
     of_none = subst AreOfNone (recs_is ∙ holds.last) (subst (Restores AreUntouched stores_recs recs) none restores)
 
     from : (classes : List (List ℕ)) → g.classes ≡ classes → IsSpoiled g
-    from [] e = let long = something_left h.classes.items empty test some in absurd (omega (arith, long, ap length (holds.classes ∙ e)))
+    from [] e = let long = something_left h.classes empty test some in absurd (omega (arith, long, ap length (holds.classes ∙ e)))
     from (first ∷ others) e = record { first = first; others = others; some = e; none = of_none }
 
 -- a browser with stores that have the records of the last class
@@ -49,8 +48,8 @@ one_more_rests fuel browsers recs stores s rest are same is = (
 )
 
 -- the last class, which there is, has its browser
-pub class_ended : (fuel : ℕ) (g : Gathered) (h new : Gathering) (recs : StoresRecs) (found : Option Stores) (stores : Stores) (browser : State) (empty : Bool) → Holds fuel g h → recs ≡ so_far h.draft → Restores AreUntouched stores_recs recs found → found ≡ Some stores
-    → browser ≡ resting h.fuel stores → empty ≡ (length h.classes.items == 0) → empty ≡ false → new.fuel ≡ h.fuel → new.classes.items ≡ h.classes.items → new.browsers.items ≡ h.browsers.items ++ browser ∷ [] → so_far new.draft ≡ no_recs
+pub class_ended : (fuel : ℕ) (g : Gathered) (h new : Held) (recs : StoresRecs) (found : Option Stores) (stores : Stores) (browser : State) (empty : Bool) → Holds fuel g h → recs ≡ so_far h.draft → Restores AreUntouched stores_recs recs found → found ≡ Some stores
+    → browser ≡ resting h.fuel stores → empty ≡ (length h.classes == 0) → empty ≡ false → new.fuel ≡ h.fuel → new.classes ≡ h.classes → new.browsers ≡ h.browsers ++ browser ∷ [] → so_far new.draft ≡ no_recs
     → Holds fuel (record { classes = g.classes; done = browsers_of g; last = no_recs }) new
 class_ended fuel g h new recs found stores browser empty holds recs_is restores is browser_is test some fuel_is classes_are browsers_are draft_is = record {
   fuel_is = fuel_is ∙ holds.fuel_is;
@@ -63,15 +62,15 @@ class_ended fuel g h new recs found stores browser empty holds recs_is restores 
     made : AreUntouched stores × (stores_recs stores ≡ recs)
     made = subst (Restores AreUntouched stores_recs recs) is restores
 
-    rests : All (IsAtRest fuel) (h.browsers.items ++ browser ∷ []) × (map records_of (h.browsers.items ++ browser ∷ []) ≡ map records_of h.browsers.items ++ g.last ∷ [])
-    rests = one_more_rests fuel h.browsers.items g.last stores browser holds.rest made.0 (made.1 ∙ recs_is ∙ holds.last) (browser_is ∙ ap (λ f. resting f stores) holds.fuel_is)
+    rests : All (IsAtRest fuel) (h.browsers ++ browser ∷ []) × (map records_of (h.browsers ++ browser ∷ []) ≡ map records_of h.browsers ++ g.last ∷ [])
+    rests = one_more_rests fuel h.browsers g.last stores browser holds.rest made.0 (made.1 ∙ recs_is ∙ holds.last) (browser_is ∙ ap (λ f. resting f stores) holds.fuel_is)
 
     all_of : (classes : List (List ℕ)) → g.classes ≡ classes → browsers_of g ≡ g.done ++ g.last ∷ []
-    all_of [] e = let long = something_left h.classes.items empty test some in absurd (omega (arith, long, ap length (holds.classes ∙ e)))
+    all_of [] e = let long = something_left h.classes empty test some in absurd (omega (arith, long, ap length (holds.classes ∙ e)))
     all_of (first ∷ others) e = ap (λ cs. with_last_class cs g.done g.last) e
 
 -- and one more is begun
-pub class_begun : (fuel : ℕ) (g : Gathered) (levels : List ℕ) (h new : Gathering) → Ends fuel g true h → new.fuel ≡ h.fuel → new.classes.items ≡ h.classes.items ++ levels ∷ [] → new.browsers.items ≡ h.browsers.items → so_far new.draft ≡ so_far h.draft → Begins fuel g levels true new
+pub class_begun : (fuel : ℕ) (g : Gathered) (levels : List ℕ) (h new : Held) → Ends fuel g true h → new.fuel ≡ h.fuel → new.classes ≡ h.classes ++ levels ∷ [] → new.browsers ≡ h.browsers → so_far new.draft ≡ so_far h.draft → Begins fuel g levels true new
 class_begun fuel g levels h new ended fuel_is classes_are browsers_are draft_is = record {
   fuel_is = fuel_is ∙ ended.fuel_is;
   classes = classes_are ∙ ap (λ cs. cs ++ levels ∷ []) ended.classes;
@@ -82,17 +81,17 @@ class_begun fuel g levels h new ended fuel_is classes_are browsers_are draft_is 
 
 module _ (fuel : ℕ) (g : Gathered) where
   -- a class begun
-  class_added : (levels : List ℕ) (new : Gathering) (found : Bool) → Begins fuel g levels found new → AddsRow fuel g (row.Class levels) found new
+  class_added : (levels : List ℕ) (new : Held) (found : Bool) → Begins fuel g levels found new → AddsRow fuel g (row.Class levels) found new
   class_added levels new true begins = record { more = _; is = refl; holds = begins }
   class_added levels new false begins = spoiled levels begins
 
-  pub class_row : {E : Type 0} (one : Row) (levels : List ℕ) (new : Gathering) (answer : Result Bool E) → one ≡ row.Class levels → IfOk answer (λ found. Begins fuel g levels found new) → IfOk answer (λ found. AddsRow fuel g one found new)
+  pub class_row : {E : Type 0} (one : Row) (levels : List ℕ) (new : Held) (answer : Result Bool E) → one ≡ row.Class levels → IfOk answer (λ found. Begins fuel g levels found new) → IfOk answer (λ found. AddsRow fuel g one found new)
   class_row one levels new (Ok found) is begins = subst (λ r. AddsRow fuel g r found new) (sym is) (class_added levels new found begins)
   class_row one levels new (Err refused) is begins = tt
 
   -- a row of the last class
   module _ (one : Row) (head : one ≢ row.Head) (policy : (text : List ℕ) → one ≢ row.Policy text) (class : (levels : List ℕ) → one ≢ row.Class levels) (end : one ≢ row.End)
-      (h : Gathering) (holds : Holds fuel g h) (draft : Draft) where
+      (h : Held) (holds : Holds fuel g h) (draft : Draft) where
     more_is : (o : Option StoresRecs) → added (so_far h.draft) one ≡ o → gathered_more g one ≡ with_more g o
     more_is o is = other_row g one head policy class end ∙ ap (λ r. with_more g (added r one)) (sym holds.last) ∙ ap (with_more g) is
 
@@ -118,16 +117,16 @@ module _ (order : Order) (fuel : ℕ) (g : Gathered) (line : List ℕ) (read : R
       from (inl e) = cc
       from (inr e) = cc
 
-  line_added : (new : Gathering) (b : Bool) → AddsRow fuel g one b new → AddsLine order fuel g line b new
+  line_added : (new : Held) (b : Bool) → AddsRow fuel g one b new → AddsLine order fuel g line b new
   line_added new true adds = record { one = one; short = short; reads = reads found; only = only_one; added = adds }
   line_added new false adds = λ other of_line. subst (IsStuck g) (sym (only_one other of_line)) adds
 
-  pub line_row : {E : Type 0} (new : Gathering) (answer : Result Bool E) → IfOk answer (λ b. AddsRow fuel g one b new) → IfOk answer (λ b. AddsLine order fuel g line b new)
+  pub line_row : {E : Type 0} (new : Held) (answer : Result Bool E) → IfOk answer (λ b. AddsRow fuel g one b new) → IfOk answer (λ b. AddsLine order fuel g line b new)
   line_row new (Ok b) adds = line_added new b adds
   line_row new (Err refused) adds = tt
 
 -- one line after another
-module _ (order lattice : Order) (same : lattice ≡ order) (fuel : ℕ) (bytes : List ℕ) (held new : Gathering) (rest line more : List ℕ) (is : IsReading order fuel bytes held rest) (some : 0 < length rest) (line_is : line ≡ content rest)
+module _ (order lattice : Order) (same : lattice ≡ order) (fuel : ℕ) (bytes : List ℕ) (held new : Held) (rest line more : List ℕ) (is : IsReading order fuel bytes held rest) (some : 0 < length rest) (line_is : line ≡ content rest)
     (found : Bool) (adds : (g : Gathered) → Holds held.fuel g held → AddsLine lattice held.fuel g line found new) where
   adds_here : AddsLine order fuel is.so_far line found new
   adds_here =

@@ -1,14 +1,13 @@
 -- The pool of what was gathered, and the stores that the browsers of a pool at rest have.
-use Rattle.std.proofs.Common.{◌≡◌, ◌≢◌, ℕ, true, Option, Some, None, Result, Ok, Err, IfOk, List, map, All, refl, sym, ap, ap₂, subst, ◌∙◌}
-use Rattle.std.proofs.lemmas.List.Elements.{All-map, All-weaker}
+use Rattle.std.proofs.Common.{◌≡◌, ◌≢◌, ℕ, true, Option, Some, None, Result, Ok, Err, IfOk, List, [], ◌∷◌, map, All, refl, sym, ap, ap₂, subst, ◌∙◌, arith}
+use Rattle.std.proofs.lemmas.List.Elements.{All-map, All-weaker, All-cons, All-head, All-tail}
 use Rattle.ff_machine.specs.State.{State}
 use Rattle.ff_pool.specs.Pooled.{Pooled}
 use Rattle.ff_pool.specs.Restored.{PoolRecs, IsResting, IsReady, pool_recs}
 use Rattle.ff_records.specs.Restored.{Restores}
 use Rattle.ff_save.specs.Gathered.{Gathered, saved_of, AreStored}
 use Rattle.ff_stored.specs.Rest.{IsAtRest}
-use Rattle.ff_save.specs.Holding.{records_of, IsSpoiled, Ends}
-use Rattle.ff_save.specs.declared.gathering.Gathering.{Gathering}
+use Rattle.ff_save.specs.Holding.{Held, records_of, IsSpoiled, Ends}
 use Rattle.ff_save.specs.Saved.{SavedRecs, saved_recs}
 use Rattle.ff_save.proofs.Grown.{spoiled_fails}
 use Rattle.ff_stored.proofs.Mapped.{same_on}
@@ -43,7 +42,7 @@ pub spoiled_pool : (n fuel : ℕ) (g : Gathered) → IsSpoiled g → (p : Pooled
 spoiled_pool n fuel g bad p is same = spoiled_fails g bad (subst (All AreStored) (ap (λ (r : SavedRecs). r.browsers) same) (all_stored p is))
 
 -- what was made of classes that all have their browsers
-pub finished : {E : Type 0} (n fuel : ℕ) (g : Gathered) (h : Gathering) → Ends fuel g true h → (classes : List (List ℕ)) (browsers : List State) → classes ≡ h.classes.items → browsers ≡ h.browsers.items → (answer : Result (Option Pooled) E)
+pub finished : {E : Type 0} (n fuel : ℕ) (g : Gathered) (h : Held) → Ends fuel g true h → (classes : List (List ℕ)) (browsers : List State) → classes ≡ h.classes → browsers ≡ h.browsers → (answer : Result (Option Pooled) E)
     → IfOk answer (Restores (IsResting n h.fuel) pool_recs (record { classes = classes; browsers = browsers })) → IfOk answer (Restores (IsResting n fuel) saved_recs (saved_of g))
 finished n fuel g h ended classes browsers classes_are browsers_are answer made =
     pool_restored n fuel classes browsers (subst (All (IsAtRest fuel)) (sym browsers_are) ended.rest) (saved_of g)
@@ -51,5 +50,12 @@ finished n fuel g h ended classes browsers classes_are browsers_are answer made 
     answer (subst (λ f. IfOk answer (Restores (IsResting n f) pool_recs (record { classes = classes; browsers = browsers }))) ended.fuel_is made)
 
 -- and they are ready for a pool
-pub finished_ready : (fuel : ℕ) (g : Gathered) (h : Gathering) → Ends fuel g true h → (browsers : List State) → browsers ≡ h.browsers.items → All (IsReady h.fuel) browsers
-finished_ready fuel g h ended browsers are = subst (All (IsReady h.fuel)) (sym are) (subst (λ f. All (IsReady f) h.browsers.items) (sym ended.fuel_is) (all_ready fuel h.browsers.items ended.rest))
+pub finished_ready : (fuel : ℕ) (g : Gathered) (h : Held) → Ends fuel g true h → (browsers : List State) → browsers ≡ h.browsers → All (IsReady h.fuel) browsers
+finished_ready fuel g h ended browsers are = subst (All (IsReady h.fuel)) (sym are) (subst (λ f. All (IsReady f) h.browsers) (sym ended.fuel_is) (all_ready fuel h.browsers ended.rest))
+
+-- what is said of their states is said of each
+pub each_ready : {B : Type 0} (state : B → State) (fuel : ℕ) (browsers : List B) → All (IsReady fuel) (map state browsers) → All (λ browser. IsReady fuel (state browser)) browsers
+each_ready state fuel [] ready = λ k d less. absurd (omega (arith, less))
+each_ready state fuel (first ∷ others) ready =
+    All-cons (λ browser. IsReady fuel (state browser)) first others (All-head (IsReady fuel) (state first) (map state others) ready)
+    (each_ready state fuel others (All-tail (IsReady fuel) (state first) (map state others) ready))

@@ -22,10 +22,9 @@ use Rattle.ff_saved.proofs.Shallow.{IsShallow}
 use Rattle.ff_saved.proofs.Nested.{row_nested}
 use Rattle.ff_saved.proofs.Kept as kept
 use Rattle.ff_save.specs.Gathered.{no_classes, browsers_of, saved_of, gathered_all, AreStored, IsTextOf, IsNoText}
-use Rattle.ff_save.specs.Holding.{HasText}
+use Rattle.ff_save.specs.Holding.{Held, HasText}
 use Rattle.ff_save.specs.Saved.{SavedRecs, classes_rows, saved_recs, saved_rows, saved_text}
 use Rattle.ff_save.specs.Whole.{IsSaved, IsOnly}
-use Rattle.ff_save.specs.declared.gathering.Gathering.{Gathering}
 use Rattle.ff_save.specs.declared.read.TheConstants.{MOST_SAVED_BYTES}
 use Rattle.ff_save.proofs.Finished.{all_stored}
 use Rattle.ff_save.proofs.Grown.{GathersAll, GivesBack, rows_gathered, all_shallow}
@@ -106,7 +105,7 @@ module _ (policy : Assignment) (order_is : IsOrder policy.order) (utf8 : IsUtf8 
       none (saved_rows policy (saved_recs p)) found.all (text_of bytes p saved) found.is
       (subst (All AreStored) (sym (ap (λ (r : SavedRecs). r.browsers) found.saved)) (all_stored p saved.whole.rests))
 
-  module _ (bytes : List ℕ) (held : Gathering) (text : HasText policy.order policy.fuel bytes held) where
+  module _ (bytes : List ℕ) (held : Held) (text : HasText policy.order policy.fuel bytes held) where
     -- what was gathered are the records of a pool whose text the bytes are
     records_are : (p : Pooled) → IsSaved policy bytes p → saved_recs p ≡ saved_of text.all
     records_are p saved =

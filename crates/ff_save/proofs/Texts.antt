@@ -17,8 +17,7 @@ use Rattle.ff_saved.proofs.Once.{reads_row_once}
 use Rattle.ff_saved.proofs.Rereading.{line_again}
 use Rattle.ff_saved.proofs.Shallow.{IsShallow, read_shallow}
 use Rattle.ff_save.specs.Gathered.{Gathered, no_classes, gathered_all, ReadsRows, no_line, one_line, IsTextOf, IsNoText}
-use Rattle.ff_save.specs.Holding.{Holds, IsStuck, IsLineOf, HasLine, HasText}
-use Rattle.ff_save.specs.declared.gathering.Gathering.{Gathering}
+use Rattle.ff_save.specs.Holding.{Held, Holds, IsStuck, IsLineOf, HasLine, HasText}
 use Rattle.ff_save.proofs.Grown.{stuck_fails}
 
 -- the first line, and what comes after it, where a line is followed by its newline
@@ -112,7 +111,7 @@ lines_short order _ _ (one ∷ rows) (one_line bytes first others some short rea
     (lines_short order (after_line bytes) others rows rest (ap after_line text ∙ later_lines order one rows here) (All-tail (λ r. AreWellSpelled (row_items order r)) one rows nested))
 
 -- What was read of a text, line by line.
-pub record IsReading (order : Order) (fuel : ℕ) (bytes : List ℕ) (held : Gathering) (rest : List ℕ) : Type 0 where
+pub record IsReading (order : Order) (fuel : ℕ) (bytes : List ℕ) (held : Held) (rest : List ℕ) : Type 0 where
   pub before : List Row
   pub so_far : Gathered
   pub holds : Holds fuel so_far held
@@ -120,10 +119,10 @@ pub record IsReading (order : Order) (fuel : ℕ) (bytes : List ℕ) (held : Gat
   pub gathers : (rows : List Row) → gathered_all no_classes (before ++ rows) ≡ gathered_all so_far rows
   pub only : (others : List Row) → IsTextOf order bytes others → (later : List Row) × (others ≡ before ++ later) × IsTextOf order rest later
 
-pub reading_none : (order : Order) (fuel : ℕ) (bytes : List ℕ) (held : Gathering) → Holds fuel no_classes held → IsReading order fuel bytes held bytes
+pub reading_none : (order : Order) (fuel : ℕ) (bytes : List ℕ) (held : Held) → Holds fuel no_classes held → IsReading order fuel bytes held bytes
 reading_none order fuel bytes held holds = record { before = []; so_far = no_classes; holds = holds; reads = λ rows reads. reads; gathers = λ rows. refl; only = λ others text. (others, refl, text) }
 
-pub reading_more : (order : Order) (fuel : ℕ) (bytes : List ℕ) (held new : Gathering) (rest line more : List ℕ) → (is : IsReading order fuel bytes held rest) → 0 < length rest → line ≡ content rest → more ≡ after_line rest
+pub reading_more : (order : Order) (fuel : ℕ) (bytes : List ℕ) (held new : Held) (rest line more : List ℕ) → (is : IsReading order fuel bytes held rest) → 0 < length rest → line ≡ content rest → more ≡ after_line rest
     → HasLine order fuel is.so_far line new → IsReading order fuel bytes new more
 reading_more order fuel bytes held new rest line more is some line_is more_is has = record {
   before = is.before ++ has.one ∷ [];
@@ -143,7 +142,7 @@ reading_more order fuel bytes held new rest line more is some line_is more_is ha
       (cut.others, found.1 ∙ ap (λ rows. is.before ++ rows) (cut.are ∙ ap (λ one. one ∷ cut.others) same) ∙ sym (append_assoc is.before (has.one ∷ []) cut.others), subst (λ bs. IsTextOf order bs cut.others) (sym more_is) cut.rest);
 }
 
-pub reading_stuck : (order : Order) (fuel : ℕ) (bytes : List ℕ) (held : Gathering) (rest line : List ℕ) → (is : IsReading order fuel bytes held rest) → 0 < length rest → line ≡ content rest
+pub reading_stuck : (order : Order) (fuel : ℕ) (bytes : List ℕ) (held : Held) (rest line : List ℕ) → (is : IsReading order fuel bytes held rest) → 0 < length rest → line ≡ content rest
     → ((one : Row) → IsLineOf order line one → IsStuck is.so_far one) → IsNoText order bytes no_classes
 reading_stuck order fuel bytes held rest line is some line_is stuck rows all text gathers stored =
     let found = is.only rows text in
@@ -151,7 +150,7 @@ reading_stuck order fuel bytes held rest line is some line_is stuck rows all tex
     let next : gathered_all is.so_far (cut.one ∷ cut.others) ≡ Some all = ap (gathered_all is.so_far) (sym cut.are) ∙ sym (is.gathers found.0) ∙ ap (gathered_all no_classes) (sym found.1) ∙ gathers in
     stuck_fails is.so_far cut.one cut.others all (stuck cut.one (cut.line.0, cut.line.1, line_is ∙ cut.line.2)) next stored
 
-pub reading_done : (order : Order) (fuel : ℕ) (bytes : List ℕ) (held : Gathering) (rest : List ℕ) → IsReading order fuel bytes held rest → rest ≡ [] → HasText order fuel bytes held
+pub reading_done : (order : Order) (fuel : ℕ) (bytes : List ℕ) (held : Held) (rest : List ℕ) → IsReading order fuel bytes held rest → rest ≡ [] → HasText order fuel bytes held
 reading_done order fuel bytes held rest is none = record {
   rows = is.before ++ [];
   reads = is.reads [] (subst (λ bs. ReadsRows order bs []) (sym none) no_line);

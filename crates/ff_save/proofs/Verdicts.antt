@@ -19,10 +19,9 @@ use Rattle.ff_saved.specs.Rows.{row_text, FitsLine}
 use Rattle.ff_saved.specs.declared.row.Row.{Row}
 use Rattle.ff_saved.specs.declared.row.Row.TheVariants as row
 use Rattle.ff_save.specs.Gathered.{Gathered, saved_of}
-use Rattle.ff_save.specs.Holding.{Holds, HasText, Gathers}
+use Rattle.ff_save.specs.Holding.{Held, Holds, HasText, Gathers}
 use Rattle.ff_save.specs.Saved.{classes_rows, saved_recs, saved_rows, saved_text}
 use Rattle.ff_save.specs.Whole.{IsSaved, IsOnly, IsOfOther}
-use Rattle.ff_save.specs.declared.gathering.Gathering.{Gathering}
 use Rattle.ff_save.specs.declared.read.TheConstants.{MOST_SAVED_BYTES}
 use Rattle.ff_save.proofs.OtherPolicy.{policies_once}
 use Rattle.ff_save.proofs.Saving.{good, no_pool, one_pool, none_restored, another, the_pool}
@@ -31,10 +30,10 @@ use Rattle.ff_save.proofs.Texts.{first_line, later_lines}
 
 module _ (p : Assignment) (valid : IsAssignment p) (utf8 : IsUtf8 (printed p)) (bytes : List ℕ) where
   -- no lines of a saved text
-  pub no_lines : (found : Option Gathering) → Gathers p.order p.fuel bytes found → found ≡ None → (pool : Pooled) → ¬ IsSaved p bytes pool
+  pub no_lines : (found : Option Held) → Gathers p.order p.fuel bytes found → found ≡ None → (pool : Pooled) → ¬ IsSaved p bytes pool
   no_lines found gathers none = no_pool p valid.draft.order_is utf8 bytes (subst (Gathers p.order p.fuel bytes) none gathers)
 
-  module _ (found : Option Gathering) (held : Gathering) (gathers : Gathers p.order p.fuel bytes found) (is : found ≡ Some held) where
+  module _ (found : Option Held) (held : Held) (gathers : Gathers p.order p.fuel bytes found) (is : found ≡ Some held) where
     text : HasText p.order p.fuel bytes held
     text = subst (Gathers p.order p.fuel bytes) is gathers
 

@@ -5,13 +5,13 @@ ghost use Rattle.ff_lattice.specs.declared.names.TheConstants.{MOST_LEVELS};
 ghost use Rattle.ff_pool.specs.Restored.{IsResting};
 ghost use Rattle.ff_records.specs.Restored.{Restores};
 ghost use Rattle.ff_save.specs.Gathered.{Gathered, no_classes, saved_of};
-ghost use Rattle.ff_save.specs.Holding.{Holds, AddsLine, AddsRow, Begins, Ends};
+ghost use Rattle.ff_save.specs.Holding.{Holds, AddsLine, AddsRow, Begins, Ends, held_by};
 ghost use Rattle.ff_save.specs.Saved.{saved_recs};
 
-use ff_core::Browser;
 use ff_lattice::{Lattice, LevelSet};
 use ff_name::NoMemory;
 use ff_pool::Pool;
+use ff_restorable::Restorable;
 use ff_saved::{Draft, LineFault, Row, read_row};
 use ff_shared::OwnedList;
 use ff_steps::Steps;
@@ -24,20 +24,20 @@ use std::sync::ledger::Ledger;
 /// The classes of a saved text as far as its lines were read. Each class but the last has its
 /// browser.
 #[derive(Drop)]
-pub(crate) struct Gathering {
+pub(crate) struct Gathering<B: Restorable> {
     alloc: Global,
     fuel: u32,
     classes: Vec<LevelSet>,
-    browsers: Vec<Browser>,
+    browsers: Vec<B>,
     draft: Draft,
 }
 
-impl Gathering {
+impl<B: Restorable> Gathering<B> {
     /// Nothing was read. Browsers get so much fuel by each input. It takes no memory.
-    pub(crate) fn new(alloc: Global, fuel: u32) -> Gathering
+    pub(crate) fn new(alloc: Global, fuel: u32) -> Gathering<B>
         requires some { 1 ≤ fuel }
         requires few { fuel ≤ MOST_BUDGET }
-        ensures { Holds fuel no_classes result }
+        ensures { Holds fuel no_classes (held_by B.state result) }
     {
         Gathering {
             alloc,
@@ -57,7 +57,7 @@ impl Gathering {
     ) -> Result<bool, NoMemory>
         requires some { 1 ≤ self.old.fuel }
         requires few { self.old.fuel ≤ MOST_BUDGET }
-        ensures value { (g : Gathered) → Holds self.old.fuel g self.old → IfOk result (λ found. AddsLine lattice.now self.old.fuel g line.now found self.new) }
+        ensures value { (g : Gathered) → Holds self.old.fuel g (held_by B.state self.old) → IfOk result (λ found. AddsLine lattice.now self.old.fuel g line.now found (held_by B.state self.new)) }
         ensures later { copies.old ≤ copies.new }
     {
         if line.len() > MOST_BYTES {
@@ -74,7 +74,7 @@ impl Gathering {
     fn add<C: Ledger>(&mut self, row: Row, copies: &mut Steps<C>) -> Result<bool, NoMemory>
         requires some { 1 ≤ self.old.fuel }
         requires few { self.old.fuel ≤ MOST_BUDGET }
-        ensures value { (g : Gathered) → Holds self.old.fuel g self.old → IfOk result (λ found. AddsRow self.old.fuel g row found self.new) }
+        ensures value { (g : Gathered) → Holds self.old.fuel g (held_by B.state self.old) → IfOk result (λ found. AddsRow self.old.fuel g row found (held_by B.state self.new)) }
         ensures later { copies.old ≤ copies.new }
     {
         match row {
@@ -94,7 +94,7 @@ impl Gathering {
     ) -> Result<bool, NoMemory>
         requires some { 1 ≤ self.old.fuel }
         requires few { self.old.fuel ≤ MOST_BUDGET }
-        ensures value { (g : Gathered) → Holds self.old.fuel g self.old → IfOk result (λ found. Begins self.old.fuel g levels found self.new) }
+        ensures value { (g : Gathered) → Holds self.old.fuel g (held_by B.state self.old) → IfOk result (λ found. Begins self.old.fuel g levels found (held_by B.state self.new)) }
         ensures later { copies.old ≤ copies.new }
     {
         if !self.end_class(copies)? {
@@ -109,7 +109,7 @@ impl Gathering {
     fn end_class<C: Ledger>(&mut self, copies: &mut Steps<C>) -> Result<bool, NoMemory>
         requires some { 1 ≤ self.old.fuel }
         requires few { self.old.fuel ≤ MOST_BUDGET }
-        ensures value { (g : Gathered) → Holds self.old.fuel g self.old → IfOk result (λ found. Ends self.old.fuel g found self.new) }
+        ensures value { (g : Gathered) → Holds self.old.fuel g (held_by B.state self.old) → IfOk result (λ found. Ends self.old.fuel g found (held_by B.state self.new)) }
         ensures later { copies.old ≤ copies.new }
     {
         let draft = mem::replace(&mut self.draft, Draft::new(self.alloc));
@@ -119,7 +119,7 @@ impl Gathering {
         let recs = draft.finish()?;
         match restore_stores(self.alloc, &recs, copies)? {
             Some(stores) => {
-                let browser = Browser::restore(self.alloc, self.fuel, stores);
+                let browser = B::restore(self.alloc, self.fuel, stores);
                 self.browsers.push(browser)?;
                 Ok(true)
             }
@@ -133,12 +133,12 @@ impl Gathering {
         self,
         n: u8,
         copies: &mut Steps<C>,
-    ) -> Result<Option<Pool<Browser>>, NoMemory>
+    ) -> Result<Option<Pool<B>>, NoMemory>
         requires some { 1 ≤ self.fuel }
         requires few { self.fuel ≤ MOST_BUDGET }
         requires most { n ≤ MOST_LEVELS }
-        requires held { (g : Gathered) × Holds self.fuel g self }
-        ensures value { (g : Gathered) → Holds self.fuel g self → IfOk result (Restores (IsResting n self.fuel) saved_recs (saved_of g)) }
+        requires held { (g : Gathered) × Holds self.fuel g (held_by B.state self) }
+        ensures value { (g : Gathered) → Holds self.fuel g (held_by B.state self) → IfOk result (Restores (IsResting n self.fuel) saved_recs (saved_of g)) }
         ensures later { copies.old ≤ copies.new }
     {
         let mut gathering = self;

@@ -1,12 +1,13 @@
 //! The pool of a saved text, read.
 ghost use Rattle.std.specs.Prelude.{◌≡◌, ◌≢◌, ◌↔◌, ◌≤◌, Ok, Err, None, IfOk, IfErr, IsTrue};
+ghost use Rattle.std.specs.Option.{option_map};
 ghost use Rattle.std.specs.Str.{IsUtf8};
 ghost use Rattle.ff_contract.specs.Answering.{Answers};
 ghost use Rattle.ff_lattice.specs.Order.{size};
 ghost use Rattle.ff_policy.specs.Printing.{printed};
 ghost use Rattle.ff_pool.specs.Pooled.{Pooled};
 ghost use Rattle.ff_pool.specs.Restored.{IsResting};
-ghost use Rattle.ff_save.specs.Holding.{Gathers};
+ghost use Rattle.ff_save.specs.Holding.{Gathers, held_by};
 ghost use Rattle.ff_save.specs.Saved.{saved_recs, saved_text};
 ghost use Rattle.ff_save.specs.Whole.{HasFault, IsOfOther, IsPoolOf, IsPrintedPolicy, IsSaved, TellsPolicy, policy_line};
 ghost use Rattle.ff_saved.specs.declared.fault.SavedFault.{SavedFault};
@@ -14,12 +15,12 @@ ghost use Rattle.ff_saved.specs.declared.fault.SavedFault.{SavedFault};
 use crate::fail::SavedFail;
 use crate::gathering::Gathering;
 use crate::write::{policy_text, write_saved};
-use ff_core::Browser;
 use ff_io::split_line;
 use ff_name::{NoMemory, Text};
 use ff_policy::Policy;
 use ff_pool::Pool;
 use ff_printing::Printer;
+use ff_restorable::Restorable;
 use ff_saved::{LineFault, Row, SavedFault, read_row};
 use ff_steps::Steps;
 use ff_text::MOST_BYTES;
@@ -34,12 +35,12 @@ pub const MOST_SAVED_BYTES: u64 = 4_294_967_295;
 /// printed otherwise; they are the saved text of no pool, or of one whose text is longer than
 /// [`MOST_SAVED_BYTES`], has a line of more than `ff_text::MOST_BYTES` bytes, or one that nests too
 /// deep to be read. `copies` counts cells that are copied, also where the bytes are refused.
-pub fn read_saved<C: Ledger>(
+pub fn read_saved<B: Restorable, C: Ledger>(
     alloc: Global,
     policy: &Policy,
     bytes: &[u8],
     copies: &mut Steps<C>,
-) -> Result<Pool<Browser>, SavedFail>
+) -> Result<Pool<B>, SavedFail>
     ensures found { IfOk result (IsSaved policy.now bytes.now) }
     ensures only { (pool : Pooled) → IsSaved policy.now bytes.now pool → Answers result (Ok pool) (Err SavedFail.NoMemory) }
     ensures fault { IfErr result (λ fail. (fault : SavedFault) → fail ≡ SavedFail.Fault fault → HasFault policy.now bytes.now fault) }
@@ -57,12 +58,12 @@ pub fn read_saved<C: Ledger>(
 }
 
 /// The pool whose saved text the bytes are, or `None` where they are that of none.
-fn read_pool<C: Ledger>(
+fn read_pool<B: Restorable, C: Ledger>(
     alloc: Global,
     policy: &Policy,
     bytes: &[u8],
     copies: &mut Steps<C>,
-) -> Result<Option<Pool<Browser>>, NoMemory>
+) -> Result<Option<Pool<B>>, NoMemory>
     requires utf8 { IsUtf8 (printed policy.now) }
     ensures value { IfOk result (IsPoolOf policy.now bytes.now) }
     ensures later { copies.old ≤ copies.new }
@@ -71,7 +72,7 @@ fn read_pool<C: Ledger>(
         return Ok(None);
     }
     let lattice = policy.lattice();
-    let Some(gathering) = gather(alloc, policy, bytes, copies)? else {
+    let Some(gathering) = gather::<B, C>(alloc, policy, bytes, copies)? else {
         return Ok(None);
     };
     let Some(pool) = gathering.finish(lattice.size(), copies)? else {
@@ -86,16 +87,16 @@ fn read_pool<C: Ledger>(
 
 /// The classes that the lines of a text tell, in whatever spelling, or `None` where they aren't
 /// lines of a saved text.
-fn gather<C: Ledger>(
+fn gather<B: Restorable, C: Ledger>(
     alloc: Global,
     policy: &Policy,
     bytes: &[u8],
     copies: &mut Steps<C>,
-) -> Result<Option<Gathering>, NoMemory>
-    ensures value { IfOk result (Gathers policy.now.order policy.now.fuel bytes.now) }
+) -> Result<Option<Gathering<B>>, NoMemory>
+    ensures value { IfOk result (λ found. Gathers policy.now.order policy.now.fuel bytes.now (option_map (held_by B.state) found)) }
     ensures later { copies.old ≤ copies.new }
 {
-    let mut gathering = Gathering::new(alloc, policy.fuel());
+    let mut gathering = Gathering::<B>::new(alloc, policy.fuel());
     let mut rest = bytes;
     'lines: while !rest.is_empty() {
         let (line, more) = split_line(rest);
@@ -108,10 +109,10 @@ fn gather<C: Ledger>(
 }
 
 /// Whether these bytes are the saved text of the pool.
-fn is_text_of(
+fn is_text_of<B: Restorable>(
     alloc: Global,
     policy: &Policy,
-    pool: &Pool<Browser>,
+    pool: &Pool<B>,
     bytes: &[u8],
 ) -> Result<bool, NoMemory>
     requires { IsResting (size policy.now.order) policy.now.fuel pool.now }

@@ -13,11 +13,11 @@ ghost use Rattle.ff_reactive.specs.Worlds.{leader};
 ghost use Rattle.ff_save.specs.LevelByLevel.{level_rows};
 ghost use Rattle.ff_save.specs.Saved.{saved_recs, saved_rows, saved_text};
 
-use ff_core::Browser;
 use ff_name::{Level, NoMemory, Text};
 use ff_policy::Policy;
 use ff_pool::Pool;
 use ff_printing::Printer;
+use ff_restorable::Restorable;
 use ff_saved::{put_class, put_end, put_head, put_policy};
 use ff_stored::put_stores;
 use std::alloc::Global;
@@ -26,10 +26,10 @@ use std::alloc::Global;
 /// policy's fuel. Its one refusal is want of memory, after which a front of the text was appended.
 /// It writes texts too that are too long to be read.
 #[tactic(auto, using(ff_contract::proofs::Sequence::front_none))]
-pub fn write_saved(
+pub fn write_saved<B: Restorable>(
     alloc: Global,
     policy: &Policy,
-    pool: &Pool<Browser>,
+    pool: &Pool<B>,
     out: &mut Vec<u8>,
 ) -> Result<(), NoMemory>
     requires { IsResting (size policy.now.order) policy.now.fuel pool.now }
@@ -51,7 +51,7 @@ pub(crate) fn policy_text(alloc: Global, policy: &Policy) -> Result<Text, NoMemo
     Text::of_utf8(alloc, bytes.as_slice())
 }
 
-fn write_rows(policy: &Policy, text: &Text, pool: &Pool<Browser>, out: &mut Printer)
+fn write_rows<B: Restorable>(policy: &Policy, text: &Text, pool: &Pool<B>, out: &mut Printer)
     requires policy_is { text.now ≡ printed policy.now }
     requires rests { IsResting (size policy.now.order) policy.now.fuel pool.now }
     ensures { Prints out.old out.new (rows_text policy.now.order (saved_rows policy.now (saved_recs pool.now))) }
@@ -62,7 +62,7 @@ fn write_rows(policy: &Policy, text: &Text, pool: &Pool<Browser>, out: &mut Prin
     put_end(out);
 }
 
-fn write_classes(policy: &Policy, pool: &Pool<Browser>, out: &mut Printer)
+fn write_classes<B: Restorable>(policy: &Policy, pool: &Pool<B>, out: &mut Printer)
     requires { IsResting (size policy.now.order) policy.now.fuel pool.now }
     ensures { Prints out.old out.new (rows_text policy.now.order (flat_map (level_rows pool.now) (below (size policy.now.order)))) }
 {
@@ -72,7 +72,7 @@ fn write_classes(policy: &Policy, pool: &Pool<Browser>, out: &mut Printer)
 }
 
 /// Appends the rows of the class of a level that is the least of it, and else nothing.
-fn write_level(policy: &Policy, level: Level, pool: &Pool<Browser>, out: &mut Printer)
+fn write_level<B: Restorable>(policy: &Policy, level: Level, pool: &Pool<B>, out: &mut Printer)
     requires rests { IsResting (size policy.now.order) policy.now.fuel pool.now }
     requires there { level.0 < size policy.now.order }
     ensures { Prints out.old out.new (rows_text policy.now.order (level_rows pool.now level.0)) }
@@ -84,7 +84,7 @@ fn write_level(policy: &Policy, level: Level, pool: &Pool<Browser>, out: &mut Pr
 }
 
 /// Whether a level is the least of its class.
-fn leads(pool: &Pool<Browser>, level: Level) -> bool
+fn leads<B: Restorable>(pool: &Pool<B>, level: Level) -> bool
     requires unspent { pool.now.spent ≡ false }
     requires there { level.0 < size_of pool.now }
     ensures { IsTrue result ↔ (leader pool.now.world.leaders level.0 ≡ level.0) }

@@ -3,6 +3,7 @@ ghost use Rattle.std.specs.Prelude.{IfOk};
 
 use crate::printing::print_lines;
 use anyhow::Result;
+use ff_core::Browser;
 use ff_name::NoMemory;
 use ff_policy::Policy;
 use ff_save::{SavedFail, read_saved, write_saved};
@@ -33,7 +34,7 @@ pub fn verdict_of<C: Ledger>(
     again: &mut Vec<u8>,
     copies: &mut Steps<C>,
 ) -> Result<String, NoMemory> {
-    match read_saved(alloc, policy, text, copies) {
+    match read_saved::<Browser, C>(alloc, policy, text, copies) {
         Ok(pool) => {
             write_saved(alloc, policy, &pool, again)?;
             format!(in alloc; "saved")

@@ -8,13 +8,13 @@ use Rattle.ff_save.proofs.LevelRows.{level_more}
 use Rattle.ff_save.proofs.write.write_classes.Goals as goal
 
 pub loop-number-init : goal.loop-number-init
-loop-number-init c = (omega arith, nothing c.args.out.now)
+loop-number-init g c = (omega arith, nothing c.args.out.now)
 
 pub loop-number-preserved : goal.loop-number-preserved
-loop-number-preserved c = (let same = ap size c.lattice.ensures.value in omega (arith, c.loop-number-test.true, c.size-number-end.ensures.value, same), level_more c.args.policy.now.order c.args.pool.now c.loop-number.number c.loop-number.invariant.1 c.write_level.ensures)
+loop-number-preserved g c = (let same = ap size c.lattice.ensures.value in omega (arith, c.loop-number-test.true, c.size-number-end.ensures.value, same), level_more c.args.policy.now.order c.args.pool.now c.loop-number.number c.loop-number.invariant.1 c.write_level.ensures)
 
 pub returns : goal.returns
-returns c =
+returns g c =
     let n = c.loop-number.number in
     let most = c.loop-number.invariant.0 in
     let same = ap size c.lattice.ensures.value in

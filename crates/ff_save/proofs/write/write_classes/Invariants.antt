@@ -7,4 +7,4 @@ use Rattle.ff_save.specs.LevelByLevel.{level_rows}
 use Rattle.ff_save.proofs.write.write_classes.Given as goal
 
 abbrev pub invariant-loop-number : goal.invariant-loop-number
-invariant-loop-number l = (l.number ≤ size l.policy.order) × Prints l.fn.out l.out (rows_text l.policy.order (flat_map (level_rows l.pool) (below l.number)))
+invariant-loop-number g l = (l.number ≤ size l.policy.order) × Prints l.fn.out l.out (rows_text l.policy.order (flat_map (level_rows l.pool) (below l.number)))
