@@ -17,8 +17,8 @@ use std::alloc::{AllocError, Global};
 use std::sync::ledger::Ledger;
 
 /// The plain program and the multi-executed one under a policy, both of browsers `B`, and the lines
-/// that they put at each level. Of lines that are the same in both it keeps the number alone; where a level's lines
-/// differ, no more than what is kept by then.
+/// that they put at each level. Of lines that are the same in both it keeps the number alone; where
+/// a level's lines differ, no more than what is kept by then.
 #[derive(Drop)]
 pub struct Auditor<B: Reactor> {
     alloc: Global,

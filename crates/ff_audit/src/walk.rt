@@ -58,10 +58,10 @@ impl<B: Reactor> Taker for Both<'_, B> {
     }
 }
 
-/// Audits the trace that the port gives, with browsers `B`: `Leaks` where at some level the plain program puts other
-/// lines than the multi-executed one, and else `Done`. The report is put once reading has ended,
-/// also after a bad line and after a read that failed, and nothing before it. `turns` counts the
-/// turns of both programs, and `copies` the cells that they copy.
+/// Audits the trace that the port gives, with browsers `B`: `Leaks` where at some level the plain
+/// program puts other lines than the multi-executed one, and else `Done`. The report is put once
+/// reading has ended, also after a bad line and after a read that failed, and nothing before it.
+/// `turns` counts the turns of both programs, and `copies` the cells that they copy.
 pub fn audit<B: Reactor, P: Port, C: Ledger, L: Ledger>(
     alloc: Global,
     policy: &Policy,

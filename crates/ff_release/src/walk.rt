@@ -21,9 +21,9 @@ use std::marker::PhantomData;
 use std::sync::ledger::Ledger;
 
 /// Multi-executes the trace that the port gives, line by line, with copies of a browser `B`, where
-/// these rules let a stated number of inputs pass to lower levels. A class makes up to `slice` steps before the next one has
-/// its turn, from 1 on. `turns` counts the turns of each class once, and `copies` the cells that
-/// are copied.
+/// these rules let a stated number of inputs pass to lower levels. A class makes up to `slice`
+/// steps before the next one has its turn, from 1 on. `turns` counts the turns of each class once,
+/// and `copies` the cells that are copied.
 pub fn release<B: Reactor, P: Port, C: Ledger, L: Ledger>(
     alloc: Global,
     policy: &Policy,

@@ -22,8 +22,9 @@ use std::sync::ledger::Ledger;
 
 /// Multi-executes the trace that the port gives, line by line, from where the copies of a pool at
 /// rest stand, whatever browsers `B` these are. Once the end of the trace was seen and no line is
-/// bad, it puts the saved text of where the copies then stand. A class makes up to `slice` steps before the next one has its turn,
-/// from 1 on. `turns` counts the turns of each class once, and `copies` the cells that are copied.
+/// bad, it puts the saved text of where the copies then stand. A class makes up to `slice` steps
+/// before the next one has its turn, from 1 on. `turns` counts the turns of each class once, and
+/// `copies` the cells that are copied.
 pub fn resume<B: Restorable, P: Port, C: Ledger, L: Ledger>(
     alloc: Global,
     policy: &Policy,

@@ -30,9 +30,10 @@ pub enum Work {
 }
 
 /// Does the work over the trace that the port gives, line by line, with browsers `B`: before the
-/// port is read again, the whole text of the lines that were got is written. `turns` counts the turns of all
-/// browsers, and `copies` the cells that are copied. Where the inputs are multi-executed, copies
-/// with work take turns, and each makes up to `slice` steps at a time, from 1 on.
+/// port is read again, the whole text of the lines that were got is written. `turns` counts the
+/// turns of all browsers, and `copies` the cells that are copied. Where the inputs are
+/// multi-executed, copies with work take turns, and each makes up to `slice` steps at a time, from
+/// 1 on.
 pub fn walk<B: Reactor, P: Port, C: Ledger, L: Ledger>(
     alloc: Global,
     work: Work,

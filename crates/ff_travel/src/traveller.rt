@@ -58,9 +58,9 @@ impl<'a, B: Reactor> Taker for Traveller<'a, B> {
 }
 
 /// Carries out the commands of the trace that the port gives on a pool of browsers `B`, line by
-/// line: before the port is read again, all that the lines that were got show is written. `turns` counts the turns that
-/// turns and drains make, also of those that are taken back later, and `copies` the cells that are
-/// copied.
+/// line: before the port is read again, all that the lines that were got show is written. `turns`
+/// counts the turns that turns and drains make, also of those that are taken back later, and
+/// `copies` the cells that are copied.
 #[tactic(auto, using(ff_commands::proofs::Giving::is_given, crate::proofs::Force::fresh_travel))]
 pub fn travel<B: Reactor, P: Port, C: Ledger, L: Ledger>(
     alloc: Global,
