@@ -74,11 +74,8 @@ module _ (s : State) (i : Input) (before : ℕ) (now : State) (outs : List Out) 
       omega arith
 
   -- a quiet state is the end
-  pub outputs_done : now.quiet ≡ true → outs ≡ (handled s i).outputs
-  outputs_done quiet = (handling_done (reactor s.budget) (s.budget + 1) s i [] now outs at.made at.settling quiet).0
-
-  pub state_done : now.quiet ≡ true → now ≡ (handled s i).after
-  state_done quiet = (handling_done (reactor s.budget) (s.budget + 1) s i [] now outs at.made at.settling quiet).1
+  pub handling_ends : now.quiet ≡ true → (outs ≡ (handled s i).outputs) × (now ≡ (handled s i).after)
+  handling_ends quiet = let done = handling_done (reactor s.budget) (s.budget + 1) s i [] now outs at.made at.settling quiet in (done.0, done.1)
 
   -- and each turn brings it nearer
   pub handling_falls : now.quiet ≡ false → turns_left (reactor s.budget) (λ t. t.fuel) (turn now).after < turns_left (reactor s.budget) (λ t. t.fuel) now

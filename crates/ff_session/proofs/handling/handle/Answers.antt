@@ -3,7 +3,7 @@ use Rattle.ff_reactive.specs.Turns.{turns_left}
 use Rattle.ff_machine.specs.Valid.{IsState}
 use Rattle.ff_machine.specs.Machine.{reactor}
 use Rattle.ff_machine.specs.Inputs.{begin}
-use Rattle.ff_session.proofs.Turning.{handling_start, handling_turn, handling_within, handling_falls, outputs_done, state_done}
+use Rattle.ff_session.proofs.Turning.{handling_start, handling_turn, handling_within, handling_falls, handling_ends}
 use Rattle.ff_session.proofs.handling.handle.Goals as goal
 
 pub turning-init : goal.turning-init
@@ -39,10 +39,10 @@ pub returns-clause-outputs : goal.returns-clause-outputs
 returns-clause-outputs g c =
     let state = g.B.Reactor.state in
     let quiet : (state c.turning.browser).quiet ≡ true = cc in
-    outputs_done (state c.args.browser.now) c.args.input.now c.args.turns.now (state c.turning.browser) c.turning.outs.items c.turning.turns c.turning.invariant.0 quiet
+    (handling_ends (state c.args.browser.now) c.args.input.now c.args.turns.now (state c.turning.browser) c.turning.outs.items c.turning.turns c.turning.invariant.0 quiet).0
 
 pub returns-clause-state : goal.returns-clause-state
 returns-clause-state g c =
     let state = g.B.Reactor.state in
     let quiet : (state c.turning.browser).quiet ≡ true = cc in
-    state_done (state c.args.browser.now) c.args.input.now c.args.turns.now (state c.turning.browser) c.turning.outs.items c.turning.turns c.turning.invariant.0 quiet
+    (handling_ends (state c.args.browser.now) c.args.input.now c.args.turns.now (state c.turning.browser) c.turning.outs.items c.turning.turns c.turning.invariant.0 quiet).1
