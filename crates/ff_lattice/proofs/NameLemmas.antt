@@ -1,8 +1,8 @@
 -- Lemmas on the names of levels.
-use Rattle.std.proofs.Common.{◌≡◌, ◌≢◌, ℕ, ◌+◌, ◌<◌, ◌⊎◌, inl, inr, zero, suc, true, false, nat_eq, List, [], ◌∷◌, ◌++◌, sym, ◌∙◌, ap, subst, arith, length, take}
+use Rattle.std.proofs.Common.{◌≡◌, ◌≢◌, ℕ, ◌+◌, ◌<◌, ◌⊎◌, inl, inr, zero, suc, Bool, true, false, nat_eq, not, cond, List, [], ◌∷◌, ◌++◌, sym, ◌∙◌, ap, subst, arith, length, take}
 use Rattle.std.specs.Cmp.Lexicographic.{pointwise, same_text, other_text}
 use Rattle.std.specs.List.{list_any}
-use Rattle.std.proofs.lemmas.Bool.{cases_eq, cases_order, or_cases, or_parts, false≢true}
+use Rattle.std.proofs.lemmas.Bool.{cases_eq, cases_order, or_cases, or_parts, false≢true, not-true, not-false, cond-false}
 use Rattle.std.proofs.lemmas.List.{get_or-take, length-take-le, take_more}
 use Rattle.ff_lattice.specs.declared.pair.Pair.{Pair}
 use Rattle.ff_lattice.specs.declared.fault.LatticeFault.TheVariants.{Unknown}
@@ -39,20 +39,24 @@ no_repeat_from_any names place in_place none repeat =
     let before : repeat.0 < place = repeat.1 in
     no_level_from_any (take place names) (nth names place) none repeat.0 (omega arith) (get_or-take place names repeat.0 [] before ∙ repeat.2)
 
--- ---- names that are put behind one another
+-- ---- names that are put into a set one after another
 
-module _ (names items : List (List ℕ)) (place : ℕ) (value : List ℕ) (in_place : place < length names) (items_are : items ≡ take place names) (value_is : value ≡ nth names place) where
-  long : length (take place names) ≡ place
-  long = length-take-le place names (omega arith)
+module _ (names keys : List (List ℕ)) (place : ℕ) (value : List ℕ) (is_new : Bool) (in_place : place < length names) (keys_are : keys ≡ take place names) (value_is : value ≡ nth names place) (added : is_new ≡ not (list_any (pointwise nat_eq value) keys)) where
+  found_is : list_any (pointwise nat_eq value) keys ≡ list_any (pointwise nat_eq (nth names place)) (take place names)
+  found_is = λ i. list_any (pointwise nat_eq (value_is i)) (keys_are i)
 
-  pub no_repeat_from_places : ((k : ℕ) → k < length items → nth items k ≢ value) → ¬ IsRepeat names place
-  no_repeat_from_places none repeat =
-      let before : repeat.0 < place = repeat.1 in
-      none repeat.0 (subst (λ (n : ℕ). repeat.0 < n) (sym (ap length items_are ∙ long)) before)
-      (ap (λ (texts : List (List ℕ)). nth texts repeat.0) items_are ∙ get_or-take place names repeat.0 [] before ∙ repeat.2 ∙ sym value_is)
+  pub repeat_from_added : is_new ≡ false → IsRepeat names place
+  repeat_from_added old = repeat_from_any names place in_place (sym found_is ∙ not-false (list_any (pointwise nat_eq value) keys) (sym added ∙ old))
 
-  pub names_more : (after : List (List ℕ)) → after ≡ items ++ value ∷ [] → after ≡ take (place + 1) names
-  names_more after after_is = after_is ∙ (λ i. items_are i ++ value_is i ∷ []) ∙ sym (take_more names place [] in_place)
+  pub no_repeat_from_added : is_new ≡ true → ¬ IsRepeat names place
+  no_repeat_from_added new = no_repeat_from_any names place in_place (sym found_is ∙ not-true (list_any (pointwise nat_eq value) keys) (sym added ∙ new))
+
+  pub keys_more : (after : List (List ℕ)) → after ≡ cond (list_any (pointwise nat_eq value) keys) keys (keys ++ value ∷ []) → is_new ≡ true → after ≡ take (place + 1) names
+  keys_more after after_is new =
+      after_is
+      ∙ cond-false (list_any (pointwise nat_eq value) keys) keys (keys ++ value ∷ []) (not-true (list_any (pointwise nat_eq value) keys) (sym added ∙ new))
+      ∙ (λ i. keys_are i ++ value_is i ∷ [])
+      ∙ sym (take_more names place [] in_place)
 
 -- names without repeats tell their levels apart
 pub level_is : (names : List (List ℕ)) → AreApart names → (a b : ℕ) → a < length names → b < length names → nth names a ≡ nth names b → a ≡ b

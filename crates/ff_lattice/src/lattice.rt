@@ -2,12 +2,13 @@ ghost use Rattle.std.specs.Prelude.{◌≡◌, ◌≢◌, ℕ, ◌<◌, ◌≤�
 ghost use Rattle.ff_contract.specs.Answering.{Answers};
 ghost use Rattle.ff_lattice.specs.Bounds.{IsLattice, IsJoin, IsMeet};
 ghost use Rattle.ff_lattice.specs.LevelSet.{levels_where};
-ghost use Rattle.ff_lattice.specs.Levels.{AreApart, AreLevels, Reaches, IsFault, IsLatticeOf};
+ghost use Rattle.ff_lattice.specs.Levels.{AreNamed, AreLevels, Reaches, IsFault, IsLatticeOf};
 ghost use Rattle.ff_lattice.specs.Order.{Order, size, leq, name, level_named, join, meet, bottom, top, two, AtOrBelow, IsTag, IsOrder};
 
 use crate::bounds::{check_order, join_in};
-use crate::names::{check_names, distinct_names};
-use crate::rows::{close, given_rows, turned};
+use crate::names::check_names;
+use crate::numbering::numbered;
+use crate::rows::{close, turned};
 use crate::{LatticeFault, LevelSet, NoMemory, Pair};
 use ff_name::{Level, Text};
 use std::alloc::Global;
@@ -73,17 +74,16 @@ impl Lattice {
         ensures exact { (fault : LatticeFault) → IsFault names.now below.now fault → Answers result (Err fault) (Err LatticeFault.NoMemory) }
     {
         check_names(names)?;
-        let levels = distinct_names(alloc, names)?;
-        Lattice::of_levels(alloc, levels, below)
+        Lattice::of_named(alloc, names, below)
     }
 
-    /// The lattice of levels with names of their own.
-    fn of_levels(alloc: Global, names: Vec<Text>, below: &[Pair]) -> Result<Lattice, LatticeFault>
-        requires { AreApart names.items }
-        ensures found { IfOk result (IsLatticeOf names.items below.now) }
-        ensures fault { IfErr result (λ fault. fault ≢ LatticeFault.NoMemory → IsFault names.items below.now fault) }
+    /// The lattice of names that are each spelled as the name of a level.
+    fn of_named(alloc: Global, names: &[Text], below: &[Pair]) -> Result<Lattice, LatticeFault>
+        requires { AreNamed names.now }
+        ensures found { IfOk result (IsLatticeOf names.now below.now) }
+        ensures fault { IfErr result (λ fault. fault ≢ LatticeFault.NoMemory → IsFault names.now below.now fault) }
     {
-        let mut up = given_rows(alloc, &names, below)?;
+        let (names, mut up) = numbered(alloc, names, below)?;
         close(&mut up);
         let down = turned(alloc, &up)?;
         check_order(&names, &up, &down)?;

@@ -6,6 +6,7 @@ mod fault;
 mod lattice;
 mod level_set;
 mod names;
+mod numbering;
 mod pair;
 mod rows;
 

@@ -1,13 +1,12 @@
-ghost use Rattle.std.specs.Prelude.{◌≡◌, ◌≢◌, ℕ, ◌<◌, ◌&&◌, List, [], ◌∷◌, ◌++◌, OnOk, IfOk, IfErr, IfSome, IfNone, length};
+ghost use Rattle.std.specs.Prelude.{◌≡◌, List, OnOk, IfErr};
 ghost use Rattle.std.specs.List.{list_all};
-ghost use Rattle.ff_lattice.specs.Levels.{AreNamed, AreApart, IsFault, IsLevel, nth};
+ghost use Rattle.ff_lattice.specs.Levels.{AreNamed, IsFault};
 ghost use Rattle.ff_lattice.specs.Order.{is_level_name};
 ghost use Rattle.ff_lattice.specs.declared.pair.Pair.{Pair};
 ghost use Rattle.ff_name.specs.Spelling.{stands_in_name};
 
-use crate::{LatticeFault, NoMemory};
-use ff_name::{Level, Text, stands_in_name};
-use std::alloc::Global;
+use crate::LatticeFault;
+use ff_name::{Text, stands_in_name};
 
 /// The most levels that a lattice has.
 pub const MOST_LEVELS: usize = 16;
@@ -53,53 +52,4 @@ pub(crate) fn check_names(names: &[Text]) -> Result<(), LatticeFault>
         }
     }
     Ok(())
-}
-
-/// The place of this name among those of the levels.
-fn place_of(levels: &Vec<Text>, name: &Text) -> Option<usize>
-    ensures found { IfSome result (λ k. (k < length levels.now.items) × (nth levels.now.items k ≡ name.now)) }
-    ensures none { IfNone result ((k : ℕ) → k < length levels.now.items → nth levels.now.items k ≢ name.now) }
-{
-    for place in 0..levels.len() {
-        if levels[place] == *name {
-            return Some(place);
-        }
-    }
-    None
-}
-
-/// One name more.
-fn add_name(levels: &mut Vec<Text>, name: &Text) -> Result<(), NoMemory>
-    ensures { OnOk result (levels.new.items ≡ levels.old.items ++ name.now ∷ []) }
-{
-    levels.push(name.copy()?)?;
-    Ok(())
-}
-
-/// The same names once more, where none is repeated.
-pub(crate) fn distinct_names(alloc: Global, names: &[Text]) -> Result<Vec<Text>, LatticeFault>
-    requires { AreNamed names.now }
-    ensures found { IfOk result (λ levels. (levels.items ≡ names.now) × AreApart names.now) }
-    ensures fault { IfErr result (λ fault. fault ≢ LatticeFault.NoMemory → (below : List Pair) → IsFault names.now below fault) }
-{
-    let mut levels = Vec::new(alloc);
-    for name in names {
-        match place_of(&levels, name) {
-            Some(_) => return Err(LatticeFault::Repeated(name.copy()?)),
-            None => add_name(&mut levels, name)?,
-        }
-    }
-    Ok(levels)
-}
-
-/// The level of this name.
-pub(crate) fn level_named(levels: &Vec<Text>, name: &Text) -> Result<Level, LatticeFault>
-    requires { length levels.now.items < 256 }
-    ensures found { IfOk result (λ l. (l.0 < length levels.now.items) × (nth levels.now.items l.0 ≡ name.now)) }
-    ensures fault { IfErr result (λ fault. fault ≢ LatticeFault.NoMemory → (fault ≡ LatticeFault.Unknown name.now) × (¬ IsLevel levels.now.items name.now)) }
-{
-    match place_of(levels, name) {
-        Some(place) => Ok(Level(place as u8)),
-        None => Err(LatticeFault::Unknown(name.copy()?)),
-    }
 }

@@ -1,17 +1,15 @@
 //! Tables of a relation on levels: for each level the set of levels that it is related to.
-ghost use Rattle.std.specs.Prelude.{◌≡◌, ◌≢◌, ℕ, ◌<◌, ◌≤◌, ◌&&◌, ◌||◌, IfOk, IfErr, length, List, [], get_or};
+ghost use Rattle.std.specs.Prelude.{◌≡◌, ◌<◌, ◌≤◌, IfOk, length};
 ghost use Rattle.ff_lattice.specs.LevelSet.{levels_where};
-ghost use Rattle.ff_lattice.specs.Levels.{AreApart, IsFault};
-ghost use Rattle.ff_lattice.specs.Rows.{related, AreRows, HoldPairs, Closes, AreTurned, Passes, Relates, IsEqual};
+ghost use Rattle.ff_lattice.specs.Rows.{related, AreRows, Closes, AreTurned, Passes, Relates, IsEqual};
 ghost use Rattle.ff_lattice.specs.declared.names.TheConstants.{MOST_LEVELS};
 
-use crate::names::level_named;
-use crate::{LatticeFault, LevelSet, NoMemory, Pair};
-use ff_name::{Level, Text};
+use crate::{LevelSet, NoMemory};
+use ff_name::Level;
 use std::alloc::Global;
 
 /// The table that relates each level below `size` to itself.
-fn equal_rows(alloc: Global, size: u8) -> Result<Vec<LevelSet>, NoMemory>
+pub(crate) fn equal_rows(alloc: Global, size: u8) -> Result<Vec<LevelSet>, NoMemory>
     requires { size ≤ MOST_LEVELS }
     ensures { IfOk result (λ rows. IsEqual size rows.items) }
 {
@@ -23,7 +21,7 @@ fn equal_rows(alloc: Global, size: u8) -> Result<Vec<LevelSet>, NoMemory>
 }
 
 /// Relates the level `low` to the level `high`, too.
-fn relate(rows: &mut [LevelSet], low: Level, high: Level)
+pub(crate) fn relate(rows: &mut [LevelSet], low: Level, high: Level)
     requires rows { AreRows (length rows.old) rows.old }
     requires low { low.0 < length rows.old }
     requires high { high.0 < length rows.old }
@@ -31,25 +29,6 @@ fn relate(rows: &mut [LevelSet], low: Level, high: Level)
 {
     let row = &mut rows[low.0 as usize];
     *row = row.with(high);
-}
-
-/// The table that relates each level to itself and the levels of each pair.
-pub(crate) fn given_rows(
-    alloc: Global,
-    levels: &Vec<Text>,
-    below: &[Pair],
-) -> Result<Vec<LevelSet>, LatticeFault>
-    requires { AreApart levels.now.items }
-    ensures found { IfOk result (λ rows. HoldPairs (length below.now) levels.now.items below.now rows.items) }
-    ensures fault { IfErr result (λ fault. fault ≢ LatticeFault.NoMemory → IsFault levels.now.items below.now fault) }
-{
-    let mut rows = equal_rows(alloc, levels.len() as u8)?;
-    for pair in below {
-        let low = level_named(levels, &pair.low)?;
-        let high = level_named(levels, &pair.high)?;
-        relate(&mut rows, low, high);
-    }
-    Ok(rows)
 }
 
 /// Relates each level that is related to `middle` to all that `middle` is related to.
