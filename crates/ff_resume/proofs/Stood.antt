@@ -21,6 +21,7 @@ use Rattle.ff_reactive.proofs.Below.{list_all_below}
 use Rattle.ff_reactive.proofs.Standings.{states_rest, alike_stays_rest}
 use Rattle.ff_saved.specs.Recs.{stores_recs}
 use Rattle.ff_save.specs.Saved.{saved_recs, saved_text}
+use Rattle.ff_save.specs.Whole.{IsSaved, IsWhole}
 use Rattle.ff_session.specs.Levels.{levels, machine}
 use Rattle.ff_session.specs.Multi.{seen_by, stands_after}
 use Rattle.ff_value.specs.Same.{same_input}
@@ -139,3 +140,10 @@ parts_stand p from is js = record {
   states = λ l inside. sym (states_rest (machine p) (levels p) (seen_by p) from same_input is js l);
   classes = λ k l in_k in_l. sym (alike_stays_rest (machine p) (levels p) (seen_by p) from same_input is js k l);
 }
+
+-- copies that stand where those of a pool at rest stand are saved as that pool is
+pub pool_text : (p : Assignment) (pool : Pooled) (at : Standing State) → IsResting (size p.order) p.fuel pool → StandAlike (size p.order) (stand_of pool) at → standing_text p at ≡ saved_text p (saved_recs pool)
+pool_text p pool at rests alike = sym (text_agrees p (stand_of pool) at alike) ∙ ap (saved_text p) (pool_stands pool rests)
+
+pub pool_saved : (p : Assignment) (pool : Pooled) (at : Standing State) → IsWhole p pool → StandAlike (size p.order) (stand_of pool) at → IsSaved p (standing_text p at) pool
+pool_saved p pool at whole alike = record { whole = whole; text = pool_text p pool at whole.rests alike }

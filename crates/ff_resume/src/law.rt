@@ -9,6 +9,8 @@ ghost use Rattle.ff_reactive.specs.Copies.{multi};
 ghost use Rattle.ff_reactive.specs.Standings.{Standing, StandAlike, fresh};
 ghost use Rattle.ff_reactive.specs.Text.{text_out};
 ghost use Rattle.ff_resume.specs.Resumed.{EndsAtRest, WasSaved, new_copies, stand_of, standing_text};
+ghost use Rattle.ff_save.specs.Saved.{saved_recs, saved_text};
+ghost use Rattle.ff_save.specs.Whole.{IsSaved, IsWhole};
 ghost use Rattle.ff_session.specs.Levels.{levels, machine};
 ghost use Rattle.ff_session.specs.Multi.{multi_text, multi_turns, run_text, run_turns, seen_by, stands_after};
 ghost use Rattle.ff_trace.specs.Lines.{IsInputOf};
@@ -25,6 +27,14 @@ pub fn parts_of_a_run_are_the_whole_run()
         → run_turns p (seen_by p) from (is ++ js) ≡ run_turns p (seen_by p) from is + run_turns p (seen_by p) (stands_after p from is) js }
     ensures saved { (p : Assignment) (from : Standing State) (is js : List Input) → standing_text p (stands_after p (stands_after p from is) js) ≡ standing_text p (stands_after p from (is ++ js)) }
     ensures multi { (p : Assignment) (is : List Input) → run_text p (seen_by p) (fresh (machine p)) is ≡ text_out (levels p) (multi (machine p) (levels p) is) }
+    ensures stands { (p : Assignment) (from : Standing State) (is js : List Input) → StandAlike (size p.order) (stands_after p (stands_after p from is) js) (stands_after p from (is ++ js)) }
+{}
+
+/// Copies that stand where those of a pool at rest stand are saved as that pool is. So where the
+/// pool is whole, the text is its saved text, and is read as this pool.
+pub fn copies_are_saved_as_the_pool_that_stands_there()
+    ensures text { (p : Assignment) (pool : Pooled) (at : Standing State) → IsResting (size p.order) p.fuel pool → StandAlike (size p.order) (stand_of pool) at → standing_text p at ≡ saved_text p (saved_recs pool) }
+    ensures whole { (p : Assignment) (pool : Pooled) (at : Standing State) → IsWhole p pool → StandAlike (size p.order) (stand_of pool) at → IsSaved p (standing_text p at) pool }
 {}
 
 /// New copies are those of a pool at rest, and the run from where they stand is the multi-executed

@@ -9,7 +9,8 @@ mod law;
 mod resuming;
 
 pub use law::{
-    a_run_ends_at_rest, equal_standings_are_saved_as_the_same, new_copies_are_at_rest,
+    a_run_ends_at_rest, copies_are_saved_as_the_pool_that_stands_there,
+    equal_standings_are_saved_as_the_same, new_copies_are_at_rest,
     parts_of_a_run_are_the_whole_run, what_was_saved_goes_on,
 };
 pub use resuming::resume;

@@ -1,15 +1,20 @@
 -- Two runs with `resume`, one after the other, are the unbroken one.
-use Rattle.std.proofs.Common.{◌≡◌, ◌≢◌, ◌≤◌, ◌<◌, ◌+◌, ◌⊎◌, inl, inr, ℕ, true, Some, List, ◌++◌, length, take, sym, ap, ap₂, subst, ◌∙◌, arith, append_assoc}
+use Rattle.std.proofs.Common.{◌≡◌, ◌≢◌, ◌≤◌, ◌<◌, ◌+◌, ◌⊎◌, inl, inr, ℕ, true, Some, List, ◌++◌, All, length, take, sym, ap, ap₂, subst, ◌∙◌, arith, append_assoc}
 use Rattle.std.proofs.lemmas.Bool.{cases_lt}
 use Rattle.std.proofs.lemmas.List.{length-take-le, take_all}
 use Rattle.ff_io.specs.Fetched.{IsFetched, IsFrontOf}
 use Rattle.ff_io.specs.Shelf.{Files, ShelfTold}
+use Rattle.ff_lattice.specs.Order.{size}
 use Rattle.ff_policy.specs.Assignment.{Assignment, IsAssignment}
 use Rattle.ff_pool.specs.Pooled.{Pooled}
 use Rattle.ff_resume.specs.Resumed.{WasSaved, resume_duty, stand_of, standing_text}
 use Rattle.ff_resume.proofs.GoingOn.{goes_on_saved, goes_on_text, goes_on_turns}
+use Rattle.ff_reactive.specs.Standings.{StandAlike}
+use Rattle.ff_resume.proofs.Stood.{pool_stands, text_agrees}
+use Rattle.ff_save.specs.Saved.{saved_recs, saved_text}
 use Rattle.ff_resume.proofs.Turns.{parts_turns}
-use Rattle.ff_save.specs.Whole.{IsSaved}
+use Rattle.ff_trace.specs.Lines.{IsInputOf}
+use Rattle.ff_save.specs.Whole.{IsSaved, IsWhole}
 use Rattle.ff_save.specs.declared.read.TheConstants as read_limits
 use Rattle.ff_session.specs.Multi.{run_text, run_turns, seen_by, stands_after}
 use Rattle.ff_value.specs.declared.input.Input.{Input}
@@ -55,3 +60,29 @@ module _ (p : Assignment) (before : ShelfTold) (name : List ℕ) (from : Pooled)
 
   pub row_turns : (js : List Input) → run_turns p (seen_by p) (stand_of from) (is ++ js) ≡ run_turns p (seen_by p) (stand_of from) is + run_turns p (seen_by p) (stand_of read) js
   row_turns js = parts_turns p (stand_of from) is js ∙ ap (λ n. run_turns p (seen_by p) (stand_of from) is + n) (sym (goes_on_turns p from is read valid was js))
+
+-- a text that may be a saved one is fetched whole
+fetched_whole : (now : ShelfTold) (files : Files) (file text : List ℕ) → now.files ≡ Some files → files file ≡ Some text → length text ≤ read_limits.MOST_SAVED_BYTES → IsFetched now.files file states.MOST_FETCHED text
+fetched_whole now files file text told kept few =
+    subst (λ fs. IsFetched fs file states.MOST_FETCHED text) (sym told)
+    (subst (λ content. IsFrontOf content states.MOST_FETCHED text) (sym kept) (sym (take_all states.MOST_FETCHED text (omega (arith, few)))))
+
+-- what stands where a whole pool stands is saved as that pool
+there_saved : (p : Assignment) (from there : Pooled) (is : List Input) → IsWhole p there → StandAlike (size p.order) (stand_of there) (stands_after p (stand_of from) is) → IsSaved p (standing_text p (stands_after p (stand_of from) is)) there
+there_saved p from there is whole alike = record { whole = whole; text = sym (text_agrees p (stand_of there) (stands_after p (stand_of from) is) alike) ∙ ap (saved_text p) (pool_stands there whole.rests) }
+
+pub whole_row : (p : Assignment) (before now : ShelfTold) (name file : List ℕ) (from there : Pooled) (is : List Input) (files : Files) → NamesState p before name from → All (IsInputOf p.order) is
+    → IsWhole p there → StandAlike (size p.order) (stand_of there) (stands_after p (stand_of from) is)
+    → now.files ≡ Some files → files file ≡ Some (standing_text p (stands_after p (stand_of from) is)) → file ≢ dash → AreInARow p before name from is now file there
+whole_row p before now name file from there is files begins inputs whole alike told kept no_dash =
+    let text = standing_text p (stands_after p (stand_of from) is) in
+    let saved : IsSaved p text there = there_saved p from there is whole alike in
+    record {
+      begins = begins;
+      inputs = inputs;
+      files = files;
+      told = told;
+      kept = kept;
+      no_dash = no_dash;
+      goes_on = Names.in_file file text there no_dash (fetched_whole now files file text told kept (subst (λ bytes. length bytes ≤ read_limits.MOST_SAVED_BYTES) (sym saved.text) saved.whole.fits)) saved;
+    }
