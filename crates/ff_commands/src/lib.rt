@@ -9,5 +9,5 @@ mod reading;
 
 pub use command::{Command, CommandFault, Verb};
 pub use command_reader::CommandReader;
-pub use law::a_line_is_one_command;
+pub use law::{a_line_is_one_command, a_trace_of_commands_is_read_in_one_way};
 pub use reading::read_command;
