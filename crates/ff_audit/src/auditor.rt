@@ -1,5 +1,6 @@
 //! An audit, one input after another.
 ghost use Rattle.std.specs.Prelude.{◌≡◌, ◌≤◌, ◌+◌, ◌<◌, ◌∷◌, ◌++◌, [], false, true, List, IfOk, OnOk, OnErr};
+ghost use Rattle.ff_contract.specs.Appending.{Appends};
 ghost use Rattle.ff_value.specs.declared.input.Input.{Input};
 ghost use Rattle.ff_lattice.specs.Order.{size};
 ghost use Rattle.ff_trace.specs.Lines.{IsInputOf};
@@ -107,11 +108,15 @@ impl<B: Reactor> Auditor<B> {
         self.books.leak()
     }
 
-    /// Appends what is found at each level in order.
+    /// Appends what is found at each level in order. After want of memory a front of it was
+    /// appended.
+    #[tactic(auto, using(ff_contract::proofs::Sequence::front_none))]
     pub fn report(&self, out: &mut Vec<u8>) -> Result<(), NoMemory>
         requires { (is : List Input) × IsFed B.state self.now is }
-        ensures { OnOk result ((is : List Input) → IsFed B.state self.now is → out.new.items ≡ out.old.items ++ report self.now.policy is) }
+        ensures { (is : List Input) → IsFed B.state self.now is → Appends result out.old.items out.new.items (report self.now.policy is) }
     {
-        self.books.report(self.policy.lattice(), out)
+        let mut text = Vec::new(self.alloc);
+        self.books.report(self.policy.lattice(), &mut text)?;
+        out.extend_from_slice(text.as_slice())
     }
 }

@@ -1,5 +1,6 @@
 //! A pool of browsers under commands.
 ghost use Rattle.std.specs.Prelude.{◌≡◌, ◌≤◌, ◌+◌, ◌++◌, false, true, length, IfOk, OnOk, OnErr};
+ghost use Rattle.ff_contract.specs.Appending.{Appends};
 ghost use Rattle.ff_travel.specs.Beside.{ArePartsFor, history_of, under};
 ghost use Rattle.ff_commands.specs.Commands.{IsCommandOf, MakesNoTurn};
 ghost use Rattle.ff_travel.specs.Force.{step_turns};
@@ -94,7 +95,9 @@ impl<'a, B: Reactor> Travel<'a, B> {
     }
 
     /// Carries out a command, and appends what it shows. `turns` counts the turns that a turn or a
-    /// drain makes, those of a class once. After want of memory the travel is spent.
+    /// drain makes, those of a class once. After want of memory the travel is spent, and a front of
+    /// what it shows was appended.
+    #[tactic(auto, using(ff_contract::proofs::Sequence::front_none))]
     pub fn apply<C: Ledger, L: Ledger>(
         &mut self,
         command: &Command,
@@ -105,7 +108,7 @@ impl<'a, B: Reactor> Travel<'a, B> {
         requires { self.old.spent ≡ false → IsCommandOf self.old.policy.order command.now }
         ensures unspent { OnOk result (self.old.spent ≡ false) }
         ensures done { OnOk result (self.new ≡ applied self.old command.now) }
-        ensures text { OnOk result (out.new.items ≡ out.old.items ++ text_at self.old.policy self.old.history.world command.now) }
+        ensures text { Appends result out.old.items out.new.items (text_at self.old.policy self.old.history.world command.now) }
         ensures spent { OnErr result (self.new.spent ≡ true) }
         ensures policy { self.new.policy ≡ self.old.policy }
         ensures count { OnOk result (turns.new ≡ turns.old + step_turns self.old.policy self.old.history.world command.now) }
@@ -118,6 +121,7 @@ impl<'a, B: Reactor> Travel<'a, B> {
             return Err(AllocError);
         }
         self.spent = true;
+        let mut text = Vec::new(self.alloc);
         carry_out(
             self.alloc,
             self.policy,
@@ -125,10 +129,11 @@ impl<'a, B: Reactor> Travel<'a, B> {
             &mut self.kept,
             &mut self.puts,
             &mut self.pool,
-            out,
+            &mut text,
             copies,
             turns,
         )?;
+        out.extend_from_slice(text.as_slice())?;
         self.spent = false;
         Ok(())
     }

@@ -1,5 +1,6 @@
 use Rattle.std.proofs.Common.{◌+◌, ◌++◌, ap, ◌∙◌, arith}
 use Rattle.std.proofs.lemmas.Result.{on_ok_weaker}
+use Rattle.ff_contract.proofs.Sequence.{appends_ok}
 use Rattle.ff_travel.proofs.Force.{travelled_on, text_is, turns_are}
 use Rattle.ff_travel.proofs.traveller.TravellerTaker.take.Goals as goal
 
@@ -9,7 +10,7 @@ returns-clause-taken g c =
 
 pub returns-clause-text : goal.returns-clause-text
 returns-clause-text g c =
-    on_ok_weaker c.apply.result (λ text start commands at. text ∙ ap (λ t. c.args.text.now.items ++ t) (text_is c.args.self.now.policy.now c.args.state.now commands at c.args.item.now)) c.apply.ensures.text
+    on_ok_weaker c.apply.result (λ text start commands at. text ∙ ap (λ t. c.args.text.now.items ++ t) (text_is c.args.self.now.policy.now c.args.state.now commands at c.args.item.now)) (appends_ok _ _ _ _ c.apply.ensures.text)
 
 pub returns-clause-count : goal.returns-clause-count
 returns-clause-count g c =
