@@ -7,3 +7,4 @@ pub mod Rereading
 pub mod Respelled
 pub mod Trees
 pub mod WordTexts
+pub mod Weighing

@@ -1,3 +1,4 @@
 -- What this crate specifies.
 pub mod Again
 pub mod Pieces
+pub mod Weighed

@@ -1,11 +1,12 @@
-ghost use Rattle.std.specs.Prelude.{◌≡◌, ℕ, ◌<◌, ◌⊎◌, true, Option, Some, List, option_and_then};
+ghost use Rattle.std.specs.Prelude.{◌≡◌, ◌↔◌, ℕ, ◌<◌, ◌⊎◌, true, false, None, Option, Some, List, option_and_then};
 ghost use Rattle.ff_reactive.specs.Copies.{Levels};
 ghost use Rattle.ff_reactive.specs.Laws.{IsWord};
 ghost use Rattle.ff_value.specs.declared.input.Input.{Input};
 ghost use Rattle.ff_value.specs.declared.output.Out.{Out};
 ghost use Rattle.ff_value.specs.Spelled.{IsWellSpelledInput};
+ghost use Rattle.ff_lattice.specs.Order.{leq, size};
 ghost use Rattle.ff_policy.specs.Assignment.{Assignment, IsAssignment, presence, content};
-ghost use Rattle.ff_route.specs.Route.{IsTagged, mask, the_levels};
+ghost use Rattle.ff_route.specs.Route.{IsTagged, mask, sees, the_levels};
 
 /// To mask an input twice is to mask it once.
 pub fn masking_twice_is_masking_once()
@@ -46,4 +47,11 @@ pub fn each_output_has_a_level()
 pub fn names_tell_levels_apart()
     ensures word { (policy : Assignment) (print : Out → List ℕ) (l : ℕ) → IsAssignment policy → l < (the_levels policy print).count → IsWord ((the_levels policy print).name l) }
     ensures apart { (policy : Assignment) (print : Out → List ℕ) (k l : ℕ) → IsAssignment policy → k < (the_levels policy print).count → l < (the_levels policy print).count → (the_levels policy print).name k ≡ (the_levels policy print).name l → k ≡ l }
+{}
+
+/// The presence of an input is at or below its content, so a level sees nothing of it exactly where
+/// its presence isn't at or below that level.
+pub fn nothing_is_seen_exactly_below_the_presence()
+    ensures ordered { (policy : Assignment) (i : Input) → IsAssignment policy → IsTagged policy.order i → leq policy.order (presence policy i) (content policy i) ≡ true }
+    ensures nothing { (policy : Assignment) (l : ℕ) (i : Input) → IsAssignment policy → IsTagged policy.order i → (sees policy l i ≡ None) ↔ (leq policy.order (presence policy i) l ≡ false) }
 {}

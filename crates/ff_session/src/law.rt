@@ -1,8 +1,11 @@
-ghost use Rattle.std.specs.Prelude.{◌≡◌, ◌++◌, ℕ, Bool, Option, Some, List, All};
-ghost use Rattle.ff_reactive.specs.Copies.{multi};
+ghost use Rattle.std.specs.Prelude.{◌≡◌, ◌<◌, ◌↔◌, ◌++◌, ℕ, Bool, true, Option, Some, List, All};
+ghost use Rattle.ff_io.specs.Pieces.{put_of};
+ghost use Rattle.ff_io.specs.Port.{Told};
+ghost use Rattle.ff_reactive.specs.Copies.{multi, seen};
 ghost use Rattle.ff_reactive.specs.Sharing.{work};
 ghost use Rattle.ff_reactive.specs.Given.{IsSecureAsOffered};
-ghost use Rattle.ff_reactive.specs.Laws.{IsNoninterfering};
+ghost use Rattle.ff_reactive.specs.Laws.{IsNoninterfering, IsSecure};
+ghost use Rattle.ff_reactive.specs.Text.{view};
 ghost use Rattle.ff_reactive.specs.Standings.{Standing, Offering, fresh, run, work_of};
 ghost use Rattle.ff_machine.specs.State.{State};
 ghost use Rattle.ff_machine.specs.Valid.{IsState};
@@ -14,7 +17,7 @@ ghost use Rattle.ff_value.specs.declared.input.Input.{Input};
 ghost use Rattle.ff_policy.specs.Assignment.{Assignment, IsAssignment};
 ghost use Rattle.ff_status.specs.declared.status.TraceFault.{TraceFault};
 ghost use Rattle.ff_stream.specs.declared.end.BadLine.{BadLine};
-ghost use Rattle.ff_session.specs.Works.{IsTraceFor};
+ghost use Rattle.ff_session.specs.Works.{AreInputsGot, Claims, IsTraceFor};
 
 /// A trace is read, and in one way: the bytes, and whether they are all, determine the inputs
 /// before the first bad line, and that line with its fault.
@@ -48,4 +51,21 @@ pub fn a_view_depends_on_what_is_offered_at_or_below()
 #[tactic(auto, using(crate::proofs::Lawful::multi_is_noninterfering))]
 pub fn multi_is_noninterfering()
     ensures { (p : Assignment) → IsAssignment p → IsNoninterfering (machine p) (levels p) (IsInputOf p.order) }
+{}
+
+/// Levels are told apart by whether what they see is equal, tags too.
+pub fn inputs_are_the_same_where_they_are_equal()
+    ensures { (i j : Input) → (same_input i j ≡ true) ↔ (i ≡ j) }
+{}
+
+/// Two multi-executed runs under one policy, each over a port of its own, of which `secure` is
+/// claimed: where the inputs that the one got look the same to a level as those that the other got,
+/// what the two put gives that level the same view, byte for byte.
+pub fn two_runs_that_look_alike_give_one_view()
+    ensures { (p : Assignment) (begun ended again over : Told)
+        → (one : Claims p begun ended (λ is put. IsSecure (machine p) (levels p) (IsInputOf p.order) is put))
+        → (other : Claims p again over (λ is put. IsSecure (machine p) (levels p) (IsInputOf p.order) is put))
+        → (l : ℕ) (is js : List Input) (bad worse : Option (BadLine TraceFault)) → l < (levels p).count
+        → AreInputsGot p one.pieces is bad → AreInputsGot p other.pieces js worse → seen (levels p) l is ≡ seen (levels p) l js
+        → view (levels p) l (put_of one.pieces) ≡ view (levels p) l (put_of other.pieces) }
 {}

@@ -19,7 +19,8 @@ pub use format::Formatting;
 pub use input_reader::InputReader;
 pub use law::{
     a_run_goes_on_from_where_its_copies_stand, a_trace_is_read_in_one_way,
-    a_view_depends_on_what_is_offered_at_or_below, multi_is_noninterfering,
+    a_view_depends_on_what_is_offered_at_or_below, inputs_are_the_same_where_they_are_equal,
+    multi_is_noninterfering, two_runs_that_look_alike_give_one_view,
 };
 pub use multi::{Copies, walk_copies};
 pub use offered::{new_pool, take_offers};
