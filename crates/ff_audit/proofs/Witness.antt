@@ -1,8 +1,10 @@
 -- What an audit tells of the plain browser: the multi-executed lines of a level are the plain ones on
 -- what the level sees.
-use Rattle.std.proofs.Common.{◌≡◌, ℕ, ◌<◌, Bool, true, false, cond, ◌==◌, Option, Some, None, option_and_then, List, [], ◌∷◌, ◌++◌, length, filter, map, flat_map, All, bytes_eq, refl, sym, ap, ◌∙◌}
+use Rattle.std.proofs.Common.{◌≡◌, ◌≢◌, ℕ, ◌<◌, Bool, true, false, cond, ◌==◌, append_assoc, arith, Option, Some, None, option_and_then, List, [], ◌∷◌, ◌++◌, length, filter, map, flat_map, All, bytes_eq, refl, sym, ap, ◌∙◌, ◌⊎◌, inl, inr}
 use Rattle.std.specs.List.{cons_option}
-use Rattle.std.proofs.lemmas.List.Elements.{All-nil, All-head, All-tail, All-append, All-weaker}
+use Rattle.std.proofs.lemmas.Bool.{cases_eq, eq-eqb, false_from_ne_true, ne_eqb}
+use Rattle.std.proofs.lemmas.Slice.Eq.{bytes_eq-Decides}
+use Rattle.std.proofs.lemmas.List.Elements.{All-nil, All-cons, All-head, All-tail, All-append, All-weaker}
 use Rattle.ff_io.specs.Cutting.{content}
 use Rattle.ff_reactive.specs.Runs.{Machine, joined, plain_from, plain}
 use Rattle.ff_reactive.specs.Copies.{Levels, seen, at_level, multi}
@@ -10,9 +12,8 @@ use Rattle.ff_reactive.specs.Text.{first_word, line_of, lines, text_of, text_out
 use Rattle.ff_reactive.specs.Laws.{IsLawful}
 use Rattle.ff_reactive.proofs.Fits.{has_line, multi_ok, seen_ok}
 use Rattle.ff_reactive.proofs.Lists.{filter_agree_all}
-use Rattle.ff_reactive.proofs.Names.{same_name}
 use Rattle.ff_reactive.proofs.Own.{at_level-multi, copy_is_plain}
-use Rattle.ff_reactive.proofs.Text.{HasLine, line_first_word, line_is_single, lines_of_line}
+use Rattle.ff_reactive.proofs.Text.{HasLine, first_word_is, lines_of_line, word_is_one_line}
 use Rattle.ff_lines.specs.OwnLines.{own_contents, own_lines}
 use Rattle.ff_lattice.specs.Order.{leq, size}
 use Rattle.ff_value.specs.declared.input.Input.{Input}
@@ -20,7 +21,9 @@ use Rattle.ff_policy.specs.Assignment.{Assignment, IsAssignment}
 use Rattle.ff_trace.specs.Lines.{IsInputOf}
 use Rattle.ff_session.specs.Levels.{levels, machine}
 use Rattle.ff_session.proofs.Lawful.{lawful}
-use Rattle.ff_audit.specs.Audited.{plain_lines, multi_lines}
+use Rattle.ff_lines.specs.Comparing.{differs}
+use Rattle.ff_lines.proofs.Telling.{found_other}
+use Rattle.ff_audit.specs.Audited.{plain_lines, multi_lines, verdict}
 
 -- the lines of a text that a word heads are those of the outputs whose levels have this name
 module _ {I O : Type 0} (v : Levels I O) (word : List ℕ) where
@@ -31,8 +34,8 @@ module _ {I O : Type 0} (v : Levels I O) (word : List ℕ) where
       let here = All-head (HasLine v) o os fit in
       let rest = flat_map (line_of v) os in
       let kept = filter (λ q. bytes_eq word (v.name (v.level_out q))) os in
-      ap (filter (λ line. bytes_eq word (first_word line))) (lines_of_line (v.name (v.level_out o) ++ 32 ∷ v.print o) rest (line_is_single v o here))
-      ∙ ap (λ w. cond (bytes_eq word w) (line_of v o ∷ own_lines word rest) (own_lines word rest)) (line_first_word v o here)
+      ap (filter (λ line. bytes_eq word (first_word line))) (lines_of_line (v.name (v.level_out o) ++ 32 ∷ v.print o) rest (All-append (λ b. b ≢ 10) (v.name (v.level_out o)) (32 ∷ v.print o) (word_is_one_line (v.name (v.level_out o)) here.0) (All-cons (λ b. b ≢ 10) 32 (v.print o) (λ e. omega arith) here.1)))
+      ∙ ap (λ w. cond (bytes_eq word w) (line_of v o ∷ own_lines word rest) (own_lines word rest)) (ap first_word (append_assoc (v.name (v.level_out o)) (32 ∷ v.print o) (10 ∷ [])) ∙ first_word_is (v.name (v.level_out o)) (v.print o ++ 10 ∷ []) here.0)
       ∙ ap (λ ls. cond (bytes_eq word (v.name (v.level_out o))) (line_of v o ∷ ls) ls) (own_lines_text os (All-tail (HasLine v) o os fit))
       ∙ parts (bytes_eq word (v.name (v.level_out o))) o kept
     where
@@ -41,6 +44,19 @@ module _ {I O : Type 0} (v : Levels I O) (word : List ℕ) where
       parts false o kept = refl
 
 module _ {I O S : Type 0} {m : Machine I O S} {v : Levels I O} {InputOk : I → Type 0} {StateOk : S → Type 0} {OutputOk : O → Type 0} (law : IsLawful m v InputOk StateOk OutputOk) where
+  -- an output's level has the name of a level exactly where it is that level
+  named_so : (l : ℕ) (o : O) → l < v.count → OutputOk o → bytes_eq (v.name l) (v.name (v.level_out o)) ≡ (v.level_out o == l)
+  named_so l o lt ok = from (cases_eq (v.level_out o) l)
+    where
+      decides : (bytes_eq (v.name l) (v.name (v.level_out o)) ≡ true → v.name l ≡ v.name (v.level_out o)) × (v.name l ≡ v.name (v.level_out o) → bytes_eq (v.name l) (v.name (v.level_out o)) ≡ true)
+      decides = bytes_eq-Decides (v.name l) (v.name (v.level_out o))
+
+      from : (v.level_out o ≡ l) ⊎ (v.level_out o ≡ l → ⊥) → bytes_eq (v.name l) (v.name (v.level_out o)) ≡ (v.level_out o == l)
+      from (inl e) = decides.1 (ap v.name (sym e)) ∙ sym (eq-eqb (v.level_out o) l e)
+      from (inr differ) =
+          false_from_ne_true (bytes_eq (v.name l) (v.name (v.level_out o))) (λ e. differ (law.names_differ (v.level_out o) l (law.level_ok o ok) lt (sym (decides.0 e))))
+          ∙ sym (ne_eqb (v.level_out o) l differ)
+
   -- what the machine puts, alone
   plain_from_ok : (s : S) (is : List I) → StateOk s → All InputOk is → All OutputOk (joined (plain_from m s is))
   plain_from_ok s [] at ok = All-nil OutputOk
@@ -58,7 +74,7 @@ module _ {I O S : Type 0} {m : Machine I O S} {v : Levels I O} {InputOk : I → 
   own_is l os lt ok =
       ap (map content) (own_lines_text v (v.name l) os (All-weaker OutputOk (HasLine v) (has_line law) os ok)
       ∙ ap (map (line_of v)) (filter_agree_all (λ o. bytes_eq (v.name l) (v.name (v.level_out o))) (λ o. v.level_out o == l) os
-      (All-weaker OutputOk (λ o. bytes_eq (v.name l) (v.name (v.level_out o)) ≡ (v.level_out o == l)) (λ o good. same_name law (v.level_out o) l (law.level_ok o good) lt) os ok)))
+      (All-weaker OutputOk (λ o. bytes_eq (v.name l) (v.name (v.level_out o)) ≡ (v.level_out o == l)) (λ o good. named_so l o lt good) os ok)))
 
   -- a level's own lines of the plain run depend on its outputs at that level alone
   pub plain_own : (l : ℕ) (is : List I) → l < v.count → All InputOk is → own_contents (v.name l) (text_out v (plain m is)) ≡ map content (map (line_of v) (at_level v l (joined (plain m is))))
@@ -96,3 +112,10 @@ module _ (p : Assignment) (valid : IsAssignment p) (l : ℕ) (within : l < size 
 
   pub seen_inputs : All (IsInputOf p.order) (seen (levels p) l is)
   seen_inputs = seen_ok (lawful p valid) l is ok
+
+  pub seen_again : seen (levels p) l (seen (levels p) l is) ≡ seen (levels p) l is
+  seen_again = seen_twice (lawful p valid) l is within (valid.draft.order_is.reflexive l within) ok
+
+  -- where the plain browser's lines are the same on what the level sees, no difference is found
+  pub none_found : plain_lines p is l ≡ plain_lines p (seen (levels p) l is) l → differs (verdict p is l) ≡ false
+  none_found same = false_from_ne_true (differs (verdict p is l)) (λ some. found_other (plain_lines p is l) (multi_lines p is l) some (same ∙ sym multi_is_plain_seen))

@@ -1,6 +1,7 @@
 -- The audit: the lines that the plain program and the multi-executed one put at each level, and
 -- where they first differ.
-use Rattle.std.specs.Prelude.{◌≡◌, ℕ, ◌+◌, Bool, cond, Option, List, [], length}
+use Rattle.std.specs.Prelude.{◌≡◌, ◌≢◌, ℕ, ◌+◌, ◌<◌, Bool, cond, Option, List, [], length, All}
+use Rattle.ff_reactive.specs.Copies.{seen}
 use Rattle.ff_reactive.specs.Runs.{work_plain}
 use Rattle.ff_value.specs.declared.input.Input.{Input}
 use Rattle.ff_io.specs.Pieces.{Piece}
@@ -8,7 +9,8 @@ use Rattle.ff_lattice.specs.Order.{size}
 use Rattle.ff_machine.specs.State.{State}
 use Rattle.ff_policy.specs.Assignment.{Assignment}
 use Rattle.ff_pool.specs.Pooled.{Pooled}
-use Rattle.ff_session.specs.Levels.{machine}
+use Rattle.ff_session.specs.Levels.{levels, machine}
+use Rattle.ff_trace.specs.Lines.{IsInputOf}
 use Rattle.ff_status.specs.declared.status.TraceFault.{TraceFault}
 use Rattle.ff_status.specs.Words.{IsGood}
 use Rattle.ff_stream.specs.declared.end.End.{End}
@@ -79,6 +81,21 @@ pub record IsAuditAt (p : Assignment) (books : Account) (is : List Input) : Type
   pub copies : AreCopiesAt p (seen_by p) (fresh (machine p)) books.pool is
   pub count : length books.levels ≡ size p.order
   pub levels : CompareAll books.levels (plain_lines p is) (multi_lines p is)
+
+-- What an audit finds at a level is a leak of the plain browser: two lists of inputs that look the same to the level, the ones
+-- taken and what the level sees of them, on which the plain browser's lines at it differ.
+pub record IsLeak (p : Assignment) (is : List Input) (l : ℕ) : Type 0 where
+  pub within : l < size p.order
+  pub inputs : All (IsInputOf p.order) (seen (levels p) l is)
+  pub alike : seen (levels p) l (seen (levels p) l is) ≡ seen (levels p) l is
+  pub other : plain_lines p is l ≢ plain_lines p (seen (levels p) l is) l
+
+-- The bytes are the report on these inputs, which compares at each level the plain browser's lines on all of them with its lines
+-- on what the level sees. The status tells whether there is a leak.
+pub record IsAudit (p : Assignment) (status : Status) (is : List Input) (put : List ℕ) : Type 0 where
+  pub report_is : put ≡ report_of p.order (size p.order) (plain_lines p is) (λ l. plain_lines p (seen (levels p) l is) l)
+  pub clean : status ≡ Done → (l : ℕ) → l < size p.order → plain_lines p is l ≡ plain_lines p (seen (levels p) l is) l
+  pub leak : status ≡ Leaks → (l : ℕ) × IsLeak p is l
 
 -- The report of the books was put, or what became of it, and the status.
 pub record IsReported (p : Assignment) (books : Account) (end : End TraceFault) (log_before log_now : Option (List Piece)) (writes_before writes_now : ℕ) (status : Status) : Type 0 where

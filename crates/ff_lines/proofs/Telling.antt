@@ -63,14 +63,14 @@ first_difference ps ms = from (compared 0 ps ms) (from_here 0 ps ms)
     from _ (FromHere.first k before other) = subst (λ j. IsFirstDifference ps ms (Differs (suc j) (slice_get ps k) (slice_get ms k))) (none_plus k) (IsFirstDifference.at k before other)
 
 -- no difference is found exactly in equal lists
-found_equal : (ps ms : List (List ℕ)) → differs (compared 0 ps ms) ≡ false → ps ≡ ms
+pub found_equal : (ps ms : List (List ℕ)) → differs (compared 0 ps ms) ≡ false → ps ≡ ms
 found_equal ps ms none = from (compared 0 ps ms) (first_difference ps ms) none
   where
     from : (v : Verdict) → IsFirstDifference ps ms v → differs v ≡ false → ps ≡ ms
     from _ (IsFirstDifference.none all) found = all
     from _ (IsFirstDifference.at k before other) found = absurd (true≢false found)
 
-found_other : (ps ms : List (List ℕ)) → differs (compared 0 ps ms) ≡ true → ps ≢ ms
+pub found_other : (ps ms : List (List ℕ)) → differs (compared 0 ps ms) ≡ true → ps ≢ ms
 found_other ps ms some equal = from (compared 0 ps ms) (first_difference ps ms) some
   where
     from : (v : Verdict) → IsFirstDifference ps ms v → differs v ≡ true → ⊥
