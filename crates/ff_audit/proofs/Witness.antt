@@ -1,9 +1,8 @@
 -- What an audit tells of the plain browser: the multi-executed lines of a level are the plain ones on
 -- what the level sees.
-use Rattle.std.proofs.Common.{◌≡◌, ◌≢◌, ℕ, ◌<◌, Bool, true, false, cond, ◌==◌, append_assoc, arith, Option, Some, None, option_and_then, List, [], ◌∷◌, ◌++◌, length, filter, map, flat_map, All, bytes_eq, refl, sym, ap, ◌∙◌, ◌⊎◌, inl, inr}
+use Rattle.std.proofs.Common.{◌≡◌, ◌≢◌, ℕ, ◌<◌, Bool, true, false, cond, ◌==◌, append_assoc, arith, Option, Some, None, option_and_then, List, [], ◌∷◌, ◌++◌, length, filter, map, flat_map, All, bytes_eq, refl, sym, ap, ◌∙◌}
 use Rattle.std.specs.List.{cons_option}
-use Rattle.std.proofs.lemmas.Bool.{cases_eq, eq-eqb, false_from_ne_true, ne_eqb}
-use Rattle.std.proofs.lemmas.Slice.Eq.{bytes_eq-Decides}
+use Rattle.std.proofs.lemmas.Bool.{false_from_ne_true}
 use Rattle.std.proofs.lemmas.List.Elements.{All-nil, All-cons, All-head, All-tail, All-append, All-weaker}
 use Rattle.ff_io.specs.Cutting.{content}
 use Rattle.ff_reactive.specs.Runs.{Machine, joined, plain_from, plain}
@@ -20,6 +19,7 @@ use Rattle.ff_value.specs.declared.input.Input.{Input}
 use Rattle.ff_policy.specs.Assignment.{Assignment, IsAssignment}
 use Rattle.ff_trace.specs.Lines.{IsInputOf}
 use Rattle.ff_session.specs.Levels.{levels, machine}
+use Rattle.ff_session.proofs.Anywhere.{named_so}
 use Rattle.ff_session.proofs.Lawful.{lawful}
 use Rattle.ff_lines.specs.Comparing.{differs}
 use Rattle.ff_lines.proofs.Telling.{found_other}
@@ -44,19 +44,6 @@ module _ {I O : Type 0} (v : Levels I O) (word : List ℕ) where
       parts false o kept = refl
 
 module _ {I O S : Type 0} {m : Machine I O S} {v : Levels I O} {InputOk : I → Type 0} {StateOk : S → Type 0} {OutputOk : O → Type 0} (law : IsLawful m v InputOk StateOk OutputOk) where
-  -- an output's level has the name of a level exactly where it is that level
-  named_so : (l : ℕ) (o : O) → l < v.count → OutputOk o → bytes_eq (v.name l) (v.name (v.level_out o)) ≡ (v.level_out o == l)
-  named_so l o lt ok = from (cases_eq (v.level_out o) l)
-    where
-      decides : (bytes_eq (v.name l) (v.name (v.level_out o)) ≡ true → v.name l ≡ v.name (v.level_out o)) × (v.name l ≡ v.name (v.level_out o) → bytes_eq (v.name l) (v.name (v.level_out o)) ≡ true)
-      decides = bytes_eq-Decides (v.name l) (v.name (v.level_out o))
-
-      from : (v.level_out o ≡ l) ⊎ (v.level_out o ≡ l → ⊥) → bytes_eq (v.name l) (v.name (v.level_out o)) ≡ (v.level_out o == l)
-      from (inl e) = decides.1 (ap v.name (sym e)) ∙ sym (eq-eqb (v.level_out o) l e)
-      from (inr differ) =
-          false_from_ne_true (bytes_eq (v.name l) (v.name (v.level_out o))) (λ e. differ (law.names_differ (v.level_out o) l (law.level_ok o ok) lt (sym (decides.0 e))))
-          ∙ sym (ne_eqb (v.level_out o) l differ)
-
   -- what the machine puts, alone
   plain_from_ok : (s : S) (is : List I) → StateOk s → All InputOk is → All OutputOk (joined (plain_from m s is))
   plain_from_ok s [] at ok = All-nil OutputOk
@@ -74,7 +61,7 @@ module _ {I O S : Type 0} {m : Machine I O S} {v : Levels I O} {InputOk : I → 
   own_is l os lt ok =
       ap (map content) (own_lines_text v (v.name l) os (All-weaker OutputOk (HasLine v) (has_line law) os ok)
       ∙ ap (map (line_of v)) (filter_agree_all (λ o. bytes_eq (v.name l) (v.name (v.level_out o))) (λ o. v.level_out o == l) os
-      (All-weaker OutputOk (λ o. bytes_eq (v.name l) (v.name (v.level_out o)) ≡ (v.level_out o == l)) (λ o good. named_so l o lt good) os ok)))
+      (All-weaker OutputOk (λ o. bytes_eq (v.name l) (v.name (v.level_out o)) ≡ (v.level_out o == l)) (λ o good. named_so law l o lt good) os ok)))
 
   -- a level's own lines of the plain run depend on its outputs at that level alone
   pub plain_own : (l : ℕ) (is : List I) → l < v.count → All InputOk is → own_contents (v.name l) (text_out v (plain m is)) ≡ map content (map (line_of v) (at_level v l (joined (plain m is))))

@@ -5,3 +5,4 @@ pub mod Turns
 pub mod Ending
 pub mod Owing
 pub mod GoingOn
+pub mod Telling

@@ -42,7 +42,7 @@ nothing_owed writes ended.NoMemory = Closes.failed (λ is. is) refl
 
 module _ (p : Assignment) (from : Standing State) where
   -- the text and the turns are those of one input after another
-  same_text : (is : List Input) → owed.text_of (copies_entry p (seen_by p) from) is ≡ run_text p (seen_by p) from is
+  pub same_text : (is : List Input) → owed.text_of (copies_entry p (seen_by p) from) is ≡ run_text p (seen_by p) from is
   same_text is = text_by_steps (copies_entry p (seen_by p) from) (run_text p (seen_by p) from)
       (ap (text_out (levels p)) (run_start (machine p) (levels p) (seen_by p) from) ∙ text_out_none (levels p))
       (λ js i. ap (text_out (levels p)) (run_more (machine p) (levels p) (seen_by p) from js i)

@@ -1,5 +1,5 @@
 -- What is saved of where copies stand, and what a run owes that goes on from there.
-use Rattle.std.specs.Prelude.{ℕ, Bool, cond, not, nat_lt, ◌&&◌, All, List, [], ◌++◌, map, filter}
+use Rattle.std.specs.Prelude.{◌≡◌, ◌<◌, ℕ, Bool, cond, not, nat_lt, ◌&&◌, All, List, [], ◌++◌, map, filter}
 use Rattle.std.specs.List.{list_all}
 use Rattle.ff_lattice.specs.LevelSet.{levels_where}
 use Rattle.ff_lattice.specs.Order.{size}
@@ -8,7 +8,10 @@ use Rattle.ff_machine.specs.Machine.{reactor}
 use Rattle.ff_policy.specs.Assignment.{Assignment}
 use Rattle.ff_pool.specs.Pooled.{Pooled, new_pool}
 use Rattle.ff_pool.specs.Restored.{IsResting}
-use Rattle.ff_reactive.specs.Copies.{below}
+use Rattle.ff_reactive.specs.Copies.{at_level, below, seen}
+use Rattle.ff_reactive.specs.Runs.{joined, plain_from}
+use Rattle.ff_reactive.specs.Text.{BeginsWith, only, text_of, view}
+use Rattle.ff_session.specs.Levels.{levels, machine}
 use Rattle.ff_reactive.specs.Rested as rested
 use Rattle.ff_reactive.specs.Standings.{Standing, StandAlike}
 use Rattle.ff_saved.specs.Recs.{stores_recs}
@@ -74,3 +77,13 @@ pub record WasSaved (p : Assignment) (from : Pooled) (is : List Input) (read : P
   pub rests : IsResting (size p.order) p.fuel from
   pub inputs : All (IsInputOf p.order) is
   pub saved : IsSaved p (standing_text p (stands_after p (stand_of from) is)) read
+
+-- What the text of a resumed run tells. It begins with the text of the run. In that, each level's own lines are what the plain
+-- browser puts at it, from where its copy stood, on what the level sees; and inputs that look the same to a level give it the
+-- same view.
+pub record IsResumed (p : Assignment) (from : Standing State) (is : List Input) (put : List ℕ) : Type 0 where
+  pub begins : BeginsWith put (run_text p (seen_by p) from is)
+  pub projected : (l : ℕ) → l < size p.order
+      → only (levels p) l (run_text p (seen_by p) from is) ≡ text_of (levels p) (at_level (levels p) l (joined (plain_from (machine p) (from.states l) (seen (levels p) l is))))
+  pub secure : (l : ℕ) (js : List Input) → l < size p.order → All (IsInputOf p.order) js → seen (levels p) l js ≡ seen (levels p) l is
+      → view (levels p) l (run_text p (seen_by p) from is) ≡ view (levels p) l (run_text p (seen_by p) from js)

@@ -10,3 +10,5 @@ pub mod Counted
 pub mod Owing
 pub mod Headline
 pub mod Standing
+mod Parts
+pub mod Anywhere

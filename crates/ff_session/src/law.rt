@@ -1,16 +1,20 @@
-ghost use Rattle.std.specs.Prelude.{◌≡◌, ◌<◌, ◌↔◌, ◌++◌, ℕ, Bool, true, Option, Some, List, All};
+ghost use Rattle.std.specs.Prelude.{◌≡◌, ◌<◌, ◌≤◌, ◌↔◌, ◌++◌, ◌∷◌, [], ℕ, Bool, true, Option, Some, None, List, All, length};
+ghost use Rattle.ff_io.specs.declared.lines.TheConstants.{MOST_TRACE_BYTES};
 ghost use Rattle.ff_io.specs.Pieces.{put_of};
 ghost use Rattle.ff_io.specs.Port.{Told};
-ghost use Rattle.ff_reactive.specs.Copies.{multi, seen};
+ghost use Rattle.ff_lattice.specs.Order.{size};
+ghost use Rattle.ff_reactive.specs.Copies.{at_level, multi, seen};
+ghost use Rattle.ff_reactive.specs.Runs.{joined, plain_from};
 ghost use Rattle.ff_reactive.specs.Sharing.{work};
 ghost use Rattle.ff_reactive.specs.Given.{IsSecureAsOffered};
 ghost use Rattle.ff_reactive.specs.Laws.{IsNoninterfering, IsSecure};
-ghost use Rattle.ff_reactive.specs.Text.{view};
+ghost use Rattle.ff_reactive.specs.Text.{only, text_of, view};
 ghost use Rattle.ff_reactive.specs.Standings.{Standing, Offering, fresh, run, work_of};
 ghost use Rattle.ff_machine.specs.State.{State};
 ghost use Rattle.ff_machine.specs.Valid.{IsState};
 ghost use Rattle.ff_value.specs.Same.{same_input};
 ghost use Rattle.ff_session.specs.Levels.{levels, machine};
+ghost use Rattle.ff_session.specs.Parts.{later_by, newlines};
 ghost use Rattle.ff_session.specs.Multi.{run_text, seen_by, stands_after};
 ghost use Rattle.ff_trace.specs.Lines.{IsInputOf};
 ghost use Rattle.ff_value.specs.declared.input.Input.{Input};
@@ -24,6 +28,18 @@ ghost use Rattle.ff_session.specs.Works.{AreInputsGot, Claims, IsTraceFor};
 pub fn a_trace_is_read_in_one_way()
     ensures some { (p : Assignment) (ended : Bool) (bytes : List ℕ) → (is : List Input) × (bad : Option (BadLine TraceFault)) × IsTraceFor p ended bytes is bad }
     ensures one { (p : Assignment) (ended : Bool) (bytes : List ℕ) (is js : List Input) (bad other : Option (BadLine TraceFault)) → IsTraceFor p ended bytes is bad → IsTraceFor p ended bytes js other → (is ≡ js) × (bad ≡ other) }
+{}
+
+/// A trace may be cut after any newline: where the first part ends with one and has no bad line, the
+/// inputs of both parts, in order, are those of the whole, and a bad line of the second part is one
+/// of the whole, as many lines later as the first part has.
+pub fn parts_of_a_trace_are_the_whole_trace()
+    ensures {
+        (p : Assignment) (ended : Bool) (front second : List ℕ) (is js : List Input) (bad : Option (BadLine TraceFault))
+            → length ((front ++ 10 ∷ []) ++ second) ≤ MOST_TRACE_BYTES
+            → IsTraceFor p true (front ++ 10 ∷ []) is None → IsTraceFor p ended second js bad
+            → IsTraceFor p ended ((front ++ 10 ∷ []) ++ second) (is ++ js) (later_by (newlines (front ++ 10 ∷ [])) bad)
+    }
 {}
 
 /// A run over inputs is the run over the first of them, and then the run over the others from where
@@ -43,6 +59,24 @@ pub fn a_view_depends_on_what_is_offered_at_or_below()
         → ((before : List Input) (l : ℕ) (i x : Input) → IsInputOf p.order i → offers before l i ≡ Some x → IsInputOf p.order x)
         → ((l : ℕ) → IsState p.fuel (from.states l))
         → (is : List Input) → All (IsInputOf p.order) is → IsSecureAsOffered (machine p) (levels p) offers from (IsInputOf p.order) is (run_text p offers from is) }
+{}
+
+/// Where copies stand anywhere and each is offered what its level sees: a level's own lines are what
+/// the plain browser puts at it, from where the level's copy stood, on what the level sees
+/// (`projected`); and inputs that look the same to a level give it the same view (`secure`).
+pub fn a_run_from_anywhere_tells_a_level_what_it_sees()
+    ensures projected {
+        (p : Assignment) (from : Standing State) → IsAssignment p → ((l : ℕ) → IsState p.fuel (from.states l))
+            → (l : ℕ) → l < size p.order → (is : List Input) → All (IsInputOf p.order) is
+            → only (levels p) l (run_text p (seen_by p) from is)
+                ≡ text_of (levels p) (at_level (levels p) l (joined (plain_from (machine p) (from.states l) (seen (levels p) l is))))
+    }
+    ensures secure {
+        (p : Assignment) (from : Standing State) → IsAssignment p → ((l : ℕ) → IsState p.fuel (from.states l))
+            → (l : ℕ) → l < size p.order → (is : List Input) → All (IsInputOf p.order) is
+            → (js : List Input) → All (IsInputOf p.order) js → seen (levels p) l js ≡ seen (levels p) l is
+            → view (levels p) l (run_text p (seen_by p) from is) ≡ view (levels p) l (run_text p (seen_by p) from js)
+    }
 {}
 
 /// The multi-executed run is noninterfering under every policy: any two lists of well spelled

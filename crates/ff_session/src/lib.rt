@@ -18,9 +18,10 @@ pub use ff_pool::{Pool, Reactor};
 pub use format::Formatting;
 pub use input_reader::InputReader;
 pub use law::{
-    a_run_goes_on_from_where_its_copies_stand, a_trace_is_read_in_one_way,
-    a_view_depends_on_what_is_offered_at_or_below, inputs_are_the_same_where_they_are_equal,
-    multi_is_noninterfering, two_runs_that_look_alike_give_one_view,
+    a_run_from_anywhere_tells_a_level_what_it_sees, a_run_goes_on_from_where_its_copies_stand,
+    a_trace_is_read_in_one_way, a_view_depends_on_what_is_offered_at_or_below,
+    inputs_are_the_same_where_they_are_equal, multi_is_noninterfering,
+    parts_of_a_trace_are_the_whole_trace, two_runs_that_look_alike_give_one_view,
 };
 pub use multi::{Copies, walk_copies};
 pub use offered::{new_pool, take_offers};
