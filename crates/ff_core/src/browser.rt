@@ -40,10 +40,17 @@ impl Model for Browser {
 
 impl Reactor for Browser {
     ghost use Rattle.ff_core.specs.Copies.{turning as cells};
+    ghost use Rattle.ff_core.specs.Copies.{dropping_none, settling_none, stopping_none};
 
     ghost state = { λ browser. browser };
 
     ghost turning = { cells };
+
+    ghost settles = { settling_none };
+
+    ghost stops = { stopping_none };
+
+    ghost drops = { dropping_none };
 
     fn new(alloc: Global, fuel: u32) -> Browser {
         Browser {

@@ -1,9 +1,10 @@
 -- What a browser reaches is valid, what it puts can be printed, and its turns spend the fuel that an
 -- input brings.
-use Rattle.std.proofs.Common.{◌≤◌, ◌+◌, List, All, ℕ}
+use Rattle.std.proofs.Common.{◌≡◌, ◌≤◌, ◌+◌, List, All, ℕ, true, refl}
 use Rattle.std.proofs.lemmas.List.Elements.{All-weaker}
 use Rattle.ff_reactive.specs.Turns.{KeepsOk, IsFuelled}
-use Rattle.ff_reactive.proofs.Turns.{settle_turns}
+use Rattle.ff_reactive.proofs.Finishing.{ends_by_fuel}
+use Rattle.ff_reactive.proofs.Turns.{machine_handle_ok, settle_turns}
 use Rattle.ff_value.specs.Spelled.{IsWellSpelledInput, IsWellSpelledOut}
 use Rattle.ff_value.specs.declared.input.Input.{Input}
 use Rattle.ff_value.specs.declared.output.Out.{Out}
@@ -37,3 +38,10 @@ fuelled budget = record {
 
 pub ends_soon : (budget : ℕ) (s : State) (i : Input) → ((browser budget).handle s i).turns ≤ budget + 1
 ends_soon budget s i = settle_turns (reactor budget) (budget + 1) (begin s i).after
+
+-- and is then quiet and valid
+pub ends_quiet : (budget : ℕ) (s : State) (i : Input) → IsState budget s → IsWellSpelledInput i → ((browser budget).handle s i).after.quiet ≡ true
+ends_quiet budget s i is good = (ends_by_fuel (keeps budget) (fuelled budget) refl).begin_ends s i is good
+
+pub ends_valid : (budget : ℕ) (s : State) (i : Input) → IsState budget s → IsWellSpelledInput i → IsState budget ((browser budget).handle s i).after
+ends_valid budget s i is good = machine_handle_ok (keeps budget) (budget + 1) s i is good

@@ -1,8 +1,10 @@
 //! The reactor.
-ghost use Rattle.std.specs.Prelude.{◌≡◌, ◌+◌, ◌≤◌, ℕ, false, IsTrue, IfOk, OnErr, OnOk};
+ghost use Rattle.std.specs.Prelude.{◌≡◌, ◌+◌, ◌≤◌, ◌∷◌, ℕ, None, List, false, IsTrue, IfOk, OnErr, OnOk};
 ghost use Rattle.ff_contract.specs.Appending.{Appends};
 ghost use Rattle.ff_value.specs.Spelled.{IsWellSpelledInput};
-ghost use Rattle.ff_machine.specs.State.{State, empty};
+ghost use Rattle.ff_machine.specs.State.{State, Task, empty};
+ghost use Rattle.ff_machine.specs.Turns.{next_work};
+ghost use Rattle.ff_machine.specs.Windows.{is_live};
 ghost use Rattle.ff_machine.specs.Valid.{IsState};
 ghost use Rattle.ff_machine.specs.Machine.{reactor};
 ghost use Rattle.ff_steps.specs.Rises.{RisesBy};
@@ -80,4 +82,16 @@ pub trait Reactor: Drop {
         ensures valid { IsState (state self.old).budget (state self.new) }
         ensures counted { turns.new ≡ turns.old + 1 }
         ensures copies { RisesBy (turning (state self.old)) copies.old copies.new };
+
+    /// A turn with nothing to do, which settles, copies no cell.
+    ghost settles: { (s : State) → next_work s ≡ None → turning s ≡ 0 };
+
+    /// Neither does one without fuel, which stops.
+    ghost stops: { (s : State) → s.fuel ≡ 0 → turning s ≡ 0 };
+
+    /// Neither does one that drops its first task, whose page isn't live.
+    ghost drops: {
+        (s : State) (task : Task) (tasks : List Task) → s.tasks ≡ task ∷ tasks
+            → is_live s.stores.windows task.page ≡ false → turning s ≡ 0
+    };
 }

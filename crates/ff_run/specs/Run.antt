@@ -12,12 +12,13 @@ use Rattle.ff_session.specs.declared.work.Work.TheVariants.{Format}
 use Rattle.ff_status.specs.Putting.{Reported}
 use Rattle.ff_status.specs.declared.status.Status.{Status}
 use Rattle.ff_status.specs.declared.status.Status.TheVariants.{Usage, Policy, ShelfFault, NoMemory, Saved, Release}
-use Rattle.ff_audit.specs.Audited.{audit_duty}
+use Rattle.ff_audit.specs.Audited.{IsAudit, audit_duty}
 use Rattle.ff_commands.specs.Giving as commands
 use Rattle.ff_travel.specs.Owed.{travel_duty}
+use Rattle.ff_travel.specs.Told.{Tells}
 use Rattle.ff_words.specs.Words.{AreCommand}
 use Rattle.ff_policy.specs.declared.fault.PolicyFault.{PolicyFault}
-use Rattle.ff_resume.specs.Resumed.{resume_duty, stand_of}
+use Rattle.ff_resume.specs.Resumed.{IsResumed, resume_duty, stand_of}
 use Rattle.ff_release.specs.Releasing.{IsReleased, release_duty}
 use Rattle.ff_run.specs.Names.{FetchFailed, FetchedOrFailed, IsKnown, IsUnfetched}
 use Rattle.ff_run.specs.Policies.{NamesFault, NamesPolicy, Under}
@@ -108,6 +109,18 @@ ClaimsUnder shelf name before now claim = Under shelf name (λ p. Claims p befor
 -- under the policy of this name, by the rules of that name, the same of a released run
 abbrev pub ReleasedUnder : ShelfTold → List ℕ → List ℕ → Told → Told → Type 0
 ReleasedUnder shelf name file before now = Under shelf name (λ p. ByRules p.order shelf file (λ rules. Claims p before now (λ is put. IsReleased p rules is put)))
+
+-- under the policy of this name, what the report and the status of an audit tell
+abbrev pub AuditedUnder : ShelfTold → List ℕ → Told → Told → Status → Type 0
+AuditedUnder shelf name before now status = Under shelf name (λ p. Claims p before now (λ is put. IsAudit p status is put))
+
+-- what the text of a travel tells
+abbrev pub TravelledUnder : ShelfTold → List ℕ → Told → Told → Type 0
+TravelledUnder shelf name before now = Under shelf name (λ p. Tells p before now)
+
+-- from the state of that name, what the text of a resumed run tells
+abbrev pub ResumedUnder : ShelfTold → List ℕ → List ℕ → Told → Told → Type 0
+ResumedUnder shelf name file before now = Under shelf name (λ p. FromState p shelf file (λ pool. Claims p before now (λ is put. IsResumed p (stand_of pool) is put)))
 
 -- Of a command that goes over a trace, of inputs or of the commands of a travel: exactly the turns
 -- were made that the items take which the bytes got give, up to the first bad line.

@@ -18,5 +18,8 @@ pub use ff_session::Work;
 pub use ff_status::{Status, TraceFault};
 pub use ff_words::Command;
 pub use ff_writing::drawn_lines_are_a_trace;
-pub use law::{a_whole_state_goes_on, two_runs_in_a_row_are_the_unbroken_one};
+pub use law::{
+    a_whole_state_goes_on, two_runs_in_a_row_are_the_unbroken_one,
+    what_is_put_line_by_line_is_the_whole_text,
+};
 pub use top::run;

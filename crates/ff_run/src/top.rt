@@ -9,7 +9,7 @@ ghost use Rattle.ff_status.specs.Words.{error_line};
 ghost use Rattle.ff_words.specs.Words.{Asks, AsksBy, NeedsFile, dash, multi};
 ghost use Rattle.ff_run.specs.Names.{FetchedOrFailed};
 ghost use Rattle.ff_run.specs.Status.{IsEarly, IsUncopied};
-ghost use Rattle.ff_run.specs.Run.{Suits, Performs, ComesTo, Does, ClaimsUnder, ReleasedUnder, Reports, RunsNone};
+ghost use Rattle.ff_run.specs.Run.{AuditedUnder, ClaimsUnder, ComesTo, Does, Performs, ReleasedUnder, Reports, ResumedUnder, RunsNone, Suits, TravelledUnder};
 ghost use Rattle.ff_words.specs.declared.words.Command.{Command};
 
 use crate::named::find;
@@ -77,6 +77,15 @@ pub fn run<S: Shelf, P: Port, E: Sink, C: Ledger, L: Ledger>(
     ensures precise { (name : List ℕ) → Asks words.now multi name → IsAnswered result
         → ClaimsUnder (S.told shelf.old) name (P.told port.old) (P.told port.new) (λ p is put. IsPrecise (machine p) (levels p) is put) }
 
+    // What the other commands over a trace tell: the leaks of the plain browser that an audit finds,
+    // a front of the plain run that `show` writes, and a resumed run from where its copies stood.
+    ensures audited { (name : List ℕ) → Asks words.now Command.Audit name → IsAnswered result
+        → AuditedUnder (S.told shelf.old) name (P.told port.old) (P.told port.new) result }
+    ensures travelled { (name : List ℕ) → Asks words.now Command.Travel name → IsAnswered result
+        → TravelledUnder (S.told shelf.old) name (P.told port.old) (P.told port.new) }
+    ensures resumed { (name file : List ℕ) → AsksBy words.now Command.Resume name file → IsAnswered result
+        → ResumedUnder (S.told shelf.old) name file (P.told port.old) (P.told port.new) }
+
     // The claim of `release`: each level is told no more than is offered at or below it, no rule
     // makes more offers than its quota, and where none makes any, the text is that of `multi`.
     ensures released { (name file : List ℕ) → AsksBy words.now Command.Release name file → IsAnswered result
@@ -84,6 +93,7 @@ pub fn run<S: Shelf, P: Port, E: Sink, C: Ledger, L: Ledger>(
 
     // What isn't touched. Where no browser runs or is made of a saved text, no cell is copied.
     ensures untouched { IsEarly result → (port.new ≡ port.old) × (turns.new ≡ turns.old) }
+    ensures files { (S.told shelf.new).files ≡ (S.told shelf.old).files }
     ensures no_shelf { result ≡ Status.Usage → shelf.new ≡ shelf.old }
     ensures no_fetch { (command : Command) → Asks words.now command dash → shelf.new ≡ shelf.old }
     ensures no_copies { IsUncopied result → copies.new ≡ copies.old }
@@ -112,6 +122,7 @@ fn answer<S: Shelf, P: Port, C: Ledger, L: Ledger>(
         → ComesTo command name file (S.told shelf.old) (S.told shelf.new) (P.told port.old) (P.told port.new) turns.old turns.new result }
     ensures usage { Suits result words.now }
     ensures untouched { IsEarly result → (port.new ≡ port.old) × (turns.new ≡ turns.old) }
+    ensures files { (S.told shelf.new).files ≡ (S.told shelf.old).files }
     ensures no_shelf { result ≡ Status.Usage → shelf.new ≡ shelf.old }
     ensures no_fetch { (command : Command) → Asks words.now command dash → shelf.new ≡ shelf.old }
     ensures no_copies { IsUncopied result → copies.new ≡ copies.old }
@@ -150,6 +161,7 @@ fn obey<S: Shelf, P: Port, C: Ledger, L: Ledger>(
     ensures comes { ComesTo command name.now file.now (S.told shelf.old) (S.told shelf.new) (P.told port.old) (P.told port.new) turns.old turns.new result }
     ensures command { result ≢ Status.Usage }
     ensures untouched { IsEarly result → (port.new ≡ port.old) × (turns.new ≡ turns.old) }
+    ensures files { (S.told shelf.new).files ≡ (S.told shelf.old).files }
     ensures no_fetch { name.now ≡ dash → file.now ≡ dash → shelf.new ≡ shelf.old }
     ensures no_copies { IsUncopied result → copies.new ≡ copies.old }
     ensures uncopied { RunsNone command → copies.new ≡ copies.old }
@@ -180,6 +192,7 @@ fn obey_under<S: Shelf, P: Port, C: Ledger, L: Ledger>(
     ensures fetched { FetchedOrFailed (S.told shelf.old) (S.told shelf.new) result }
     ensures valid { IsAssignment policy.now }
     ensures untouched { IsEarly result → (port.new ≡ port.old) × (turns.new ≡ turns.old) }
+    ensures files { (S.told shelf.new).files ≡ (S.told shelf.old).files }
     ensures no_fetch { file.now ≡ dash → shelf.new ≡ shelf.old }
     ensures no_copies { IsUncopied result → copies.new ≡ copies.old }
     ensures uncopied { RunsNone command → copies.new ≡ copies.old }

@@ -62,7 +62,7 @@ module _ (p : Assignment) where
   moved_is force command = ap₂ history (sym (worlds_before_push (first_world p) force command)) (sym (world_from_push (first_world p) force command))
 
   -- what a command makes of the history of those in force
-  happened_is : (force : List Command) (command : Command) → happened p (history_after p force) command ≡ history_after p (force_after force command)
+  pub happened_is : (force : List Command) (command : Command) → happened p (history_after p force) command ≡ history_after p (force_after force command)
   unfolding moves
   happened_is force (Arrive input) = moved_is force (Arrive input)
   happened_is force (Turn level) = moved_is force (Turn level)

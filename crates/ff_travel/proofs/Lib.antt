@@ -6,3 +6,5 @@ pub mod Cutting
 pub mod Carrying
 pub mod Worlds
 pub mod Owing
+mod Playing
+pub mod Telling

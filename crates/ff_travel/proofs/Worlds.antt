@@ -57,10 +57,10 @@ pub record AreCopies (p : Assignment) (w : Copies) : Type 0 where
   pub world : IsWorldOf p.fuel w
   pub count : levels w ≡ size p.order
 
-first_copies : (p : Assignment) → AreCopies p (first_world p)
+pub first_copies : (p : Assignment) → AreCopies p (first_world p)
 first_copies p = record { world = new_world_ok (ends p.fuel) (size p.order); count = levels-new (reactor p.fuel) (size p.order) }
 
-stepped_copies : (p : Assignment) (w : Copies) (command : Command) → IsCommandOf p.order command → AreCopies p w → AreCopies p (stepped p w command)
+pub stepped_copies : (p : Assignment) (w : Copies) (command : Command) → IsCommandOf p.order command → AreCopies p w → AreCopies p (stepped p w command)
 stepped_copies p w (Arrive input) of_it at = record {
   world = arrive_ok (ends p.fuel) same_input same_input_decides w (offers p input) at.world (offers_fit p input (levels w) of_it at.count);
   count = ap length (leaders-arrive (reactor p.fuel) same_input w (offers p input)) ∙ length-split same_input same_input_decides w.leaders (offers p input) ∙ at.count;
@@ -89,7 +89,7 @@ module _ (P : Command → Type 0) where
   all_after force Back all one = all_without force all
   all_after force (Show level) all one = all
 
-  all_from : (force commands : List Command) → All P force → All P commands → All P (force_from force commands)
+  pub all_from : (force commands : List Command) → All P force → All P commands → All P (force_from force commands)
   all_from force [] all more = all
   all_from force (c ∷ commands) all more = all_from (force_after force c) commands (all_after force c all (All-head P c commands more)) (All-tail P c commands more)
 

@@ -3,3 +3,4 @@ pub mod Shown
 pub mod Travelled
 pub mod Beside
 pub mod Owed
+pub mod Told

@@ -1,13 +1,15 @@
 -- What `show` writes.
 use Rattle.std.specs.Prelude.{ℕ, Bool, true, false, ◌==◌, List, [], ◌∷◌, ◌++◌, codes, filter, flat_map}
-use Rattle.ff_reactive.specs.Copies.{below, at_level}
+use Rattle.ff_reactive.specs.Copies.{below, at_level, seen}
+use Rattle.ff_reactive.specs.Runs.{joined, plain}
+use Rattle.ff_value.specs.declared.input.Input.{Input}
 use Rattle.ff_reactive.specs.Text.{text_of}
 use Rattle.ff_reactive.specs.Worlds as worlds
 use Rattle.ff_reactive.specs.Worlds.{leader, copy_at, has_work}
 use Rattle.ff_lattice.specs.Order.{Order, name}
 use Rattle.ff_machine.specs.Machine.{reactor}
 use Rattle.ff_policy.specs.Assignment.{Assignment}
-use Rattle.ff_session.specs.Levels.{levels}
+use Rattle.ff_session.specs.Levels.{levels, machine}
 use Rattle.ff_travel.specs.Force.{Copies, world_after, step_turns}
 use Rattle.ff_commands.specs.declared.command.Command.{Command}
 use Rattle.ff_commands.specs.declared.command.Command.TheVariants.{Arrive, Turn, Drain, Back, Show}
@@ -36,6 +38,10 @@ show_line order l = codes "show " ++ (name order l ++ 10 ∷ [])
 -- the lines that a level's copy has put and that are at the level
 abbrev pub lines_put : Assignment → Copies → ℕ → List ℕ
 lines_put p w l = text_of (levels p) (at_level (levels p) l (copy_at (reactor p.fuel) w l).outputs)
+
+-- the lines at a level that the plain browser puts on what the level sees of these inputs
+abbrev pub plain_put : Assignment → ℕ → List Input → List ℕ
+plain_put p l is = text_of (levels p) (at_level (levels p) l (joined (plain (machine p) (seen (levels p) l is))))
 
 -- what is shown of a level
 unfoldable pub shown : Assignment → Copies → ℕ → List ℕ

@@ -27,5 +27,8 @@ pub use ff_commands::{
 };
 pub use ff_pool::{NoMemory, Reactor};
 pub use history::Travel;
-pub use law::a_turn_without_work_changes_nothing;
+pub use law::{
+    a_travel_is_a_fresh_replay, a_turn_without_work_changes_nothing,
+    what_is_shown_begins_the_plain_run,
+};
 pub use traveller::travel;
