@@ -15,6 +15,7 @@ use ff_session::Reactor;
 use ff_steps::Steps;
 use ff_value::Input;
 use std::alloc::{AllocError, Global};
+use std::marker::Model;
 use std::sync::ledger::Ledger;
 
 /// The plain program and the multi-executed one under a policy, both of browsers `B`, and the lines
@@ -29,10 +30,25 @@ pub struct Auditor<B: Reactor> {
     spent: bool,
 }
 
+impl<B: Reactor> Model for Auditor<B> {
+    ghost use Rattle.std.specs.Prelude.{◌≡◌, false, List};
+    ghost use Rattle.ff_value.specs.declared.input.Input.{Input};
+    ghost use Rattle.ff_audit.specs.Audited.{IsAuditAt, account};
+    ghost use Rattle.ff_audit.specs.Fed.{Audited, coded_audited};
+
+    ghost Value = { Audited };
+
+    ghost coded = { coded_audited };
+
+    ghost view = { λ a. record { policy = a.policy; spent = a.spent; account = account B.state a.books } };
+
+    ghost invariant = { λ a. a.spent ≡ false → (is : List Input) × IsAuditAt a.policy (account B.state a.books) is };
+}
+
 impl<B: Reactor> Auditor<B> {
     /// An audit in which no input was taken. It is refused only for want of memory.
     pub fn new(alloc: Global, policy: Policy) -> Result<Auditor<B>, NoMemory>
-        ensures fed { IfOk result (λ auditor. IsFed B.state auditor []) }
+        ensures fed { IfOk result (λ auditor. IsFed auditor []) }
         ensures policy { IfOk result (λ auditor. auditor.policy ≡ policy) }
         ensures unspent { IfOk result (λ auditor. auditor.spent ≡ false) }
     {
@@ -71,14 +87,13 @@ impl<B: Reactor> Auditor<B> {
         turns: &mut Steps<L>,
     ) -> Result<(), NoMemory>
         requires input { IsInputOf self.old.policy.order input.now }
-        requires at { self.old.spent ≡ false → (is : List Input) × IsFed B.state self.old is }
-        ensures fed { OnOk result ((is : List Input) → IsFed B.state self.old is → IsFed B.state self.new (is ++ input.now ∷ [])) }
+        ensures fed { OnOk result ((is : List Input) → IsFed self.old is → IsFed self.new (is ++ input.now ∷ [])) }
         ensures unspent { OnOk result ((self.old.spent ≡ false) × (self.new.spent ≡ false)) }
         ensures spent { OnErr result (self.new.spent ≡ true) }
         ensures policy { self.new.policy ≡ self.old.policy }
-        ensures count { OnOk result ((is : List Input) → IsFed B.state self.old is → turns.new ≡ turns.old + feed_turns self.old.policy is input.now) }
+        ensures count { OnOk result ((is : List Input) → IsFed self.old is → turns.new ≡ turns.old + feed_turns self.old.policy is input.now) }
         ensures later { turns.old ≤ turns.new }
-        ensures most { (is : List Input) → IsFed B.state self.old is → turns.new ≤ turns.old + feed_turns self.old.policy is input.now }
+        ensures most { (is : List Input) → IsFed self.old is → turns.new ≤ turns.old + feed_turns self.old.policy is input.now }
         ensures later_copies { copies.old ≤ copies.new }
     {
         if self.spent {
@@ -91,29 +106,29 @@ impl<B: Reactor> Auditor<B> {
         Ok(())
     }
 
-    /// What is found at a level.
+    /// What is found at a level, by an audit that isn't spent.
     pub fn verdict(&self, level: Level) -> Result<Verdict, NoMemory>
         requires level { level.0 < size self.now.policy.order }
-        requires at { (is : List Input) × IsFed B.state self.now is }
-        ensures { IfOk result (λ answer. (is : List Input) → IsFed B.state self.now is → answer ≡ verdict self.now.policy is level.0) }
+        requires unspent { self.now.spent ≡ false }
+        ensures { IfOk result (λ answer. (is : List Input) → IsFed self.now is → answer ≡ verdict self.now.policy is level.0) }
     {
         self.books.verdict(level)
     }
 
-    /// Whether the lines of some level differ.
+    /// Whether the lines of some level differ, by an audit that isn't spent.
     pub fn leaks(&self) -> bool
-        requires { (is : List Input) × IsFed B.state self.now is }
-        ensures { (is : List Input) → IsFed B.state self.now is → result ≡ leaks self.now.policy is }
+        requires { self.now.spent ≡ false }
+        ensures { (is : List Input) → IsFed self.now is → result ≡ leaks self.now.policy is }
     {
         self.books.leak()
     }
 
-    /// Appends what is found at each level in order. After want of memory a front of it was
-    /// appended.
+    /// Appends what is found at each level in order, by an audit that isn't spent. After want of
+    /// memory a front of it was appended.
     #[tactic(auto, using(ff_contract::proofs::Sequence::front_none))]
     pub fn report(&self, out: &mut Vec<u8>) -> Result<(), NoMemory>
-        requires { (is : List Input) × IsFed B.state self.now is }
-        ensures { (is : List Input) → IsFed B.state self.now is → Appends result out.old.items out.new.items (report self.now.policy is) }
+        requires { self.now.spent ≡ false }
+        ensures { (is : List Input) → IsFed self.now is → Appends result out.old.items out.new.items (report self.now.policy is) }
     {
         let mut text = Vec::new(self.alloc);
         self.books.report(self.policy.lattice(), &mut text)?;

@@ -1,8 +1,6 @@
 //! An audit under the built-in policy, call by call: what is found at each level, whether something
 //! leaks, the report, and whether the audit is spent.
-ghost use Rattle.std.specs.Prelude.{◌≡◌, ◌<◌, List, OnOk};
-ghost use Rattle.ff_value.specs.declared.input.Input.{Input};
-ghost use Rattle.ff_audit.specs.Fed.{IsFed};
+ghost use Rattle.std.specs.Prelude.{◌≡◌, ◌<◌, false, OnOk};
 
 use crate::input_of;
 use ff_audit::{Auditor, Verdict};
@@ -32,8 +30,8 @@ fn hear<C: Ledger, L: Ledger>(
     copies: &mut Steps<C>,
     turns: &mut Steps<L>,
 ) -> Result<(), NoMemory>
-    requires { (is : List Input) × IsFed (λ browser. browser) auditor.old is }
-    ensures { OnOk result ((is : List Input) × IsFed (λ browser. browser) auditor.new is) }
+    requires { auditor.old.spent ≡ false }
+    ensures { OnOk result (auditor.new.spent ≡ false) }
 {
     match input_of(alloc, auditor.policy(), line)? {
         Some(input) => auditor.feed(&input, copies, turns),
@@ -43,7 +41,7 @@ fn hear<C: Ledger, L: Ledger>(
 
 /// What is found at each level in order.
 fn verdicts_of(alloc: Global, auditor: &Auditor<Browser>) -> Result<Vec<Verdict>, NoMemory>
-    requires { (is : List Input) × IsFed (λ browser. browser) auditor.now is }
+    requires { auditor.now.spent ≡ false }
 {
     let mut verdicts = Vec::new(alloc);
     for number in 0..auditor.policy().lattice().size() {
@@ -60,8 +58,8 @@ fn hear_all<C: Ledger, L: Ledger>(
     copies: &mut Steps<C>,
     turns: &mut Steps<L>,
 ) -> Result<(), NoMemory>
-    requires { (is : List Input) × IsFed (λ browser. browser) auditor.old is }
-    ensures { OnOk result ((is : List Input) × IsFed (λ browser. browser) auditor.new is) }
+    requires { auditor.old.spent ≡ false }
+    ensures { OnOk result (auditor.new.spent ≡ false) }
 {
     for line in lines {
         hear(alloc, auditor, line.as_str(), copies, turns)?;
@@ -71,7 +69,7 @@ fn hear_all<C: Ledger, L: Ledger>(
 
 /// What an audit has found.
 fn found(alloc: Global, auditor: &Auditor<Browser>) -> Result<Findings, NoMemory>
-    requires { (is : List Input) × IsFed (λ browser. browser) auditor.now is }
+    requires { auditor.now.spent ≡ false }
 {
     let mut report = Vec::new(alloc);
     auditor.report(&mut report)?;

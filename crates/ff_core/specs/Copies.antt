@@ -1,5 +1,6 @@
 -- How many cells a turn copies at most.
-use Rattle.std.specs.Prelude.{◌≡◌, ℕ, zero, suc, false, cond, Option, Some, None, List, [], ◌∷◌, refl, ap, ◌∙◌}
+use Rattle.std.specs.Prelude.{◌≡◌, ℕ, zero, suc, false, cond, Option, Some, None, List, [], ◌∷◌, refl}
+use Rattle.std.proofs.Common.{ap, ◌∙◌}
 use Rattle.ff_machine.specs.Stores.{Stores}
 use Rattle.ff_machine.specs.State.{State, Step, Task}
 use Rattle.ff_machine.specs.Turns.{next_work}

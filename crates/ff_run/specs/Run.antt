@@ -6,6 +6,7 @@ use Rattle.ff_io.specs.Port.{Told, SinkTold}
 use Rattle.ff_io.specs.Shelf.{ShelfTold}
 use Rattle.ff_value.specs.declared.input.Input.{Input}
 use Rattle.ff_policy.specs.Assignment.{Assignment}
+use Rattle.ff_session.specs.Cut.{AreFronts}
 use Rattle.ff_session.specs.Giving.{Gives}
 use Rattle.ff_session.specs.Works.{Claims, Counts, Exchanged, IsAnswered, duty}
 use Rattle.ff_session.specs.declared.work.Work.TheVariants.{Format}
@@ -109,6 +110,10 @@ ClaimsUnder shelf name before now claim = Under shelf name (λ p. Claims p befor
 -- under the policy of this name, by the rules of that name, the same of a released run
 abbrev pub ReleasedUnder : ShelfTold → List ℕ → List ℕ → Told → Told → Type 0
 ReleasedUnder shelf name file before now = Under shelf name (λ p. ByRules p.order shelf file (λ rules. Claims p before now (λ is put. IsReleased p rules is put)))
+
+-- Nothing passed, or under the policy of this name the whole lines that were put give each level a front of its view.
+abbrev pub CutUnder : ShelfTold → List ℕ → Told → Told → Type 0
+CutUnder shelf name before now = (now ≡ before) ⊎ ClaimsUnder shelf name before now AreFronts
 
 -- under the policy of this name, what the report and the status of an audit tell
 abbrev pub AuditedUnder : ShelfTold → List ℕ → Told → Told → Status → Type 0

@@ -4,12 +4,13 @@ ghost use Rattle.ff_io.specs.Shelf.{ShelfTold};
 ghost use Rattle.ff_policy.specs.Assignment.{IsAssignment};
 ghost use Rattle.ff_session.specs.Levels.{levels, machine};
 ghost use Rattle.ff_trace.specs.Lines.{IsInputOf};
+ghost use Rattle.ff_session.specs.Cut.{IsCutShort};
 ghost use Rattle.ff_session.specs.Works.{IsAnswered};
 ghost use Rattle.ff_status.specs.Words.{error_line};
 ghost use Rattle.ff_words.specs.Words.{Asks, AsksBy, NeedsFile, dash, multi};
 ghost use Rattle.ff_run.specs.Names.{FetchedOrFailed};
 ghost use Rattle.ff_run.specs.Status.{IsEarly, IsUncopied};
-ghost use Rattle.ff_run.specs.Run.{AuditedUnder, ClaimsUnder, ComesTo, Does, Performs, ReleasedUnder, Reports, ResumedUnder, RunsNone, Suits, TravelledUnder};
+ghost use Rattle.ff_run.specs.Run.{AuditedUnder, ClaimsUnder, ComesTo, CutUnder, Does, Performs, ReleasedUnder, Reports, ResumedUnder, RunsNone, Suits, TravelledUnder};
 ghost use Rattle.ff_words.specs.declared.words.Command.{Command};
 
 use crate::named::find;
@@ -76,6 +77,10 @@ pub fn run<S: Shelf, P: Port, E: Sink, C: Ledger, L: Ledger>(
         → ClaimsUnder (S.told shelf.old) name (P.told port.old) (P.told port.new) (λ p is put. IsSecure (machine p) (levels p) (IsInputOf p.order) is put) }
     ensures precise { (name : List ℕ) → Asks words.now multi name → IsAnswered result
         → ClaimsUnder (S.told shelf.old) name (P.told port.old) (P.told port.new) (λ p is put. IsPrecise (machine p) (levels p) is put) }
+
+    // Where a write failed or memory was refused, what each level was told is a front of its view.
+    ensures cut_short { (name : List ℕ) → Asks words.now multi name → IsCutShort result
+        → CutUnder (S.told shelf.old) name (P.told port.old) (P.told port.new) }
 
     // What the other commands over a trace tell: the leaks of the plain browser that an audit finds,
     // a front of the plain run that `show` writes, and a resumed run from where its copies stood.

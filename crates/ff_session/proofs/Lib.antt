@@ -12,3 +12,4 @@ pub mod Headline
 pub mod Standing
 mod Parts
 pub mod Anywhere
+pub mod Cut

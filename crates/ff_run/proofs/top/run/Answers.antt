@@ -1,4 +1,4 @@
-use Rattle.ff_run.proofs.Headline.{audited_under, precision_under, projection_under, released_under, resumed_under, security_under, travelled_under}
+use Rattle.ff_run.proofs.Headline.{audited_under, cut_under, precision_under, projection_under, released_under, resumed_under, security_under, travelled_under}
 use Rattle.ff_run.proofs.Obeying.{said_none}
 use Rattle.ff_run.proofs.top.run.Goals as goal
 
@@ -39,3 +39,8 @@ pub returns-clause-resumed : goal.returns-clause-resumed
 returns-clause-resumed g c name file asks answered =
     resumed_under name (g.S.Shelf.told c.args.shelf.now) (g.S.Shelf.told c.answer-status.new.shelf) (g.P.Port.told c.args.port.now) (g.P.Port.told c.answer-status.new.port) c.args.turns.now c.answer-status.new.turns
     c.answer-status.result answered file (c.answer-status.ensures.comes _ name file asks).obeys
+
+pub returns-clause-cut_short : goal.returns-clause-cut_short
+returns-clause-cut_short g c name asks cut =
+    cut_under name (g.S.Shelf.told c.args.shelf.now) (g.S.Shelf.told c.answer-status.new.shelf) (g.P.Port.told c.args.port.now) (g.P.Port.told c.answer-status.new.port) c.args.turns.now c.answer-status.new.turns
+    c.answer-status.result cut (c.answer-status.ensures.comes _ name _ asks).obeys
