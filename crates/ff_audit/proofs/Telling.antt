@@ -19,7 +19,8 @@ use Rattle.ff_lines.proofs.Telling.{none_differ, some_differ}
 use Rattle.ff_session.specs.Giving.{Gives}
 use Rattle.ff_session.specs.Levels.{levels}
 use Rattle.ff_session.specs.Once.{gives_once}
-use Rattle.ff_session.specs.Works.{AreInputsGot, Claims, Exchanged, IsAnswered, IsOwed, IsWritten}
+use Rattle.ff_session.specs.Claims.{AreInputsGot, Claims, IsAnswered}
+use Rattle.ff_session.specs.Works.{Exchanged, IsOwed, IsWritten}
 use Rattle.ff_session.proofs.Giving.{is_given}
 use Rattle.ff_audit.specs.Audited.{IsAudit, IsLeak, audit_duty, ending, leaks, multi_lines, plain_lines, report}
 use Rattle.ff_audit.proofs.Witness.{multi_is_plain_seen, seen_again, seen_inputs}

@@ -22,7 +22,8 @@ use Rattle.ff_session.specs.Giving.{Gives}
 use Rattle.ff_session.specs.Levels.{machine}
 use Rattle.ff_session.specs.Multi.{AreCopiesAt}
 use Rattle.ff_session.specs.Once.{gives_once}
-use Rattle.ff_session.specs.Works.{Claims, Exchanged, IsAnswered, status_as}
+use Rattle.ff_session.specs.Claims.{Claims, IsAnswered}
+use Rattle.ff_session.specs.Works.{Exchanged, status_as}
 use Rattle.ff_session.proofs.Closing.{told_of, unclosed}
 use Rattle.ff_session.proofs.Headline.{claimed}
 use Rattle.ff_release.specs.Releasing.{IsReleased, IsReleasedAt, entry_turns, offered_by, release_duty, release_entry, release_text}

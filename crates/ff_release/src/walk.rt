@@ -2,7 +2,8 @@
 ghost use Rattle.std.specs.Prelude.{◌≡◌, ◌<◌, ◌≤◌, All};
 ghost use Rattle.ff_policy.specs.Assignment.{IsAssignment};
 ghost use Rattle.ff_session.specs.Giving.{Gives};
-ghost use Rattle.ff_session.specs.Works.{Claims, Exchanged, IsAnswered};
+ghost use Rattle.ff_session.specs.Claims.{Claims, IsAnswered};
+ghost use Rattle.ff_session.specs.Works.{Exchanged};
 ghost use Rattle.ff_rules.specs.Lines.{IsRuleOf};
 ghost use Rattle.ff_release.specs.Releasing.{IsReleased, release_duty};
 

@@ -24,7 +24,8 @@ use Rattle.ff_stream.proofs.Laws.{reads_each, trace_once}
 use Rattle.ff_session.specs.Giving.{Gives}
 use Rattle.ff_session.specs.Multi.{run_text, seen_by, stands_after}
 use Rattle.ff_session.specs.Once.{gives_once}
-use Rattle.ff_session.specs.Works.{AreInputsGot, Claims, Exchanged, IsAnswered, IsOwed, IsWritten}
+use Rattle.ff_session.specs.Claims.{AreInputsGot, Claims, IsAnswered}
+use Rattle.ff_session.specs.Works.{Exchanged, IsOwed, IsWritten}
 use Rattle.ff_session.proofs.Anywhere.{own_from, view_from}
 use Rattle.ff_session.proofs.Giving.{is_given}
 use Rattle.ff_session.proofs.Lawful.{lawful}

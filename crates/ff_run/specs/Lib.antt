@@ -4,4 +4,5 @@ pub mod Policies
 pub mod Rules
 pub mod States
 pub mod InARow
+pub mod Claims
 pub mod Run

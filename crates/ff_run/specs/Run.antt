@@ -8,7 +8,8 @@ use Rattle.ff_value.specs.declared.input.Input.{Input}
 use Rattle.ff_policy.specs.Assignment.{Assignment}
 use Rattle.ff_session.specs.Cut.{AreFronts}
 use Rattle.ff_session.specs.Giving.{Gives}
-use Rattle.ff_session.specs.Works.{Claims, Counts, Exchanged, IsAnswered, duty}
+use Rattle.ff_session.specs.Claims.{Claims, IsAnswered}
+use Rattle.ff_session.specs.Works.{Counts, Exchanged, duty}
 use Rattle.ff_session.specs.declared.work.Work.TheVariants.{Format}
 use Rattle.ff_status.specs.Putting.{Reported}
 use Rattle.ff_status.specs.declared.status.Status.{Status}
@@ -21,6 +22,7 @@ use Rattle.ff_words.specs.Words.{AreCommand}
 use Rattle.ff_policy.specs.declared.fault.PolicyFault.{PolicyFault}
 use Rattle.ff_resume.specs.Resumed.{IsResumed, resume_duty, stand_of}
 use Rattle.ff_release.specs.Releasing.{IsReleased, release_duty}
+use Rattle.ff_run.specs.Claims.{ClaimsUnder}
 use Rattle.ff_run.specs.Names.{FetchFailed, FetchedOrFailed, IsKnown, IsUnfetched}
 use Rattle.ff_run.specs.Policies.{NamesFault, NamesPolicy, Under}
 use Rattle.ff_run.specs.Rules.{AcceptsRules, ByRules, NamesRulesFault}
@@ -101,11 +103,6 @@ GoesOn other p file shelf shelf_now status = ¬ IsEarly status
 pub record Does (command : Command) (p : Assignment) (file : List ℕ) (shelf shelf_now : ShelfTold) (before now : Told) (turns_before turns_now : ℕ) (status : Status) : Type 0 where
   pub performs : PerformsBy command p file shelf shelf_now before now turns_before turns_now status
   pub goes_on : GoesOn command p file shelf shelf_now status
-
--- under the policy of this name, this claim holds of the inputs that the bytes got give a
--- multi-executed run, and of the bytes put
-abbrev pub ClaimsUnder : ShelfTold → List ℕ → Told → Told → (Assignment → List Input → List ℕ → Type 0) → Type 0
-ClaimsUnder shelf name before now claim = Under shelf name (λ p. Claims p before now (claim p))
 
 -- under the policy of this name, by the rules of that name, the same of a released run
 abbrev pub ReleasedUnder : ShelfTold → List ℕ → List ℕ → Told → Told → Type 0

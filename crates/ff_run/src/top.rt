@@ -5,12 +5,13 @@ ghost use Rattle.ff_policy.specs.Assignment.{IsAssignment};
 ghost use Rattle.ff_session.specs.Levels.{levels, machine};
 ghost use Rattle.ff_trace.specs.Lines.{IsInputOf};
 ghost use Rattle.ff_session.specs.Cut.{IsCutShort};
-ghost use Rattle.ff_session.specs.Works.{IsAnswered};
+ghost use Rattle.ff_session.specs.Claims.{IsAnswered};
 ghost use Rattle.ff_status.specs.Words.{error_line};
 ghost use Rattle.ff_words.specs.Words.{Asks, AsksBy, NeedsFile, dash, multi};
 ghost use Rattle.ff_run.specs.Names.{FetchedOrFailed};
 ghost use Rattle.ff_run.specs.Status.{IsEarly, IsUncopied};
-ghost use Rattle.ff_run.specs.Run.{AuditedUnder, ClaimsUnder, ComesTo, CutUnder, Does, Performs, ReleasedUnder, Reports, ResumedUnder, RunsNone, Suits, TravelledUnder};
+ghost use Rattle.ff_run.specs.Claims.{ClaimsUnder};
+ghost use Rattle.ff_run.specs.Run.{AuditedUnder, ComesTo, CutUnder, Does, Performs, ReleasedUnder, Reports, ResumedUnder, RunsNone, Suits, TravelledUnder};
 ghost use Rattle.ff_words.specs.declared.words.Command.{Command};
 
 use crate::named::find;

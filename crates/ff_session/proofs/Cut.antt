@@ -22,7 +22,8 @@ use Rattle.ff_session.specs.Cut.{AreFronts, IsCutShort, whole_lines}
 use Rattle.ff_session.specs.Giving.{Gives}
 use Rattle.ff_session.specs.Levels.{levels}
 use Rattle.ff_session.specs.Multi.{multi_text}
-use Rattle.ff_session.specs.Works.{AreInputsGot, Claims, Exchanged, IsWritten, duty}
+use Rattle.ff_session.specs.Claims.{AreInputsGot, Claims}
+use Rattle.ff_session.specs.Works.{Exchanged, IsWritten, duty}
 use Rattle.ff_session.specs.declared.work.Work.TheVariants.{Multi}
 
 -- the bytes after the last newline

@@ -14,7 +14,7 @@ use Rattle.ff_stream.proofs.Total.{trace_some}
 use Rattle.ff_trace.proofs.Wells.{reads_some, input_well}
 use Rattle.ff_session.specs.Giving.{Gives}
 use Rattle.ff_session.specs.Once.{gives_once}
-use Rattle.ff_session.specs.Works.{IsTraceFor}
+use Rattle.ff_session.specs.Claims.{IsTraceFor}
 
 -- a line that is read so gives so
 pub gives_none : (order : Order) (line : List ℕ) → ReadsLine order line (Ok None) → Gives order line (Ok None)

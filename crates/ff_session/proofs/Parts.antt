@@ -13,7 +13,7 @@ use Rattle.ff_value.specs.declared.input.Input.{Input}
 use Rattle.ff_policy.specs.Assignment.{Assignment}
 use Rattle.ff_session.specs.Giving.{Gives}
 use Rattle.ff_session.specs.Parts.{later_by, newlines}
-use Rattle.ff_session.specs.Works.{IsTraceFor}
+use Rattle.ff_session.specs.Claims.{IsTraceFor}
 
 -- ---- the first line and what follows it are all of the bytes
 

@@ -64,15 +64,6 @@ entry_turns Format p = no_turns
 abbrev pub duty : Work → Assignment → Duty Input
 duty work p = record { entry = entry_for work p; text = λ whole is. text_for work p is; turns = turns_for work p; good = λ is. Done }
 
--- these bytes of a trace, of which `ended` says whether they are all, give these inputs up to the
--- first bad line
-abbrev pub IsTraceFor : Assignment → Bool → List ℕ → List Input → Option (BadLine TraceFault) → Type 0
-IsTraceFor p ended bytes is bad = IsTrace (Gives p.order) ended bytes is bad
-
--- the bytes got give these inputs up to the first bad line
-abbrev pub AreInputsGot : Assignment → List Piece → List Input → Option (BadLine TraceFault) → Type 0
-AreInputsGot p pieces is bad = IsTraceFor p (has_end pieces) (got_of pieces) is bad
-
 -- the fault of a line, as the status has it
 abbrev pub fault_as : Fault TraceFault → TraceFault
 fault_as TooLong = trace_fault.TooLong
@@ -91,14 +82,6 @@ status_as end.NoMemory good = NoMemory
 abbrev pub is_whole : {F : Type 0} → Bool → Option (BadLine F) → Bool
 is_whole ended None = ended
 is_whole ended (Some line) = false
-
--- the status says that all that is owed for the bytes got was put
-abbrev pub IsAnswered : Status → Type 0
-IsAnswered Done = ⊤
-IsAnswered Leaks = ⊤
-IsAnswered (Trace number fault) = ⊤
-IsAnswered ReadFault = ⊤
-IsAnswered other = ⊥
 
 -- an end where no call of the port failed
 pub record IsWithoutFault (status : Status) : Type 0 where
@@ -178,9 +161,3 @@ module _ {X : Type 0} (Given : List ℕ → Result (Option X) TraceFault → Typ
     pub pieces : List Piece
     pub passed : Passes before now pieces
     pub counted : (items : List X) (bad : Option (BadLine TraceFault)) → AreGot pieces items bad → turns_now ≡ turns_before + owed.turns items
-
--- Of the inputs that the bytes got give, and of the bytes put, this holds.
-pub record Claims (p : Assignment) (before now : Told) (claim : List Input → List ℕ → Type 0) : Type 0 where
-  pub pieces : List Piece
-  pub passed : Passes before now pieces
-  pub held : (is : List Input) (bad : Option (BadLine TraceFault)) → AreInputsGot p pieces is bad → claim is (put_of pieces)

@@ -21,7 +21,7 @@ ghost use Rattle.ff_value.specs.declared.input.Input.{Input};
 ghost use Rattle.ff_policy.specs.Assignment.{Assignment, IsAssignment};
 ghost use Rattle.ff_status.specs.declared.status.TraceFault.{TraceFault};
 ghost use Rattle.ff_stream.specs.declared.end.BadLine.{BadLine};
-ghost use Rattle.ff_session.specs.Works.{AreInputsGot, Claims, IsTraceFor};
+ghost use Rattle.ff_session.specs.Claims.{AreInputsGot, Claims, IsTraceFor};
 
 /// A trace is read, and in one way: the bytes, and whether they are all, determine the inputs
 /// before the first bad line, and that line with its fault.

@@ -5,7 +5,8 @@ ghost use Rattle.ff_policy.specs.Assignment.{IsAssignment};
 ghost use Rattle.ff_session.specs.Levels.{levels, machine};
 ghost use Rattle.ff_trace.specs.Lines.{IsInputOf};
 ghost use Rattle.ff_session.specs.Giving.{Gives};
-ghost use Rattle.ff_session.specs.Works.{Exchanged, Claims, IsAnswered, duty};
+ghost use Rattle.ff_session.specs.Claims.{Claims, IsAnswered};
+ghost use Rattle.ff_session.specs.Works.{Exchanged, duty};
 
 use crate::format::walk_format;
 use crate::multi::walk_multi;

@@ -12,7 +12,8 @@ use Rattle.ff_stream.specs.Owed.{text_of}
 use Rattle.ff_stream.specs.Traces.{IsTrace}
 use Rattle.ff_stream.specs.declared.end.BadLine.{BadLine}
 use Rattle.ff_stream.proofs.Laws.{reads_each, trace_once}
-use Rattle.ff_session.specs.Works.{Exchanged, IsAnswered, IsOwed, IsWritten}
+use Rattle.ff_session.specs.Claims.{IsAnswered}
+use Rattle.ff_session.specs.Works.{Exchanged, IsOwed, IsWritten}
 use Rattle.ff_commands.specs.Commands.{IsCommandOf}
 use Rattle.ff_commands.specs.Giving as commands
 use Rattle.ff_commands.specs.Once.{gives_once}

@@ -56,7 +56,7 @@ use Rattle.ff_gen.specs.Workload.{following, typed, line_of, draw_of, number_at,
 use Rattle.ff_gen.specs.declared.generator.TheConstants.{MOST_LINES}
 use Rattle.ff_stream.specs.Traces.{Reads, at_end, good_line}
 use Rattle.ff_session.specs.Giving.{Gives}
-use Rattle.ff_session.specs.Works.{IsTraceFor}
+use Rattle.ff_session.specs.Claims.{IsTraceFor}
 use Rattle.ff_writing.specs.Generated.{IsDrawn, AreDrawn}
 use Rattle.ff_writing.proofs.DrawnLines.{short_line}
 

@@ -3,7 +3,7 @@ ghost use Rattle.std.specs.Prelude.{◌≤◌, ◌<◌, ◌^◌, ℕ, true, None
 ghost use Rattle.ff_value.specs.declared.input.Input.{Input};
 ghost use Rattle.ff_policy.specs.Assignment.{builtin};
 ghost use Rattle.ff_gen.specs.Workload.{workload};
-ghost use Rattle.ff_session.specs.Works.{IsTraceFor};
+ghost use Rattle.ff_session.specs.Claims.{IsTraceFor};
 ghost use Rattle.ff_writing.specs.Generated.{IsDrawn, AreDrawn};
 
 use ff_gen::MOST_LINES;
