@@ -2,7 +2,7 @@
 use Rattle.std.proofs.Common.{◌≡◌, ℕ, ◌<◌, Bool, true, false, cond, Option, None, List, All, refl, sym, ap, ◌∙◌}
 use Rattle.ff_io.specs.Pieces.{got_of, has_end, put_of}
 use Rattle.ff_io.specs.Port.{Told}
-use Rattle.ff_reactive.specs.Copies.{below, seen}
+use Rattle.ff_reactive.specs.Copies.{seen}
 use Rattle.ff_reactive.proofs.Lists.{flat_map_agree_below}
 use Rattle.ff_lattice.specs.Order.{name, size}
 use Rattle.ff_value.specs.declared.input.Input.{Input}
@@ -47,13 +47,15 @@ module _ (p : Assignment) (valid : IsAssignment p) (is : List Input) (ok : All (
 
   some_leak : ending p is ≡ Leaks → (l : ℕ) × IsLeak p is l
   some_leak found =
-      let differ = some_differ (size p.order) (plain_lines p is) (multi_lines p is) (ends_leaks (leaks p is) found) in
-      (differ.level, record {
-        within = differ.within;
-        inputs = seen_inputs p valid differ.level differ.within is ok;
-        alike = seen_again p valid differ.level differ.within is ok;
-        other = λ same. differ.other (same ∙ sym (multi_is_plain_seen p valid differ.level differ.within is ok));
-      })
+      let differ = some_differ (size p.order) (plain_lines p is) (multi_lines p is) (ends_leaks (leaks p is) found) in (
+        differ.level,
+        record {
+          within = differ.within;
+          inputs = seen_inputs p valid differ.level differ.within is ok;
+          alike = seen_again p valid differ.level differ.within is ok;
+          other = λ same. differ.other (same ∙ sym (multi_is_plain_seen p valid differ.level differ.within is ok));
+        },
+      )
 
 -- what an audit that was carried out tells
 module _ {before now : Told} {turns_before turns_now : ℕ} (p : Assignment) (s : Status) (run : Exchanged (Gives p.order) (audit_duty p) before now turns_before turns_now s) where

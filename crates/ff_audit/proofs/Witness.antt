@@ -1,13 +1,13 @@
 -- What an audit tells of the plain browser: the multi-executed lines of a level are the plain ones on
 -- what the level sees.
-use Rattle.std.proofs.Common.{◌≡◌, ◌≢◌, ℕ, ◌<◌, Bool, true, false, cond, ◌==◌, append_assoc, arith, Option, Some, None, option_and_then, List, [], ◌∷◌, ◌++◌, length, filter, map, flat_map, All, bytes_eq, refl, sym, ap, ◌∙◌}
+use Rattle.std.proofs.Common.{◌≡◌, ◌≢◌, ℕ, ◌<◌, Bool, true, false, cond, ◌==◌, append_assoc, arith, Option, Some, None, option_and_then, List, [], ◌∷◌, ◌++◌, filter, map, flat_map, All, bytes_eq, refl, sym, ap, ◌∙◌}
 use Rattle.std.specs.List.{cons_option}
 use Rattle.std.proofs.lemmas.Bool.{false_from_ne_true}
 use Rattle.std.proofs.lemmas.List.Elements.{All-nil, All-cons, All-head, All-tail, All-append, All-weaker}
 use Rattle.ff_io.specs.Cutting.{content}
 use Rattle.ff_reactive.specs.Runs.{Machine, joined, plain_from, plain}
 use Rattle.ff_reactive.specs.Copies.{Levels, seen, at_level, multi}
-use Rattle.ff_reactive.specs.Text.{first_word, line_of, lines, text_of, text_out}
+use Rattle.ff_reactive.specs.Text.{first_word, line_of, text_of, text_out}
 use Rattle.ff_reactive.specs.Laws.{IsLawful}
 use Rattle.ff_reactive.proofs.Fits.{has_line, multi_ok, seen_ok}
 use Rattle.ff_reactive.proofs.Lists.{filter_agree_all}

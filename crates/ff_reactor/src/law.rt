@@ -9,12 +9,8 @@ ghost use Rattle.ff_machine.specs.Valid.{IsState};
 /// then quiet and valid (`quiet`, `valid`).
 pub fn an_input_takes_few_turns()
     ensures turns { (budget : ℕ) (s : State) (i : Input) → ((browser budget).handle s i).turns ≤ budget + 1 }
-    ensures quiet {
-        (budget : ℕ) (s : State) (i : Input) → IsState budget s → IsWellSpelledInput i
-            → ((browser budget).handle s i).after.quiet ≡ true
-    }
-    ensures valid {
-        (budget : ℕ) (s : State) (i : Input) → IsState budget s → IsWellSpelledInput i
-            → IsState budget ((browser budget).handle s i).after
-    }
+    ensures quiet { (budget : ℕ) (s : State) (i : Input) → IsState budget s → IsWellSpelledInput i
+        → ((browser budget).handle s i).after.quiet ≡ true }
+    ensures valid { (budget : ℕ) (s : State) (i : Input) → IsState budget s → IsWellSpelledInput i
+        → IsState budget ((browser budget).handle s i).after }
 {}

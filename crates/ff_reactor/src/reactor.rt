@@ -90,8 +90,6 @@ pub trait Reactor: Drop {
     ghost stops: { (s : State) → s.fuel ≡ 0 → turning s ≡ 0 };
 
     /// Neither does one that drops its first task, whose page isn't live.
-    ghost drops: {
-        (s : State) (task : Task) (tasks : List Task) → s.tasks ≡ task ∷ tasks
-            → is_live s.stores.windows task.page ≡ false → turning s ≡ 0
-    };
+    ghost drops: { (s : State) (task : Task) (tasks : List Task) → s.tasks ≡ task ∷ tasks
+        → is_live s.stores.windows task.page ≡ false → turning s ≡ 0 };
 }

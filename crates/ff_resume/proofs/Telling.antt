@@ -1,5 +1,5 @@
 -- What the text of a resumed run tells.
-use Rattle.std.proofs.Common.{◌≡◌, ℕ, ◌<◌, ◌≤◌, ◌⊎◌, inl, inr, Bool, true, false, Option, None, List, [], All, refl, sym, ap, subst, ◌∙◌, arith, length}
+use Rattle.std.proofs.Common.{◌≡◌, ℕ, ◌<◌, ◌≤◌, ◌⊎◌, inl, inr, Option, None, List, All, sym, subst, arith, length}
 use Rattle.std.proofs.lemmas.Bool.{cases_lt}
 use Rattle.std.proofs.lemmas.List.{get_or_past}
 use Rattle.ff_io.specs.Pieces.{got_of, has_end, put_of}
@@ -22,7 +22,7 @@ use Rattle.ff_status.specs.declared.status.TraceFault.{TraceFault}
 use Rattle.ff_stream.specs.declared.end.BadLine.{BadLine}
 use Rattle.ff_stream.proofs.Laws.{reads_each, trace_once}
 use Rattle.ff_session.specs.Giving.{Gives}
-use Rattle.ff_session.specs.Multi.{run_text, seen_by, stands_after}
+use Rattle.ff_session.specs.Multi.{run_text, seen_by}
 use Rattle.ff_session.specs.Once.{gives_once}
 use Rattle.ff_session.specs.Claims.{AreInputsGot, Claims, IsAnswered}
 use Rattle.ff_session.specs.Works.{Exchanged, IsOwed, IsWritten}

@@ -11,7 +11,7 @@ use Rattle.ff_resume.specs.Resumed.{WasSaved, resume_duty, stand_of, standing_te
 use Rattle.ff_resume.proofs.GoingOn.{goes_on_saved, goes_on_text, goes_on_turns}
 use Rattle.ff_reactive.specs.Standings.{StandAlike}
 use Rattle.ff_resume.proofs.Stood.{pool_stands, text_agrees}
-use Rattle.ff_save.specs.Saved.{saved_recs, saved_text}
+use Rattle.ff_save.specs.Saved.{saved_text}
 use Rattle.ff_resume.proofs.Turns.{parts_turns}
 use Rattle.ff_trace.specs.Lines.{IsInputOf}
 use Rattle.ff_save.specs.Whole.{IsSaved, IsWhole}

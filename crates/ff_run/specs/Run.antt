@@ -4,7 +4,6 @@ use Rattle.std.proofs.Common.{Global}
 use Rattle.ff_io.specs.Counts.{Rose}
 use Rattle.ff_io.specs.Port.{Told, SinkTold}
 use Rattle.ff_io.specs.Shelf.{ShelfTold}
-use Rattle.ff_value.specs.declared.input.Input.{Input}
 use Rattle.ff_policy.specs.Assignment.{Assignment}
 use Rattle.ff_session.specs.Cut.{AreFronts}
 use Rattle.ff_session.specs.Giving.{Gives}

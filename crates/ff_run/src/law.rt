@@ -46,12 +46,8 @@ pub fn a_whole_state_goes_on()
 pub fn what_is_put_line_by_line_is_the_whole_text()
     ensures work { (work : Work) (p : Assignment) (is : List Input) → text_of (duty work p).entry is ≡ (duty work p).text false is }
     ensures travel { (p : Assignment) (commands : List Command) → text_of (travel_duty p).entry commands ≡ (travel_duty p).text false commands }
-    ensures resume {
-        (p : Assignment) (from : Pooled) (is : List Input)
-            → text_of (resume_duty p (stand_of from)).entry is ≡ (resume_duty p (stand_of from)).text false is
-    }
-    ensures release {
-        (p : Assignment) (rules : List Rule) (is : List Input)
-            → text_of (release_duty p rules).entry is ≡ (release_duty p rules).text false is
-    }
+    ensures resume { (p : Assignment) (from : Pooled) (is : List Input)
+        → text_of (resume_duty p (stand_of from)).entry is ≡ (resume_duty p (stand_of from)).text false is }
+    ensures release { (p : Assignment) (rules : List Rule) (is : List Input)
+        → text_of (release_duty p rules).entry is ≡ (release_duty p rules).text false is }
 {}

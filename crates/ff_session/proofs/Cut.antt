@@ -1,18 +1,17 @@
 -- The whole lines of a front of a text are the first ones of the text.
-use Rattle.std.proofs.Common.{◌≡◌, ℕ, ◌<◌, ◌==◌, Bool, true, false, cond, Option, List, [], ◌∷◌, ◌++◌, filter, refl, sym, ap, subst, ◌∙◌, append_assoc, append-nil}
+use Rattle.std.proofs.Common.{◌≡◌, ℕ, ◌==◌, Bool, true, false, cond, Option, List, [], ◌∷◌, ◌++◌, filter, refl, sym, ap, subst, ◌∙◌}
 use Rattle.std.specs.List.{onto_first}
 use Rattle.std.proofs.lemmas.Bool.{false≢true}
 use Rattle.std.proofs.lemmas.List.Concat.{flat_map-append}
 use Rattle.std.proofs.lemmas.List.Elements.{filter-append}
 use Rattle.ff_io.specs.Cutting.{has_newline}
-use Rattle.ff_io.specs.Fronts.{IsFront, IsProperFront}
+use Rattle.ff_io.specs.Fronts.{IsFront}
 use Rattle.ff_io.specs.Pieces.{put_of}
 use Rattle.ff_io.specs.Port.{Told}
 use Rattle.ff_reactive.specs.Copies.{Levels}
 use Rattle.ff_reactive.specs.Runs.{joined}
 use Rattle.ff_reactive.specs.Text.{BeginsWith, first_word, lines, names_below, pick, view}
 use Rattle.ff_policy.specs.Assignment.{Assignment}
-use Rattle.ff_lattice.specs.Order.{size}
 use Rattle.ff_value.specs.declared.input.Input.{Input}
 use Rattle.ff_status.specs.declared.status.Status.{Status}
 use Rattle.ff_status.specs.declared.status.Status.TheVariants.{Done, Leaks, Usage, Policy, Trace, ReadFault, WriteFault, ShelfFault, NoMemory, Saved, Release}

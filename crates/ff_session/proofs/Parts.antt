@@ -1,11 +1,10 @@
 -- A trace that is cut after a newline: the lines of both parts are those of the whole.
-use Rattle.std.proofs.Common.{◌≡◌, ℕ, zero, suc, ◌+◌, ◌<◌, ◌≤◌, ◌==◌, ◌⊎◌, inl, inr, Bool, true, false, cond, Option, Some, None, Result, Ok, Err, List, [], ◌∷◌, ◌++◌, filter, length, refl, sym, ap, subst, ◌∙◌, append_assoc, append-nil, arith, length-append}
+use Rattle.std.proofs.Common.{◌≡◌, ℕ, suc, ◌+◌, ◌≤◌, ◌==◌, ◌⊎◌, inl, inr, Bool, true, false, cond, Option, Some, None, Result, Ok, List, [], ◌∷◌, ◌++◌, filter, length, refl, sym, ap, subst, ◌∙◌, arith, length-append}
 use Rattle.std.proofs.lemmas.Bool.{false≢true}
-use Rattle.std.proofs.lemmas.List.Elements.{filter-append}
 use Rattle.ff_io.specs.declared.lines.TheConstants.{MOST_LINE_BYTES, MOST_TRACE_BYTES}
-use Rattle.ff_io.specs.Cutting.{has_newline, content, after_line, line_size, HasLine, IsTooLong, IsTooMuch, Fits, IsUnfinished}
+use Rattle.ff_io.specs.Cutting.{has_newline, content, after_line, line_size, HasLine}
 use Rattle.ff_io.proofs.CuttingLemmas.{has_newline-more, content-more, after_line-more, line_size-more}
-use Rattle.ff_stream.specs.Traces.{Reads, IsTrace, onto}
+use Rattle.ff_stream.specs.Traces.{Reads, onto}
 use Rattle.ff_stream.specs.declared.end.BadLine.{BadLine}
 use Rattle.ff_stream.specs.declared.end.Fault.TheVariants as fault
 use Rattle.ff_status.specs.declared.status.TraceFault.{TraceFault}

@@ -20,7 +20,6 @@ use Rattle.ff_stream.specs.declared.end.Fault.TheVariants.{TooLong, TooMuch, Lin
 use Rattle.ff_stream.specs.declared.end.End as stream
 use Rattle.ff_stream.specs.declared.end.End.TheVariants as end
 use Rattle.ff_session.specs.Levels.{machine}
-use Rattle.ff_session.specs.Giving.{Gives}
 use Rattle.ff_session.specs.Formatting.{format_entry, format_text, no_turns}
 use Rattle.ff_session.specs.Plain.{plain_entry, plain_text, plain_turns}
 use Rattle.ff_reactive.specs.Standings.{fresh}

@@ -34,12 +34,10 @@ pub fn a_trace_is_read_in_one_way()
 /// inputs of both parts, in order, are those of the whole, and a bad line of the second part is one
 /// of the whole, as many lines later as the first part has.
 pub fn parts_of_a_trace_are_the_whole_trace()
-    ensures {
-        (p : Assignment) (ended : Bool) (front second : List ℕ) (is js : List Input) (bad : Option (BadLine TraceFault))
-            → length ((front ++ 10 ∷ []) ++ second) ≤ MOST_TRACE_BYTES
-            → IsTraceFor p true (front ++ 10 ∷ []) is None → IsTraceFor p ended second js bad
-            → IsTraceFor p ended ((front ++ 10 ∷ []) ++ second) (is ++ js) (later_by (newlines (front ++ 10 ∷ [])) bad)
-    }
+    ensures { (p : Assignment) (ended : Bool) (front second : List ℕ) (is js : List Input) (bad : Option (BadLine TraceFault))
+        → length ((front ++ 10 ∷ []) ++ second) ≤ MOST_TRACE_BYTES
+        → IsTraceFor p true (front ++ 10 ∷ []) is None → IsTraceFor p ended second js bad
+        → IsTraceFor p ended ((front ++ 10 ∷ []) ++ second) (is ++ js) (later_by (newlines (front ++ 10 ∷ [])) bad) }
 {}
 
 /// A run over inputs is the run over the first of them, and then the run over the others from where
@@ -65,18 +63,14 @@ pub fn a_view_depends_on_what_is_offered_at_or_below()
 /// the plain browser puts at it, from where the level's copy stood, on what the level sees
 /// (`projected`); and inputs that look the same to a level give it the same view (`secure`).
 pub fn a_run_from_anywhere_tells_a_level_what_it_sees()
-    ensures projected {
-        (p : Assignment) (from : Standing State) → IsAssignment p → ((l : ℕ) → IsState p.fuel (from.states l))
-            → (l : ℕ) → l < size p.order → (is : List Input) → All (IsInputOf p.order) is
-            → only (levels p) l (run_text p (seen_by p) from is)
-                ≡ text_of (levels p) (at_level (levels p) l (joined (plain_from (machine p) (from.states l) (seen (levels p) l is))))
-    }
-    ensures secure {
-        (p : Assignment) (from : Standing State) → IsAssignment p → ((l : ℕ) → IsState p.fuel (from.states l))
-            → (l : ℕ) → l < size p.order → (is : List Input) → All (IsInputOf p.order) is
-            → (js : List Input) → All (IsInputOf p.order) js → seen (levels p) l js ≡ seen (levels p) l is
-            → view (levels p) l (run_text p (seen_by p) from is) ≡ view (levels p) l (run_text p (seen_by p) from js)
-    }
+    ensures projected { (p : Assignment) (from : Standing State) → IsAssignment p → ((l : ℕ) → IsState p.fuel (from.states l))
+        → (l : ℕ) → l < size p.order → (is : List Input) → All (IsInputOf p.order) is
+        → only (levels p) l (run_text p (seen_by p) from is)
+        ≡ text_of (levels p) (at_level (levels p) l (joined (plain_from (machine p) (from.states l) (seen (levels p) l is)))) }
+    ensures secure { (p : Assignment) (from : Standing State) → IsAssignment p → ((l : ℕ) → IsState p.fuel (from.states l))
+        → (l : ℕ) → l < size p.order → (is : List Input) → All (IsInputOf p.order) is
+        → (js : List Input) → All (IsInputOf p.order) js → seen (levels p) l js ≡ seen (levels p) l is
+        → view (levels p) l (run_text p (seen_by p) from is) ≡ view (levels p) l (run_text p (seen_by p) from js) }
 {}
 
 /// The multi-executed run is noninterfering under every policy: any two lists of well spelled

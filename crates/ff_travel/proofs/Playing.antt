@@ -1,7 +1,7 @@
 -- What a level's copy has put begins the plain run on what the level sees of the inputs in force.
-use Rattle.std.proofs.Common.{◌≡◌, ℕ, ◌+◌, ◌<◌, Bool, true, false, cond, ◌==◌, Option, Some, None, List, [], ◌∷◌, ◌++◌, length, All, refl, sym, ap, subst, ◌∙◌, append_assoc, append-nil, arith}
+use Rattle.std.proofs.Common.{◌≡◌, ℕ, ◌+◌, ◌<◌, Bool, true, false, cond, ◌==◌, Option, Some, None, List, [], ◌∷◌, ◌++◌, All, refl, sym, ap, subst, ◌∙◌, append_assoc, append-nil, arith}
 use Rattle.std.specs.List.{cons_option}
-use Rattle.std.proofs.lemmas.List.Elements.{All-nil, All-cons, All-head, All-tail, filter-append}
+use Rattle.std.proofs.lemmas.List.Elements.{All-nil, All-head, All-tail, filter-append}
 use Rattle.ff_reactive.specs.Copies.{at_level, seen}
 use Rattle.ff_reactive.specs.Runs.{joined, plain}
 use Rattle.ff_reactive.specs.Text.{BeginsWith, text_of}
@@ -24,7 +24,7 @@ use Rattle.ff_session.specs.Levels as session
 use Rattle.ff_commands.specs.Commands.{IsCommandOf}
 use Rattle.ff_commands.specs.declared.command.Command.{Command}
 use Rattle.ff_commands.specs.declared.command.Command.TheVariants.{Arrive, Turn, Drain, Back, Show}
-use Rattle.ff_travel.specs.Force.{Copies, arrivals, first_world, force_from, in_force, stepped, world_after, world_from}
+use Rattle.ff_travel.specs.Force.{Copies, arrivals, first_world, in_force, stepped, world_after, world_from}
 use Rattle.ff_travel.specs.Shown.{lines_put, plain_put}
 use Rattle.ff_travel.proofs.Worlds.{AreCopies, all_from, first_copies, stepped_copies}
 

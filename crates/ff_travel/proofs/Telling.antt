@@ -1,5 +1,5 @@
 -- What the text of a travel tells.
-use Rattle.std.proofs.Common.{◌≡◌, ℕ, ◌<◌, false, Option, None, List, [], ◌∷◌, ◌++◌, All, refl, sym, ap, subst, ◌∙◌}
+use Rattle.std.proofs.Common.{◌≡◌, ℕ, Option, None, List, [], ◌∷◌, ◌++◌, All, ap, subst, ◌∙◌}
 use Rattle.std.proofs.lemmas.List.Elements.{All-cons, All-head, All-nil, All-tail}
 use Rattle.ff_io.specs.Pieces.{got_of, has_end, put_of}
 use Rattle.ff_io.specs.Port.{Told}
@@ -22,7 +22,7 @@ use Rattle.ff_commands.specs.declared.command.Command.TheVariants.{Show}
 use Rattle.ff_commands.proofs.Giving.{is_given}
 use Rattle.ff_travel.specs.Owed.{travel_duty}
 use Rattle.ff_travel.specs.Shown.{travel_entry}
-use Rattle.ff_travel.specs.Told.{IsTravelled, Tells}
+use Rattle.ff_travel.specs.Told.{Tells}
 use Rattle.ff_travel.proofs.Playing.{shown_all, shown_begins}
 
 -- what holds of two lists joined holds of each

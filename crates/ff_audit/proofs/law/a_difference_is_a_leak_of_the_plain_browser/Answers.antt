@@ -1,8 +1,4 @@
-use Rattle.std.proofs.Common.{false, true, sym, ap, ◌∙◌}
-use Rattle.std.proofs.lemmas.Bool.{false_from_ne_true, true≢false}
-use Rattle.ff_reactive.specs.Copies.{seen}
-use Rattle.ff_session.specs.Levels.{levels}
-use Rattle.ff_lines.specs.Comparing.{compared, differs}
+use Rattle.std.proofs.Common.{sym, ◌∙◌}
 use Rattle.ff_lines.proofs.Telling.{found_equal, found_other}
 use Rattle.ff_audit.specs.Audited.{plain_lines, multi_lines}
 use Rattle.ff_audit.proofs.Witness.{multi_is_plain_seen, plain_where_same, seen_again, seen_inputs, none_found}
@@ -22,7 +18,8 @@ returns-clause-found c = λ p is l valid ok within some. record {
 pub returns-clause-clean : goal.returns-clause-clean
 returns-clause-clean c = λ p is l valid ok within. (
   λ none. found_equal (plain_lines p is l) (multi_lines p is l) none ∙ multi_is_plain_seen p valid l within is ok,
-  λ same. none_found p valid l within is ok same)
+  λ same. none_found p valid l within is ok same,
+)
 
 pub returns-clause-precise : goal.returns-clause-precise
 returns-clause-precise c = λ p is l valid ok within same. none_found p valid l within is ok (plain_where_same p valid l within is ok same)
