@@ -2,7 +2,7 @@
 ghost use Rattle.std.specs.Prelude.{◌≡◌, ◌+◌, ◌*◌, ◌<◌, ◌≤◌, [], ◌∷◌, ◌++◌, length, IfOk, OnOk};
 ghost use Rattle.std.specs.FinMap as finmap;
 ghost use Rattle.std.specs.Option.{ForSome, option_copied};
-ghost use Rattle.ff_steps.specs.Rises.{RisesBy};
+ghost use Rattle.ff_contract.specs.Rises.{RisesBy};
 ghost use Rattle.ff_tree.specs.Spelled.{IsVar, AreParams};
 ghost use Rattle.ff_machine.specs.Windows as windows;
 ghost use Rattle.ff_machine.specs.declared.limits.TheConstants.{MOST_ACTS};
@@ -11,11 +11,11 @@ ghost use Rattle.ff_operators.specs.Answers.{Answers, OnFault};
 use crate::cells::{ActCell, VarCell, cell_at};
 use crate::growing::{grow, write};
 use crate::searching::{Stop, digits_of, nearest, search};
+use ff_contract::Steps;
 use ff_cow::CowVec;
 use ff_machine::{MOST_ACTS, MOST_VARS};
 use ff_name::{Name, NoMemory};
 use ff_operators::Fail;
-use ff_steps::Steps;
 use ff_tree::Names;
 use ff_value::{ActId, Fault, Val};
 use std::alloc::{AllocError, Global};
@@ -77,7 +77,7 @@ impl Acts {
         self.push_act(None, copies)
     }
 
-    // Puts an activation without variables at the end.
+    /// Puts an activation without variables at the end.
     pub(crate) fn push_act<C: Ledger>(
         &mut self,
         parent: Option<ActId>,
@@ -85,7 +85,8 @@ impl Acts {
     ) -> Result<(), NoMemory>
         requires room { length self.old < MOST_ACTS }
         requires lives { ForSome parent (λ p. p.0 < length self.old) }
-        ensures done { OnOk result (self.new ≡ self.old ++ record { parent = parent; vars = finmap.empty } ∷ []) }
+        ensures done { OnOk result (self.new ≡ self.old
+            ++ record { parent = parent; vars = finmap.empty } ∷ []) }
         ensures copies { RisesBy 15 copies.old copies.new }
     {
         let Ok(()) = self.acts.push(ActCell { parent, top: None }, copies) else {
@@ -107,7 +108,8 @@ impl Acts {
         requires lives { parent.0 < length self.old }
         requires lengths { length params.now ≡ length args.now }
         requires names { AreParams params.now }
-        ensures done { OnOk result (self.new ≡ windows.with_act self.old parent params.now args.now) }
+        ensures done { OnOk result (self.new ≡ windows.with_act self.old parent params.now
+            args.now) }
         ensures number { IfOk result (λ n. n.0 ≡ length self.old) }
         ensures answer { Answers (windows.call_fault self.old (length params.now)) result }
         ensures kept { OnFault result (self.new ≡ self.old) }
@@ -185,8 +187,10 @@ impl Acts {
         copies: &mut Steps<C>,
     ) -> Result<(), Fail>
         requires lives { a.0 < length self.old }
-        ensures done { OnOk result (self.new ≡ windows.assigned self.old (windows.holder self.old a name.now) name.now value.now) }
-        ensures answer { Answers (windows.assign_fault (windows.holder self.old a name.now)) result }
+        ensures done { OnOk result (self.new ≡ windows.assigned self.old
+            (windows.holder self.old a name.now) name.now value.now) }
+        ensures answer { Answers (windows.assign_fault (windows.holder self.old a name.now))
+            result }
         ensures kept { OnFault result (self.new ≡ self.old) }
         ensures copies { RisesBy 64 copies.old copies.new }
     {

@@ -1,9 +1,9 @@
 //! The cells of activations and of variables.
 ghost use Rattle.std.specs.Prelude.{◌≡◌, ◌<◌, IfOk, None, Some, length, slice_get};
 
+use ff_contract::Steps;
 use ff_cow::{Cell, CowVec};
 use ff_name::{Name, NoMemory};
-use ff_steps::Steps;
 use ff_value::{ActId, Val};
 use std::sync::ledger::Ledger;
 
@@ -31,7 +31,8 @@ impl VarCell {
 
     /// A variable from which no search goes on. It shares the name and the value.
     pub(crate) fn of(owner: ActId, name: &Name, value: &Val) -> Result<VarCell, NoMemory>
-        ensures { IfOk result (λ cell. cell ≡ record { owner = owner; name = name.now; value = value.now; left = None; right = None }) }
+        ensures { IfOk result (λ cell. cell ≡ record
+            { owner = owner; name = name.now; value = value.now; left = None; right = None }) }
     {
         Ok(VarCell {
             owner,

@@ -1,15 +1,15 @@
 //! Writing a variable, and linking a new one.
 ghost use Rattle.std.specs.Prelude.{◌≡◌, ◌<◌, Some, [], ◌∷◌, ◌++◌, OnOk, OnErr, length, slice_get, slice_set};
-ghost use Rattle.ff_steps.specs.Rises.{RisesBy};
+ghost use Rattle.ff_contract.specs.Rises.{RisesBy};
 ghost use Rattle.ff_acts.specs.declared.cells.VarCell.{VarCell as Variable};
 ghost use Rattle.ff_acts.specs.Stops.{LivesAt, put_top, put_link};
 
 use crate::cells::{ActCell, VarCell, cell_at};
 use crate::edits::{LeftLink, NewValue, RightLink};
 use crate::searching::Place;
+use ff_contract::Steps;
 use ff_cow::CowVec;
 use ff_name::NoMemory;
-use ff_steps::Steps;
 use ff_value::{ActId, Val};
 use std::alloc::AllocError;
 use std::sync::ledger::Ledger;
@@ -23,7 +23,8 @@ pub(crate) fn write<C: Ledger>(
     copies: &mut Steps<C>,
 ) -> Result<(), NoMemory>
     requires { k < length vars.old }
-    ensures done { (cell : Variable) → slice_get vars.old k ≡ Some cell → OnOk result (vars.new ≡ slice_set vars.old k (record cell { value = value.now })) }
+    ensures done { (cell : Variable) → slice_get vars.old k ≡ Some cell
+        → OnOk result (vars.new ≡ slice_set vars.old k (record cell { value = value.now })) }
     ensures kept { OnErr result (vars.new ≡ vars.old) }
     ensures copies { RisesBy 16 copies.old copies.new }
 {

@@ -1,5 +1,7 @@
 //! Activations with their variables, of one copy of the browser.
 //!
+//! Floor: one browser. It knows of no levels.
+//!
 //! [`Acts`] is seen as the list of all activations ever made, each with its parent and its finite
 //! map of variables. It holds two lists that forks share until one of them writes: a cell for each
 //! activation, and a cell for each variable of whatever activation, in order of declaration. So a

@@ -116,7 +116,8 @@ fn sorted_of(alloc: Global, vars: &CowVec<VarCell>, a: ActId) -> Result<Sorted, 
 /// Puts a variable, which shares its name and value, among those of its activation. After want of
 /// memory they are not stated.
 fn put(sorted: &mut Sorted, cell: &VarCell) -> Result<(), NoMemory>
-    ensures { OnOk result (sorted.new.entries ≡ insert_entry (slice_cmp nat_cmp) sorted.old.entries cell.now.name cell.now.value) }
+    ensures { OnOk result (sorted.new.entries
+        ≡ insert_entry (slice_cmp nat_cmp) sorted.old.entries cell.now.name cell.now.value) }
 {
     let name = cell.name.copy()?;
     let value = cell.value.copy()?;

@@ -13,7 +13,8 @@ use ff_records::{Made, value_refers};
 impl Acts {
     /// Whether what the values of variables refer to was made, by these counts.
     pub fn refer(&self, counts: Made) -> bool
-        ensures { IsTrue result ↔ ((a : ActId) → ActRefers (made counts) (windows.act_at self.now a)) }
+        ensures { IsTrue result ↔ ((a : ActId)
+            → ActRefers (made counts) (windows.act_at self.now a)) }
     {
         vars_refer(counts, &self.vars)
     }

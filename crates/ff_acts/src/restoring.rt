@@ -11,12 +11,12 @@ ghost use Rattle.ff_records.specs.Restored.{Restores};
 ghost use Rattle.ff_acts.specs.Recorded.{Rise};
 
 use crate::acts::Acts;
+use ff_contract::Steps;
 use ff_machine::MOST_ACTS;
 use ff_name::NoMemory;
 use ff_operators::Fail;
 use ff_records::{ActRec, ActRecs, Variable};
 use ff_spelling::{is_value, is_var};
-use ff_steps::Steps;
 use ff_value::ActId;
 use std::alloc::{AllocError, Global};
 use std::sync::ledger::Ledger;
@@ -54,7 +54,8 @@ fn add_recorded<C: Ledger>(
     copies: &mut Steps<C>,
 ) -> Result<bool, NoMemory>
     requires valid { AreActs acts.old }
-    ensures value { IfOk result (λ added. Restores AreActs act_recs (act_recs acts.old ++ rec.now ∷ []) (cond added (Some acts.new) None)) }
+    ensures value { IfOk result (λ added. Restores AreActs act_recs
+        (act_recs acts.old ++ rec.now ∷ []) (cond added (Some acts.new) None)) }
     ensures later { copies.old ≤ copies.new }
 {
     let number = acts.len();
@@ -95,7 +96,8 @@ fn is_before(parent: Option<ActId>, number: u32) -> bool
 
 /// Whether a variable may be one, and its value is well spelled.
 fn is_variable(alloc: Global, variable: &Variable) -> Result<bool, NoMemory>
-    ensures { IfOk result (λ is. IsTrue is ↔ (IsVar variable.now.name × IsWellSpelledVal variable.now.value)) }
+    ensures { IfOk result (λ is. IsTrue is ↔ (IsVar variable.now.name
+        × IsWellSpelledVal variable.now.value)) }
 {
     let has_value = is_value(alloc, &variable.value)?;
     Ok(is_var(&variable.name) && has_value)

@@ -4,11 +4,11 @@ use Rattle.std.specs.Bool.{⊤}
 use Rattle.std.specs.Result.{OnOk}
 use Rattle.ff_io.specs.Counts.{Rose}
 use Rattle.ff_io.specs.Pieces.{Piece}
-use Rattle.ff_reactive.specs.Runs.{plain, work_plain}
-use Rattle.ff_reactive.specs.Copies.{multi}
-use Rattle.ff_reactive.proofs.Runs.{work_plain_start, work_plain_more}
-use Rattle.ff_reactive.proofs.Sharing.{work_start, work_more}
-use Rattle.ff_reactive.proofs.Lines.{text_start, text_more, plain_text_start, plain_text_more}
+use Rattle.ff_confinement.specs.Runs.{plain, work_plain}
+use Rattle.ff_confinement.specs.Copies.{multi}
+use Rattle.ff_confinement.proofs.Runs.{work_plain_start, work_plain_more}
+use Rattle.ff_confinement.proofs.Sharing.{work_start, work_more}
+use Rattle.ff_confinement.proofs.Lines.{text_start, text_more, plain_text_start, plain_text_more}
 use Rattle.ff_value.specs.Same.{same_input}
 use Rattle.ff_lattice.specs.Order.{Order, size}
 use Rattle.ff_value.specs.declared.input.Input.{Input}
@@ -18,7 +18,7 @@ use Rattle.ff_status.specs.declared.status.Status.{Status}
 use Rattle.ff_status.specs.declared.status.Status.TheVariants.{Done, Leaks, NoMemory}
 use Rattle.ff_status.specs.declared.status.TraceFault.{TraceFault}
 use Rattle.ff_status.specs.Words.{IsGood}
-use Rattle.ff_stream.specs.Owed as stream
+use Rattle.ff_stream.specs.Owed as owed
 use Rattle.ff_stream.specs.Owed.{Streams}
 use Rattle.ff_stream.specs.declared.end.End.{End}
 use Rattle.ff_stream.specs.declared.end.End.TheVariants as ended
@@ -27,20 +27,20 @@ use Rattle.ff_stream.proofs.Onwards.{streams_none}
 use Rattle.ff_session.specs.Giving.{Gives}
 use Rattle.ff_session.specs.Once.{gives_once}
 use Rattle.ff_session.specs.Plain.{plain_text, plain_entry, plain_turns, IsPlainAt}
-use Rattle.ff_reactive.specs.Text.{text_of}
-use Rattle.ff_reactive.specs.Standings.{fresh}
-use Rattle.ff_reactive.proofs.Standings.{puts_fresh, turns_fresh}
+use Rattle.ff_confinement.specs.Text.{text_of}
+use Rattle.ff_confinement.specs.Standings.{fresh}
+use Rattle.ff_confinement.proofs.Standings.{puts_fresh, turns_fresh}
 use Rattle.ff_session.specs.Multi.{seen_by, multi_text, multi_turns, copies_entry, copies_turns, AreCopiesAt}
 use Rattle.ff_session.specs.Works.{Exchanged, status_as}
 use Rattle.ff_session.specs.Closing.{IsEnded, IsClosed}
 use Rattle.ff_session.proofs.Closing as closing
 use Rattle.ff_session.proofs.Closing.{told_of, none_put, none_owed_at}
-use Rattle.ff_lines.specs.Owned.{own}
-use Rattle.ff_lines.specs.Comparing.{Kept, CompareAll}
-use Rattle.ff_lines.specs.Verdicts.{any_differ, report_of}
+use Rattle.ff_audit.specs.Owned.{own}
+use Rattle.ff_audit.specs.Comparing.{Kept, CompareAll}
+use Rattle.ff_audit.specs.Verdicts.{any_differ, report_of}
 use Rattle.ff_audit.specs.Audited.{Account, plain_lines, multi_lines, report, audit_turns, feed_turns, no_entry, audit_duty, IsAuditAt, IsReported}
-use Rattle.ff_lines.proofs.Heard.{own-append, own_none}
-use Rattle.ff_lines.proofs.Leveled.{compare_same, same_report}
+use Rattle.ff_audit.proofs.Heard.{own-append, own_none}
+use Rattle.ff_audit.proofs.Leveled.{compare_same, same_report}
 
 -- nothing is put for an input
 pub no_text : {T E : Type 0} (r : Result T E) (IsAt : List Input → Type 0) (i : Input) (text : List ℕ) → OnOk r ((is : List Input) → IsAt is → text ≡ text ++ no_entry is i)
@@ -56,24 +56,24 @@ multi_longer : (p : Assignment) (is : List Input) (i : Input) (l : ℕ) → mult
 multi_longer p is i l = sym (own-append (levels p) p.order (multi (machine p) (levels p) is) (multi_text p (is ++ i ∷ [])) (copies_entry p (seen_by p) (fresh (machine p)) is i) l (text_more (machine p) (levels p) is i ∙ ap (λ os. multi_text p is ++ text_of (levels p) os) (sym (puts_fresh (machine p) (levels p) is i))))
 
 -- no input
-pub audit_none : (p : Assignment) (books : Account) → IsPlainAt p books.browser [] → AreCopiesAt p (seen_by p) (fresh (machine p)) books.pool [] → length books.levels ≡ size p.order → CompareAll books.levels (λ l. []) (λ l. []) → IsAuditAt p books []
-audit_none p books plain copies count all = record {
+pub audit_none : (p : Assignment) (comparisons : Account) → IsPlainAt p comparisons.browser [] → AreCopiesAt p (seen_by p) (fresh (machine p)) comparisons.pool [] → length comparisons.levels ≡ size p.order → CompareAll comparisons.levels (λ l. []) (λ l. []) → IsAuditAt p comparisons []
+audit_none p comparisons plain copies count all = record {
   plain = plain;
   copies = copies;
   count = count;
-  levels = compare_same books.levels (λ l. []) (λ l. []) (plain_lines p []) (multi_lines p [])
+  levels = compare_same comparisons.levels (λ l. []) (λ l. []) (plain_lines p []) (multi_lines p [])
       (λ l. sym (own_none (levels p) p.order (plain_text p []) l (plain_text_start (machine p) (levels p))))
       (λ l. sym (own_none (levels p) p.order (multi_text p []) l (text_start (machine p) (levels p))))
       all;
 }
 
 -- one input more, whose lines came to the comparisons
-pub audit_more : (p : Assignment) (books now : Account) (is : List Input) (i : Input) (text other : List ℕ) → IsAuditAt p books is
-    → IsPlainAt p now.browser (is ++ i ∷ []) → AreCopiesAt p (seen_by p) (fresh (machine p)) now.pool (is ++ i ∷ []) → length now.levels ≡ length books.levels
+pub audit_more : (p : Assignment) (comparisons now : Account) (is : List Input) (i : Input) (text other : List ℕ) → IsAuditAt p comparisons is
+    → IsPlainAt p now.browser (is ++ i ∷ []) → AreCopiesAt p (seen_by p) (fresh (machine p)) now.pool (is ++ i ∷ []) → length now.levels ≡ length comparisons.levels
     → text ≡ plain_entry p is i → other ≡ copies_entry p (seen_by p) (fresh (machine p)) is i
-    → ((ps ms : ℕ → List (List ℕ)) → CompareAll books.levels ps ms → CompareAll now.levels (λ l. ps l ++ own p.order text l) (λ l. ms l ++ own p.order other l))
+    → ((ps ms : ℕ → List (List ℕ)) → CompareAll comparisons.levels ps ms → CompareAll now.levels (λ l. ps l ++ own p.order text l) (λ l. ms l ++ own p.order other l))
     → IsAuditAt p now (is ++ i ∷ [])
-audit_more p books now is i text other at plain copies count text_is other_is hears = record {
+audit_more p comparisons now is i text other at plain copies count text_is other_is hears = record {
   plain = plain;
   copies = copies;
   count = count ∙ at.count;
@@ -106,28 +106,28 @@ turns_none p =
     let other : multi_turns p [] ≡ 0 = work_start (machine p) (levels p) same_input in
     omega arith
 
-turns_are : (p : Assignment) (is : List Input) → stream.turns_of (feed_turns p) is ≡ audit_turns p is
+turns_are : (p : Assignment) (is : List Input) → owed.turns_of (feed_turns p) is ≡ audit_turns p is
 turns_are p is = turns_by_steps (feed_turns p) (audit_turns p) (turns_none p) (turns_more p) is
 
-no_texts : (is : List Input) → stream.text_of no_entry is ≡ []
+no_texts : (is : List Input) → owed.text_of no_entry is ≡ []
 no_texts is = text_by_steps no_entry (λ js. []) refl (λ js i. refl) is
 
--- ---- the report of the books
+-- ---- the report of the comparisons
 
 good_end : (b : Bool) → IsGood (cond b Leaks Done)
 good_end true = tt
 good_end false = tt
 
-module _ (p : Assignment) (books : Account) (first : List Input) (at : IsAuditAt p books first) where
-  -- whatever inputs the books may be said to have taken
-  same_text : (is : List Input) → IsAuditAt p books is → report p first ≡ report p is
-  same_text is other = same_report books.levels (plain_lines p first) (multi_lines p first) (plain_lines p is) (multi_lines p is) at.levels other.levels p.order (size p.order) (let count = at.count in omega (arith, count))
+module _ (p : Assignment) (comparisons : Account) (first : List Input) (at : IsAuditAt p comparisons first) where
+  -- whatever inputs the comparisons may be said to have taken
+  same_text : (is : List Input) → IsAuditAt p comparisons is → report p first ≡ report p is
+  same_text is other = same_report comparisons.levels (plain_lines p first) (multi_lines p first) (plain_lines p is) (multi_lines p is) at.levels other.levels p.order (size p.order) (let count = at.count in omega (arith, count))
 
   -- all of it was put, or a part
   pub reported : (end : End TraceFault) (leak : Bool) (text : List ℕ) (log_before log_now : Option (List Piece)) (before now : ℕ) (status : Status) (good : Status) → good ≡ cond leak Leaks Done
-      → ((ps ms : ℕ → List (List ℕ)) → CompareAll books.levels ps ms → leak ≡ any_differ (length books.levels) ps ms)
-      → ((ps ms : ℕ → List (List ℕ)) → CompareAll books.levels ps ms → text ≡ [] ++ report_of p.order (size p.order) ps ms)
-      → IsClosed end good text log_before log_now before now status → IsReported p books end log_before log_now before now status
+      → ((ps ms : ℕ → List (List ℕ)) → CompareAll comparisons.levels ps ms → leak ≡ any_differ (length comparisons.levels) ps ms)
+      → ((ps ms : ℕ → List (List ℕ)) → CompareAll comparisons.levels ps ms → text ≡ [] ++ report_of p.order (size p.order) ps ms)
+      → IsClosed end good text log_before log_now before now status → IsReported p comparisons end log_before log_now before now status
   reported end leak text log_before log_now before now status good good_is leak_is text_is closed = record {
     text = text;
     good = good;
@@ -141,7 +141,7 @@ module _ (p : Assignment) (books : Account) (first : List Input) (at : IsAuditAt
 
   -- there was no memory for it
   pub unreported : (end : End TraceFault) (log : Option (List Piece)) (writes : ℕ) → IsEnded end → (leak : Bool)
-      → ((ps ms : ℕ → List (List ℕ)) → CompareAll books.levels ps ms → leak ≡ any_differ (length books.levels) ps ms) → IsReported p books end log log writes writes NoMemory
+      → ((ps ms : ℕ → List (List ℕ)) → CompareAll comparisons.levels ps ms → leak ≡ any_differ (length comparisons.levels) ps ms) → IsReported p comparisons end log log writes writes NoMemory
   unreported end log writes ended leak leak_is = record {
     text = report p first;
     good = cond leak Leaks Done;
@@ -155,7 +155,7 @@ module _ (p : Assignment) (books : Account) (first : List Input) (at : IsAuditAt
 
 -- ---- the whole audit
 
-text_are : (p : Assignment) (whole : Bool) (is : List Input) → report p is ≡ stream.text_of no_entry is ++ report p is
+text_are : (p : Assignment) (whole : Bool) (is : List Input) → report p is ≡ owed.text_of no_entry is ++ report p is
 text_are p whole is = ap (λ t. t ++ report p is) (sym (no_texts is))
 
 module _ (p : Assignment) {IsAt : List Input → Type 0} {log_before log_mid : Option (List Piece)} {rest_before rest_now : Option (List ℕ)} {turns_before turns_now : ℕ} (end : End TraceFault)
@@ -177,12 +177,12 @@ module _ (p : Assignment) {IsAt : List Input → Type 0} {log_before log_mid : O
       subst (λ e. Exchanged (Gives p.order) (audit_duty p) (told_of log_before rest_before reads_before writes_before) (told_of log_mid rest_now reads_now writes_now) turns_before turns_now (status_as e Done)) is
       (unaudited reads_before reads_now writes_before writes_now (λ e. failed (subst IsEnded is e)) later read_fault write_fault up)
 
--- there was no memory for the books
+-- there was no memory for the comparisons
 pub unmade : (p : Assignment) (log : Option (List Piece)) (rest : Option (List ℕ)) (turns reads writes : ℕ) → Exchanged (Gives p.order) (audit_duty p) (told_of log rest reads writes) (told_of log rest reads writes) turns turns NoMemory
 unmade p log rest turns reads writes =
     unaudited_as p {IsAt = λ is. ⊤} ended.NoMemory (streams_none (Gives p.order) no_entry (feed_turns p) (λ is. ⊤) log rest turns) ended.NoMemory refl (λ e. e) reads reads writes writes (omega arith) (λ e. cc) (λ e. cc) (omega arith)
 
--- where reading ended, the books stand somewhere
+-- where reading ended, the comparisons stand somewhere
 pub stands : (p : Assignment) {IsAt : List Input → Type 0} {log_before log_mid : Option (List Piece)} {rest_before rest_now : Option (List ℕ)} {turns_before turns_now : ℕ} (end : End TraceFault)
     → Streams (Gives p.order) no_entry (feed_turns p) IsAt log_before log_mid rest_before rest_now turns_before turns_now end → IsEnded end → (is : List Input) × IsAt is
 stands p ended.Done streams is = (streams.held.1.items, streams.held.1.at)
@@ -191,10 +191,10 @@ stands p ended.ReadFault streams is = (streams.held.1.items, streams.held.1.at)
 stands p ended.WriteFault streams is = absurd is
 stands p ended.NoMemory streams is = absurd is
 
-module _ (p : Assignment) (books : Account) {log_before log_mid : Option (List Piece)} {rest_before rest_now : Option (List ℕ)} {turns_before turns_now : ℕ} (end : End TraceFault)
-    (streams : Streams (Gives p.order) no_entry (feed_turns p) (IsAuditAt p books) log_before log_mid rest_before rest_now turns_before turns_now end) where
+module _ (p : Assignment) (comparisons : Account) {log_before log_mid : Option (List Piece)} {rest_before rest_now : Option (List ℕ)} {turns_before turns_now : ℕ} (end : End TraceFault)
+    (streams : Streams (Gives p.order) no_entry (feed_turns p) (IsAuditAt p comparisons) log_before log_mid rest_before rest_now turns_before turns_now end) where
   -- the report was put once reading had ended
-  pub audited : (s : Status) (log_now : Option (List Piece)) (reads_before reads_now writes_before writes_mid writes_now : ℕ) → IsReported p books end log_mid log_now writes_mid writes_now s
+  pub audited : (s : Status) (log_now : Option (List Piece)) (reads_before reads_now writes_before writes_mid writes_now : ℕ) → IsReported p comparisons end log_mid log_now writes_mid writes_now s
       → turns_before ≤ turns_now → (end ≡ ended.ReadFault → Rose reads_before reads_now) → (end ≡ ended.WriteFault → Rose writes_before writes_mid) → writes_before ≤ writes_mid → writes_mid ≤ writes_now
       → Exchanged (Gives p.order) (audit_duty p) (told_of log_before rest_before reads_before writes_before) (told_of log_now rest_now reads_now writes_now) turns_before turns_now s
   audited s log_now reads_before reads_now writes_before writes_mid writes_now put later read_fault write_fault up more =

@@ -2,8 +2,8 @@
 use Rattle.std.proofs.Common.{◌≡◌, ℕ, ◌<◌, Bool, true, false, cond, Option, None, List, All, refl, sym, ap, ◌∙◌}
 use Rattle.ff_io.specs.Pieces.{got_of, has_end, put_of}
 use Rattle.ff_io.specs.Port.{Told}
-use Rattle.ff_reactive.specs.Copies.{seen}
-use Rattle.ff_reactive.proofs.Lists.{flat_map_agree_below}
+use Rattle.ff_confinement.specs.Copies.{seen}
+use Rattle.ff_confinement.proofs.Lists.{flat_map_agree_below}
 use Rattle.ff_lattice.specs.Order.{name, size}
 use Rattle.ff_value.specs.declared.input.Input.{Input}
 use Rattle.ff_policy.specs.Assignment.{Assignment, IsAssignment}
@@ -13,9 +13,9 @@ use Rattle.ff_status.specs.declared.status.Status.TheVariants.{Done, Leaks, Usag
 use Rattle.ff_status.specs.declared.status.TraceFault.{TraceFault}
 use Rattle.ff_stream.specs.declared.end.BadLine.{BadLine}
 use Rattle.ff_stream.proofs.Laws.{reads_each, trace_once}
-use Rattle.ff_lines.specs.Comparing.{compared}
-use Rattle.ff_lines.specs.Verdicts.{report_of, verdict_text}
-use Rattle.ff_lines.proofs.Telling.{none_differ, some_differ}
+use Rattle.ff_audit.specs.Comparing.{compared}
+use Rattle.ff_audit.specs.Verdicts.{report_of, verdict_text}
+use Rattle.ff_audit.proofs.Verdicts.{none_differ, some_differ}
 use Rattle.ff_session.specs.Giving.{Gives}
 use Rattle.ff_session.specs.Levels.{levels}
 use Rattle.ff_session.specs.Once.{gives_once}

@@ -1,19 +1,19 @@
--- What an audit tells of the plain browser: the multi-executed lines of a level are the plain ones on
--- what the level sees.
+-- What an audit tells of the plain browser: the multi-executed lines of a level are the plain ones
+-- on what the level sees.
 use Rattle.std.proofs.Common.{◌≡◌, ◌≢◌, ℕ, ◌<◌, Bool, true, false, cond, ◌==◌, append_assoc, arith, Option, Some, None, option_and_then, List, [], ◌∷◌, ◌++◌, filter, map, flat_map, All, bytes_eq, refl, sym, ap, ◌∙◌}
 use Rattle.std.specs.List.{cons_option}
 use Rattle.std.proofs.lemmas.Bool.{false_from_ne_true}
 use Rattle.std.proofs.lemmas.List.Elements.{All-nil, All-cons, All-head, All-tail, All-append, All-weaker}
 use Rattle.ff_io.specs.Cutting.{content}
-use Rattle.ff_reactive.specs.Runs.{Machine, joined, plain_from, plain}
-use Rattle.ff_reactive.specs.Copies.{Levels, seen, at_level, multi}
-use Rattle.ff_reactive.specs.Text.{first_word, line_of, text_of, text_out}
-use Rattle.ff_reactive.specs.Laws.{IsLawful}
-use Rattle.ff_reactive.proofs.Fits.{has_line, multi_ok, seen_ok}
-use Rattle.ff_reactive.proofs.Lists.{filter_agree_all}
-use Rattle.ff_reactive.proofs.Own.{at_level-multi, copy_is_plain}
-use Rattle.ff_reactive.proofs.Text.{HasLine, first_word_is, lines_of_line, word_is_one_line}
-use Rattle.ff_lines.specs.OwnLines.{own_contents, own_lines}
+use Rattle.ff_confinement.specs.Runs.{Machine, joined, plain_from, plain}
+use Rattle.ff_confinement.specs.Copies.{Levels, seen, at_level, multi}
+use Rattle.ff_confinement.specs.Text.{first_word, line_of, text_of, text_out}
+use Rattle.ff_confinement.specs.Laws.{IsLawful}
+use Rattle.ff_confinement.proofs.Fits.{has_line, multi_ok, seen_ok}
+use Rattle.ff_confinement.proofs.Lists.{filter_agree_all}
+use Rattle.ff_confinement.proofs.Own.{at_level-multi, copy_is_plain}
+use Rattle.ff_confinement.proofs.Text.{HasLine, first_word_is, lines_of_line, word_is_one_line}
+use Rattle.ff_session.specs.OwnLines.{own_contents, own_lines}
 use Rattle.ff_lattice.specs.Order.{leq, size}
 use Rattle.ff_value.specs.declared.input.Input.{Input}
 use Rattle.ff_policy.specs.Assignment.{Assignment, IsAssignment}
@@ -21,8 +21,8 @@ use Rattle.ff_trace.specs.Lines.{IsInputOf}
 use Rattle.ff_session.specs.Levels.{levels, machine}
 use Rattle.ff_session.proofs.Anywhere.{named_so}
 use Rattle.ff_session.proofs.Lawful.{lawful}
-use Rattle.ff_lines.specs.Comparing.{differs}
-use Rattle.ff_lines.proofs.Telling.{found_other}
+use Rattle.ff_audit.specs.Comparing.{differs}
+use Rattle.ff_audit.proofs.Verdicts.{found_other}
 use Rattle.ff_audit.specs.Audited.{plain_lines, multi_lines, verdict}
 
 -- the lines of a text that a word heads are those of the outputs whose levels have this name

@@ -7,12 +7,12 @@ ghost use Rattle.ff_trace.specs.Lines.{IsInputOf};
 ghost use Rattle.ff_audit.specs.Audited.{feed_turns, leaks, report, verdict};
 ghost use Rattle.ff_audit.specs.Fed.{IsFed};
 
-use crate::books::Books;
-use ff_lines::Verdict;
+use crate::comparisons::Comparisons;
+use crate::verdict::Verdict;
+use ff_contract::Steps;
 use ff_name::{Level, NoMemory};
 use ff_policy::Policy;
 use ff_session::Reactor;
-use ff_steps::Steps;
 use ff_value::Input;
 use std::alloc::{AllocError, Global};
 use std::marker::Model;
@@ -25,7 +25,7 @@ use std::sync::ledger::Ledger;
 pub struct Auditor<B: Reactor> {
     alloc: Global,
     policy: Policy,
-    books: Books<B>,
+    comparisons: Comparisons<B>,
     /// Set while an input is taken, so it stays set where there is no memory.
     spent: bool,
 }
@@ -40,9 +40,15 @@ impl<B: Reactor> Model for Auditor<B> {
 
     ghost coded = { coded_audited };
 
-    ghost view = { λ a. record { policy = a.policy; spent = a.spent; account = account B.state a.books } };
+    ghost view = { λ a. record {
+      policy = a.policy;
+      spent = a.spent;
+      account = account B.state
+          a.comparisons;
+    } };
 
-    ghost invariant = { λ a. a.spent ≡ false → (is : List Input) × IsAuditAt a.policy (account B.state a.books) is };
+    ghost invariant = { λ a. a.spent ≡ false → (is : List Input)
+        × IsAuditAt a.policy (account B.state a.comparisons) is };
 }
 
 impl<B: Reactor> Auditor<B> {
@@ -52,11 +58,11 @@ impl<B: Reactor> Auditor<B> {
         ensures policy { IfOk result (λ auditor. auditor.policy ≡ policy) }
         ensures unspent { IfOk result (λ auditor. auditor.spent ≡ false) }
     {
-        let books = Books::new(alloc, &policy)?;
+        let comparisons = Comparisons::new(alloc, &policy)?;
         Ok(Auditor {
             alloc,
             policy,
-            books,
+            comparisons,
             spent: false,
         })
     }
@@ -87,20 +93,23 @@ impl<B: Reactor> Auditor<B> {
         turns: &mut Steps<L>,
     ) -> Result<(), NoMemory>
         requires input { IsInputOf self.old.policy.order input.now }
-        ensures fed { OnOk result ((is : List Input) → IsFed self.old is → IsFed self.new (is ++ input.now ∷ [])) }
+        ensures fed { OnOk result ((is : List Input) → IsFed self.old is
+            → IsFed self.new (is ++ input.now ∷ [])) }
         ensures unspent { OnOk result ((self.old.spent ≡ false) × (self.new.spent ≡ false)) }
         ensures spent { OnErr result (self.new.spent ≡ true) }
         ensures policy { self.new.policy ≡ self.old.policy }
-        ensures count { OnOk result ((is : List Input) → IsFed self.old is → turns.new ≡ turns.old + feed_turns self.old.policy is input.now) }
+        ensures count { OnOk result ((is : List Input) → IsFed self.old is
+            → turns.new ≡ turns.old + feed_turns self.old.policy is input.now) }
         ensures later { turns.old ≤ turns.new }
-        ensures most { (is : List Input) → IsFed self.old is → turns.new ≤ turns.old + feed_turns self.old.policy is input.now }
+        ensures most { (is : List Input) → IsFed self.old is
+            → turns.new ≤ turns.old + feed_turns self.old.policy is input.now }
         ensures later_copies { copies.old ≤ copies.new }
     {
         if self.spent {
             return Err(AllocError);
         }
         self.spent = true;
-        self.books
+        self.comparisons
             .feed(self.alloc, &self.policy, input, copies, turns)?;
         self.spent = false;
         Ok(())
@@ -110,9 +119,10 @@ impl<B: Reactor> Auditor<B> {
     pub fn verdict(&self, level: Level) -> Result<Verdict, NoMemory>
         requires level { level.0 < size self.now.policy.order }
         requires unspent { self.now.spent ≡ false }
-        ensures { IfOk result (λ answer. (is : List Input) → IsFed self.now is → answer ≡ verdict self.now.policy is level.0) }
+        ensures { IfOk result (λ answer. (is : List Input) → IsFed self.now is
+            → answer ≡ verdict self.now.policy is level.0) }
     {
-        self.books.verdict(level)
+        self.comparisons.verdict(level)
     }
 
     /// Whether the lines of some level differ, by an audit that isn't spent.
@@ -120,7 +130,7 @@ impl<B: Reactor> Auditor<B> {
         requires { self.now.spent ≡ false }
         ensures { (is : List Input) → IsFed self.now is → result ≡ leaks self.now.policy is }
     {
-        self.books.leak()
+        self.comparisons.leak()
     }
 
     /// Appends what is found at each level in order, by an audit that isn't spent. After want of
@@ -128,10 +138,11 @@ impl<B: Reactor> Auditor<B> {
     #[tactic(auto, using(ff_contract::proofs::Sequence::front_none))]
     pub fn report(&self, out: &mut Vec<u8>) -> Result<(), NoMemory>
         requires { self.now.spent ≡ false }
-        ensures { (is : List Input) → IsFed self.now is → Appends result out.old.items out.new.items (report self.now.policy is) }
+        ensures { (is : List Input) → IsFed self.now is
+            → Appends result out.old.items out.new.items (report self.now.policy is) }
     {
         let mut text = Vec::new(self.alloc);
-        self.books.report(self.policy.lattice(), &mut text)?;
+        self.comparisons.report(self.policy.lattice(), &mut text)?;
         out.extend_from_slice(text.as_slice())
     }
 }

@@ -6,15 +6,16 @@ ghost use Rattle.ff_session.specs.Works.{Exchanged};
 ghost use Rattle.ff_session.specs.Closing.{IsEnded};
 ghost use Rattle.ff_audit.specs.Audited.{IsAuditAt, IsReported, account, audit_duty};
 
-use crate::books::Books;
+use crate::NoMemory;
+use crate::comparisons::Comparisons;
+use ff_contract::Steps;
 use ff_io::Port;
 use ff_policy::Policy;
 use ff_session::{InputReader, Reactor, close};
 use ff_status::{Status, TraceFault};
-use ff_steps::Steps;
 use ff_stream::{End, Taker, stream};
 use ff_value::Input;
-use std::alloc::{AllocError, Global};
+use std::alloc::Global;
 use std::marker::PhantomData;
 use std::sync::ledger::Ledger;
 
@@ -32,15 +33,16 @@ impl<B: Reactor> Taker for Both<'_, B> {
 
     type Item = Input;
 
-    type State = Books<B>;
+    type State = Comparisons<B>;
 
     ghost accepts = { λ taker input. IsInputOf taker.policy.now.order input };
 
     ghost entry = { λ taker start. no_entry };
 
-    ghost turns = { λ taker start. feed_turns taker.policy.now };
+    ghost turns_due = { λ taker start. feed_turns taker.policy.now };
 
-    ghost is_at = { λ taker start books. IsAuditAt taker.policy.now (account B.state books) };
+    ghost is_at = { λ taker start comparisons. IsAuditAt taker.policy.now
+        (account B.state comparisons) };
 
     ghost copies_none = { λ taker. ⊥ };
 
@@ -48,13 +50,13 @@ impl<B: Reactor> Taker for Both<'_, B> {
     fn take<C: Ledger, L: Ledger>(
         &self,
         alloc: Global,
-        state: &mut Books<B>,
+        state: &mut Comparisons<B>,
         item: &Input,
         _text: &mut Vec<u8>,
         copies: &mut Steps<C>,
-        steps: &mut Steps<L>,
-    ) -> Result<(), AllocError> {
-        state.feed(alloc, self.policy, item, copies, steps)
+        turns: &mut Steps<L>,
+    ) -> Result<(), NoMemory> {
+        state.feed(alloc, self.policy, item, copies, turns)
     }
 }
 
@@ -69,13 +71,14 @@ pub fn audit<B: Reactor, P: Port, C: Ledger, L: Ledger>(
     copies: &mut Steps<C>,
     turns: &mut Steps<L>,
 ) -> Status
-    ensures exchanged { Exchanged (Gives policy.now.order) (audit_duty policy.now) (P.told port.old) (P.told port.new) turns.old turns.new result }
+    ensures exchanged { Exchanged (Gives policy.now.order) (audit_duty policy.now) (P.told port.old)
+        (P.told port.new) turns.old turns.new result }
     ensures later_copies { copies.old ≤ copies.new }
 {
     let lattice = policy.lattice();
     let reader = InputReader { lattice };
-    let mut books = match Books::<B>::new(alloc, policy) {
-        Ok(books) => books,
+    let mut comparisons = match Comparisons::<B>::new(alloc, policy) {
+        Ok(comparisons) => comparisons,
         Err(_) => return Status::NoMemory,
     };
     let end = stream(
@@ -85,7 +88,7 @@ pub fn audit<B: Reactor, P: Port, C: Ledger, L: Ledger>(
             policy,
             kind: PhantomData::<B>,
         },
-        &mut books,
+        &mut comparisons,
         port,
         copies,
         turns,
@@ -93,7 +96,7 @@ pub fn audit<B: Reactor, P: Port, C: Ledger, L: Ledger>(
     match end {
         End::WriteFault => Status::WriteFault,
         End::NoMemory => Status::NoMemory,
-        ended => finish(alloc, policy, &books, ended, port),
+        ended => finish(alloc, policy, &comparisons, ended, port),
     }
 }
 
@@ -101,20 +104,21 @@ pub fn audit<B: Reactor, P: Port, C: Ledger, L: Ledger>(
 fn finish<B: Reactor, P: Port>(
     alloc: Global,
     policy: &Policy,
-    books: &Books<B>,
+    comparisons: &Comparisons<B>,
     end: End<TraceFault>,
     port: &mut P,
 ) -> Status
     requires ended { IsEnded end }
-    requires at { (is : List Input) × IsAuditAt policy.now (account B.state books.now) is }
-    ensures reported { IsReported policy.now (account B.state books.now) end (P.log port.old) (P.log port.new) (P.write_faults port.old) (P.write_faults port.new) result }
+    requires at { (is : List Input) × IsAuditAt policy.now (account B.state comparisons.now) is }
+    ensures reported { IsReported policy.now (account B.state comparisons.now) end (P.log port.old)
+        (P.log port.new) (P.write_faults port.old) (P.write_faults port.new) result }
     ensures rest { P.rest port.new ≡ P.rest port.old }
     ensures others { P.read_faults port.new ≡ P.read_faults port.old }
     ensures later { P.write_faults port.old ≤ P.write_faults port.new }
 {
-    let good = good_status(books.leak());
+    let good = good_status(comparisons.leak());
     let mut text = Vec::new(alloc);
-    match books.report(policy.lattice(), &mut text) {
+    match comparisons.report(policy.lattice(), &mut text) {
         Ok(()) => close(end, good, text.as_slice(), port),
         Err(_) => Status::NoMemory,
     }

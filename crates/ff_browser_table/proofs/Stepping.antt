@@ -19,7 +19,7 @@ use Rattle.ff_laws.specs.Reduced.{MovesUnlessFault}
 use Rattle.ff_laws.proofs.Reducing.{red_keeps}
 use Rattle.ff_laws.proofs.Redexes.{source_valid}
 use Rattle.ff_laws.proofs.Working.{unfinished}
-use Rattle.ff_rows.proofs.Lives.{live_lives}
+use Rattle.ff_store_operators.proofs.Lives.{live_lives}
 use Rattle.ff_browser_table.specs.Ready.{IsReady}
 
 -- a script that begins in an activation that was made may go on

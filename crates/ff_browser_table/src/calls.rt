@@ -15,17 +15,17 @@ ghost use Rattle.std.specs.Prelude.{◌≡◌, ◌<◌, None, IfOk, IsTrue, leng
 ghost use Rattle.std.specs.List.{AllByRecursion};
 ghost use Rattle.ff_value.specs.Spelled.{IsCookieOp, IsWellSpelledResp};
 ghost use Rattle.ff_machine.specs.Nodes as t;
-ghost use Rattle.ff_machine.specs.Windows as w;
+ghost use Rattle.ff_machine.specs.Windows as windows;
 
 use crate::answers::Answer;
 use crate::shown;
 use crate::tree_words::{document, live, number, parted, response};
 use anyhow::{Result, bail};
+use ff_contract::Steps;
 use ff_machine::{Dst, Pending};
 use ff_name::{Domain, Text, Url};
 use ff_operators::MOST_MASS;
 use ff_script::read_body;
-use ff_steps::Steps;
 use ff_stores::Stores;
 use ff_value::{ActId, Cookies, NodeId, Out, PageId, Resp, WinId};
 use std::alloc::Global;
@@ -109,7 +109,7 @@ fn go<C: Ledger>(
 
 /// The open window whose number a word spells.
 fn open_window(stores: &Stores, word: &str) -> Result<WinId>
-    ensures { IfOk result (λ n. IsTrue (w.is_open stores.now.windows n)) }
+    ensures { IfOk result (λ n. IsTrue (windows.is_open stores.now.windows n)) }
 {
     let n = WinId(number(word)?);
     if !stores.windows().is_open(n) {

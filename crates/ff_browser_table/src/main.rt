@@ -1,6 +1,8 @@
 //! Prints what the crates of one browser answer: each line of the input, and what comes of it. A
 //! heading begins with `== `, and says which lines follow:
 //!
+//! Floor: beside. Nothing of the browser stands on it.
+//!
 //! | Heading | A line is |
 //! |---|---|
 //! | `frames` | an expression whose reductions are printed one by one |
@@ -27,7 +29,7 @@ mod trees;
 use crate::scripts::Scripts;
 use crate::trees::Trees;
 use anyhow::{Result, bail};
-use ff_steps::Steps;
+use ff_contract::Steps;
 use std::marker::Brand;
 use std::sync::ledger::{Blank, Ledger};
 
@@ -64,8 +66,8 @@ fn run<C: Ledger>(rt: &HostRuntime, blank: Blank) -> Result<()>
     follow_all(rt, &mut left, &mut copies)
 }
 
-/// Prints each line and what comes of it. What the lines leave is lent, so that the proof drops it at
-/// no way out of the loop.
+/// Prints each line and what comes of it. What the lines leave is lent, so that the proof drops it
+/// at no way out of the loop.
 fn follow_all<C: Ledger>(rt: &HostRuntime, left: &mut Left, copies: &mut Steps<C>) -> Result<()> {
     let mut part = Part::Frames;
     for line in rt.lines(rt.alloc()) {

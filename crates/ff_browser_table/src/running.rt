@@ -6,10 +6,10 @@ ghost use Rattle.ff_machine.specs.Windows.{is_live};
 ghost use Rattle.ff_browser_table.specs.Ready.{IsReady};
 
 use anyhow::{Result, bail};
+use ff_contract::Steps;
 use ff_frames::Control;
 use ff_machine::Reduced;
 use ff_step::reduce;
-use ff_steps::Steps;
 use ff_stores::Stores;
 use ff_value::{ActId, Body, Fault, NoMemory, Out, PageId, Val};
 use std::alloc::Global;

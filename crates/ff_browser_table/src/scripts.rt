@@ -22,8 +22,8 @@
 use crate::setting::{open, page_at};
 use crate::{calls, running, shown, tasks};
 use anyhow::{Context, Result, bail};
+use ff_contract::Steps;
 use ff_script::read_body;
-use ff_steps::Steps;
 use ff_stores::Stores;
 use std::alloc::Global;
 use std::sync::ledger::Ledger;

@@ -4,8 +4,8 @@ ghost use Rattle.ff_name.specs.Address.{IsWellSpelled};
 ghost use Rattle.ff_machine.specs.Windows as w;
 
 use anyhow::{Result, bail};
+use ff_contract::Steps;
 use ff_name::Url;
-use ff_steps::Steps;
 use ff_stores::Stores;
 use ff_value::{Docs, Out, PageId, WinId};
 use std::alloc::Global;

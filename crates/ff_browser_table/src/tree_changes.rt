@@ -2,8 +2,8 @@
 use crate::answers::Answer;
 use crate::tree_words::{document, documents, function, live, number, parted, place};
 use anyhow::{Result, bail};
+use ff_contract::Steps;
 use ff_nodes::Nodes;
-use ff_steps::Steps;
 use ff_value::{ActId, PageId, Text};
 use std::alloc::Global;
 use std::sync::ledger::Ledger;

@@ -16,8 +16,8 @@
 use crate::tree_words::{live, parted};
 use crate::{tree_changes, tree_shown};
 use anyhow::Result;
+use ff_contract::Steps;
 use ff_nodes::Nodes;
-use ff_steps::Steps;
 use std::alloc::Global;
 use std::mem;
 use std::sync::ledger::Ledger;

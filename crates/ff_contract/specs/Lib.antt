@@ -1,2 +1,4 @@
 pub mod Answering
 pub mod Appending
+pub mod Rises
+pub mod Lists

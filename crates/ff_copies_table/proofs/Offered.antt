@@ -6,7 +6,7 @@ use Rattle.ff_value.specs.declared.input.Input.{Input}
 use Rattle.ff_value.specs.declared.offers.Offer.{Offer}
 use Rattle.ff_policy.specs.Assignment.{Assignment}
 use Rattle.ff_route.specs.Route.{sees}
-use Rattle.ff_reactive.specs.Worlds.{OfferOk}
+use Rattle.ff_confinement.specs.Worlds.{OfferOk}
 use Rattle.ff_trace.specs.Lines.{IsInputOf}
 use Rattle.ff_route.proofs.Fits.{sees_spelled}
 

@@ -2,9 +2,9 @@
 ghost use Rattle.std.specs.Prelude.{◌≡◌, ◌<◌};
 ghost use Rattle.ff_value.specs.Spelled.{IsWellSpelledInput};
 
+use ff_contract::Steps;
 use ff_core::{Browser, NoMemory, Reactor, Restorable};
 use ff_name::Url;
-use ff_steps::Steps;
 use ff_value::{Act, Input, Out};
 use std::alloc::{AllocError, Global};
 use std::io;

@@ -3,18 +3,18 @@
 //! no turn.
 ghost use Rattle.std.specs.Prelude.{◌≡◌, ◌<◌, false, IfOk, IfSome};
 ghost use Rattle.ff_lattice.specs.Order.{size as count_levels};
-ghost use Rattle.ff_reactive.specs.Worlds.{OfferOk, AreOffers};
+ghost use Rattle.ff_confinement.specs.Worlds.{OfferOk, AreOffers};
 ghost use Rattle.ff_value.specs.Offers.{offered};
 ghost use Rattle.ff_value.specs.Spelled.{IsWellSpelledInput};
 ghost use Rattle.ff_trace.specs.Lines.{IsInputOf};
 
 use crate::is_of_two;
+use ff_contract::Steps;
 use ff_core::Browser;
 use ff_name::Level;
 use ff_policy::Policy;
 use ff_pool::{NoMemory, Pool};
 use ff_route::sees;
-use ff_steps::Steps;
 use ff_trace::{Room, read_input};
 use ff_value::{Input, Offer, Offers};
 use std::alloc::{AllocError, Global};

@@ -1,10 +1,13 @@
 //! Prints what a browser by itself and its fork do. Then, for each trace of its input, which a
 //! heading begins, how many turns each of its inputs takes; or, where the heading says so, the
-//! story of a pool of two levels that its lines tell, or which pools are made of the classes that
-//! they name.
+//! story of a pool of two levels that its lines tell, which pools are made of the classes that they
+//! name, or what an audit of it finds.
+//!
+//! Floor: beside. Nothing of the browser stands on it.
 #![tactic(auto)]
 
 mod alone;
+mod auditing;
 mod counting;
 mod restoring;
 mod story;
@@ -53,8 +56,8 @@ fn show_classes(rt: &HostRuntime, classes: &Classes) -> io::Result<()> {
     }
 }
 
-/// Prints a heading, and the story that the lines tell, the pools of their classes, or how many
-/// turns their inputs take.
+/// Prints a heading, and the story that the lines tell, the pools of their classes, what is found
+/// of them, or how many turns their inputs take.
 fn show_lines(rt: &HostRuntime, heading: &str, lines: &[String]) -> io::Result<()> {
     if lines.is_empty() {
         return Ok(());
@@ -67,6 +70,10 @@ fn show_lines(rt: &HostRuntime, heading: &str, lines: &[String]) -> io::Result<(
         Some(("Classes", title)) => {
             println!(rt; "{title}")?;
             restoring::show(rt, lines)
+        }
+        Some(("Audit", title)) => {
+            println!(rt; "{title}")?;
+            auditing::show(rt, lines)
         }
         _ => show_turns(rt, heading, lines),
     }

@@ -7,7 +7,7 @@
 //! | `all INPUT` | each level is offered what it sees of the input |
 //! | `high INPUT` | the higher level alone is offered the input |
 //! | `turn LEVEL COUNT` | so many steps of the level's class |
-//! | `drain COUNT` | the pool is drained, so many steps of a class at a time; in the one call each level makes so many |
+//! | `drain COUNT` | the pool is drained, so many steps of a class at a time |
 //! | `fork` | a fork of the pool is kept, in place of the one before |
 //! | `swap` | the story goes on with the fork, and the pool is kept in its place |
 ghost use Rattle.std.specs.Prelude.{◌≡◌, ◌<◌, ◌≤◌, All, IfOk, IfSome, OnOk, false};
@@ -16,16 +16,16 @@ ghost use Rattle.ff_lattice.specs.Order.{size as count_levels};
 ghost use Rattle.ff_value.specs.Spelled.{IsWellSpelledInput};
 ghost use Rattle.ff_trace.specs.Lines.{IsInputOf};
 ghost use Rattle.ff_copies_table.specs.Story.{IsLineOf};
-ghost use Rattle.ff_reactive.specs.Worlds.{OfferOk, AreOffers};
+ghost use Rattle.ff_confinement.specs.Worlds.{OfferOk, AreOffers};
 ghost use Rattle.ff_pool.specs.Events.{IsEvent};
 
 use crate::counting::{input_of, offers, two_offers};
 use crate::{Classes, classes, is_of_two, show_classes};
+use ff_contract::Steps;
 use ff_core::Browser;
 use ff_name::Level;
 use ff_policy::Policy;
 use ff_pool::{Event, NoMemory, Pool};
-use ff_steps::Steps;
 use ff_trace::print_out;
 use ff_value::{Input, Offer, Offers};
 use std::alloc::{AllocError, Global};

@@ -1,7 +1,7 @@
 -- Steps of the stores as steps of the state, where memory may be refused.
 use Rattle.std.proofs.Common.{◌≡◌, Bool, Option, Some, None, Result, Ok, Err, List, sym, ap, subst, ◌∙◌, append-nil}
 use Rattle.ff_contract.proofs.Sequence.{front_none}
-use Rattle.ff_reactive.specs.Turns.{Stepped}
+use Rattle.ff_confinement.specs.Turns.{Stepped}
 use Rattle.ff_value.specs.declared.output.Out.{Out}
 use Rattle.ff_machine.specs.Answers.{Makes, MakesIfRoom}
 use Rattle.ff_machine.specs.Stores.{Stores}

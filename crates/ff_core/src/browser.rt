@@ -1,9 +1,9 @@
 //! The browser.
 
 use crate::parts::Parts;
+use ff_contract::Steps;
 use ff_name::NoMemory;
 use ff_restorable::{Reactor, Restorable};
-use ff_steps::Steps;
 use ff_stores::Stores;
 use ff_value::{Input, Out};
 use std::alloc::Global;

@@ -27,7 +27,8 @@ impl Parts {
     /// A callback of a page is to be called with a value.
     pub(crate) fn call_back(&mut self, page: PageId, code: &Code, arg: &Val) -> Result<(), NoMemory>
         requires { page.0 < length self.old.stores.windows.pages }
-        ensures done { OnOk result (self.new ≡ state.with_calls self.old page (code.now ∷ []) arg.now) }
+        ensures done { OnOk result (self.new ≡ state.with_calls self.old page (code.now ∷ [])
+            arg.now) }
     {
         let act = self.stores.windows().act_of(page);
         let task = Task::call(self.alloc, page, act, code, arg)?;
@@ -45,7 +46,8 @@ fn put_calls(
     arg: &Val,
     tasks: &mut VecDeque<Task>,
 ) -> Result<(), NoMemory>
-    ensures { OnOk result (tasks.new.items ≡ tasks.old.items ++ map (call_task page act arg.now) codes.now) }
+    ensures { OnOk result (tasks.new.items ≡ tasks.old.items
+        ++ map (call_task page act arg.now) codes.now) }
 {
     for code in codes {
         tasks.push_back(Task::call(alloc, page, act, code, arg)?)?;

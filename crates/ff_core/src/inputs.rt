@@ -5,12 +5,12 @@ ghost use Rattle.ff_value.specs.Spelled.{IsWellSpelledAct, IsWellSpelledInput};
 ghost use Rattle.ff_machine.specs.Answers.{Makes};
 ghost use Rattle.ff_machine.specs.Inputs as inputs;
 ghost use Rattle.ff_machine.specs.Valid.{IsStores};
-ghost use Rattle.ff_machine.specs.Windows as w;
+ghost use Rattle.ff_machine.specs.Windows as windows;
 
 use crate::parts::Parts;
+use ff_contract::Steps;
 use ff_machine::Kind;
 use ff_name::{NoMemory, Text, Url};
-use ff_steps::Steps;
 use ff_value::{Act, Input, NodeId, Out, WinId};
 use std::sync::ledger::Ledger;
 
@@ -25,7 +25,8 @@ impl Parts {
     ) -> Result<(), NoMemory>
         requires input { IsWellSpelledInput input.now }
         requires stores { IsStores self.old.stores }
-        ensures step { Makes self.old self.new outs.old.items outs.new.items (inputs.begin self.old input.now) result }
+        ensures step { Makes self.old self.new outs.old.items outs.new.items
+            (inputs.begin self.old input.now) result }
         ensures later { copies.old ≤ copies.new }
     {
         self.fuel = self.budget;
@@ -41,7 +42,8 @@ impl Parts {
     ) -> Result<(), NoMemory>
         requires act { IsWellSpelledAct act.now }
         requires stores { IsStores self.old.stores }
-        ensures step { Makes self.old self.new outs.old.items outs.new.items (inputs.perform self.old act.now) result }
+        ensures step { Makes self.old self.new outs.old.items outs.new.items
+            (inputs.perform self.old act.now) result }
         ensures later { copies.old ≤ copies.new }
     {
         match act {
@@ -73,7 +75,7 @@ impl Parts {
     /// The open window at a place, counted from 0 in order of opening.
     fn user_window(&self, at: u32) -> Option<WinId>
         ensures value { result ≡ inputs.user_window self.now at }
-        ensures open { IfSome result (λ n. IsTrue (w.is_open self.now.stores.windows n)) }
+        ensures open { IfSome result (λ n. IsTrue (windows.is_open self.now.stores.windows n)) }
     {
         self.stores.windows().at(at)
     }
@@ -86,9 +88,10 @@ impl Parts {
         outs: &mut Vec<Out>,
         copies: &mut Steps<C>,
     ) -> Result<(), NoMemory>
-        requires open { IsTrue (w.is_open self.old.stores.windows window) }
+        requires open { IsTrue (windows.is_open self.old.stores.windows window) }
         requires url { IsWellSpelled url.now }
-        ensures step { Makes self.old self.new outs.old.items outs.new.items (inputs.goes self.old url.now window) result }
+        ensures step { Makes self.old self.new outs.old.items outs.new.items
+            (inputs.goes self.old url.now window) result }
         ensures later { copies.old ≤ copies.new }
     {
         self.stores.go(window, url, outs, copies)?;
@@ -103,8 +106,9 @@ impl Parts {
         outs: &mut Vec<Out>,
         copies: &mut Steps<C>,
     ) -> Result<(), NoMemory>
-        requires open { IsTrue (w.is_open self.old.stores.windows window) }
-        ensures step { Makes self.old self.new outs.old.items outs.new.items (inputs.links self.old n window) result }
+        requires open { IsTrue (windows.is_open self.old.stores.windows window) }
+        ensures step { Makes self.old self.new outs.old.items outs.new.items
+            (inputs.links self.old n window) result }
         ensures later { copies.old ≤ copies.new }
     {
         let Some(link) = self.node_of(window, Kind::Link, n) else {
@@ -124,7 +128,8 @@ impl Parts {
         outs: &mut Vec<Out>,
         copies: &mut Steps<C>,
     ) -> Result<(), NoMemory>
-        ensures step { Makes self.old self.new outs.old.items outs.new.items (inputs.closes self.old window) result }
+        ensures step { Makes self.old self.new outs.old.items outs.new.items
+            (inputs.closes self.old window) result }
         ensures later { copies.old ≤ copies.new }
     {
         self.stores.close_window(window, outs, copies)
@@ -138,8 +143,9 @@ impl Parts {
         text: &Text,
         copies: &mut Steps<C>,
     ) -> Result<(), NoMemory>
-        requires open { IsTrue (w.is_open self.old.stores.windows window) }
-        ensures step { (puts : List Out) → Makes self.old self.new puts puts (inputs.types self.old n text.now window) result }
+        requires open { IsTrue (windows.is_open self.old.stores.windows window) }
+        ensures step { (puts : List Out) → Makes self.old self.new puts puts
+            (inputs.types self.old n text.now window) result }
         ensures later { copies.old ≤ copies.new }
     {
         let Some(field) = self.node_of(window, Kind::TextBox, n) else {
@@ -153,8 +159,9 @@ impl Parts {
 
     /// The user clicks a button of a window: the n-th, counted from 0.
     fn clicks(&mut self, window: WinId, n: u32) -> Result<(), NoMemory>
-        requires open { IsTrue (w.is_open self.old.stores.windows window) }
-        ensures step { (puts : List Out) → Makes self.old self.new puts puts (inputs.clicks self.old n window) result }
+        requires open { IsTrue (windows.is_open self.old.stores.windows window) }
+        ensures step { (puts : List Out) → Makes self.old self.new puts puts
+            (inputs.clicks self.old n window) result }
     {
         match self.node_of(window, Kind::Button, n) {
             Some(button) => self.call_handlers(window, button),
@@ -164,7 +171,7 @@ impl Parts {
 
     /// The node of a kind and number in the page of an open window.
     fn node_of(&self, window: WinId, kind: Kind, n: u32) -> Option<NodeId>
-        requires { IsTrue (w.is_open self.now.stores.windows window) }
+        requires { IsTrue (windows.is_open self.now.stores.windows window) }
         ensures value { result ≡ inputs.user_node self.now window kind n }
         ensures within { IfSome result (λ m. m.0 < length self.now.stores.nodes) }
         ensures window { window.0 < length self.now.stores.windows.windows }

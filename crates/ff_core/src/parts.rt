@@ -7,9 +7,9 @@ ghost use Rattle.std.specs.Prelude.{◌≡◌, IfOk};
 ghost use Rattle.ff_machine.specs.State as state;
 ghost use Rattle.ff_restorable.specs.Resting.{resting};
 
+use ff_contract::Steps;
 use ff_name::NoMemory;
 use ff_step::Task;
-use ff_steps::Steps;
 use ff_stores::Stores;
 use std::alloc::Global;
 use std::collections::VecDeque;

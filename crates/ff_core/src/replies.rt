@@ -13,12 +13,12 @@ ghost use Rattle.ff_machine.specs.References.{DstRefers, made};
 ghost use Rattle.ff_machine.specs.State as state;
 ghost use Rattle.ff_machine.specs.Stores as stores;
 ghost use Rattle.ff_machine.specs.Valid.{IsStores};
-ghost use Rattle.ff_machine.specs.Windows as w;
+ghost use Rattle.ff_machine.specs.Windows as windows;
 
 use crate::parts::Parts;
+use ff_contract::Steps;
 use ff_machine::{Dst, Pending};
 use ff_name::{Domain, NoMemory, Url};
-use ff_steps::Steps;
 use ff_value::{
     Body, Code, Cookies, Docs, Expr, Lit, Out, PageId, Resp, Shared, Val, WinId, weight_resp,
 };
@@ -37,7 +37,8 @@ impl Parts {
     ) -> Result<(), NoMemory>
         requires resp { IsWellSpelledResp resp.now }
         requires stores { IsStores self.old.stores }
-        ensures step { Makes self.old self.new outs.old.items outs.new.items (inputs.replies self.old domain.now k resp.now) result }
+        ensures step { Makes self.old self.new outs.old.items outs.new.items
+            (inputs.replies self.old domain.now k resp.now) result }
         ensures later { copies.old ≤ copies.new }
     {
         match self.stores.take_answer(domain, k, copies)? {
@@ -60,7 +61,8 @@ impl Parts {
         requires uri { IsRequest pending.now.uri }
         requires to { IsDst pending.now.dst }
         requires refers { DstRefers (made self.old.stores) pending.now.dst }
-        ensures step { Makes self.old self.new outs.old.items outs.new.items (inputs.receive self.old domain.now resp.now pending.now) result }
+        ensures step { Makes self.old self.new outs.old.items outs.new.items
+            (inputs.receive self.old domain.now resp.now pending.now) result }
         ensures later { copies.old ≤ copies.new }
     {
         if !self.stores.weigh(weight_resp(resp)) {
@@ -83,7 +85,8 @@ impl Parts {
         requires to { IsDst pending.now.dst }
         requires refers { DstRefers (made self.old.stores) pending.now.dst }
         requires reply { ForSome (option_copied reply) IsWellSpelledResp }
-        ensures step { Makes self.old self.new outs.old.items outs.new.items (inputs.deliver self.old domain.now pending.now (option_copied reply.entry)) result }
+        ensures step { Makes self.old self.new outs.old.items outs.new.items
+            (inputs.deliver self.old domain.now pending.now (option_copied reply.entry)) result }
         ensures later { copies.old ≤ copies.new }
     {
         match &pending.dst {
@@ -107,7 +110,8 @@ impl Parts {
     ) -> Result<(), NoMemory>
         requires from { IsWellSpelled from.now }
         requires reply { ForSome (option_copied reply) IsWellSpelledResp }
-        ensures step { Makes self.old self.new outs.old.items outs.new.items (inputs.load_reply self.old window from.now (option_copied reply.entry)) result }
+        ensures step { Makes self.old self.new outs.old.items outs.new.items
+            (inputs.load_reply self.old window from.now (option_copied reply.entry)) result }
         ensures later { copies.old ≤ copies.new }
     {
         match reply {
@@ -131,10 +135,11 @@ impl Parts {
         outs: &mut Vec<Out>,
         copies: &mut Steps<C>,
     ) -> Result<(), NoMemory>
-        requires open { IsTrue (w.is_open self.old.stores.windows window) }
+        requires open { IsTrue (windows.is_open self.old.stores.windows window) }
         requires from { IsWellSpelled from.now }
         requires docs { AllByRecursion IsWellSpelledDoc docs.now }
-        ensures step { Makes self.old self.new outs.old.items outs.new.items (state.if_room self.old (stores.load self.old.stores window from.now docs.now)) result }
+        ensures step { Makes self.old self.new outs.old.items outs.new.items
+            (state.if_room self.old (stores.load self.old.stores window from.now docs.now)) result }
         ensures later { copies.old ≤ copies.new }
     {
         self.stores.load(window, from, docs, outs, copies)?;
@@ -152,7 +157,8 @@ impl Parts {
     ) -> Result<(), NoMemory>
         requires page { page.0 < length self.old.stores.windows.pages }
         requires reply { ForSome (option_copied reply) IsWellSpelledResp }
-        ensures step { (puts : List Out) → Makes self.old self.new puts puts (inputs.fill_reply self.old page slot (option_copied reply.entry)) result }
+        ensures step { (puts : List Out) → Makes self.old self.new puts puts
+            (inputs.fill_reply self.old page slot (option_copied reply.entry)) result }
         ensures later { copies.old ≤ copies.new }
     {
         if !self.stores.windows().live(page) {
@@ -172,7 +178,8 @@ impl Parts {
         reply: Option<&Resp>,
     ) -> Result<(), NoMemory>
         requires { page.0 < length self.old.stores.windows.pages }
-        ensures step { (puts : List Out) → Makes self.old self.new puts puts (inputs.call_reply self.old page code.now (option_copied reply.entry)) result }
+        ensures step { (puts : List Out) → Makes self.old self.new puts puts
+            (inputs.call_reply self.old page code.now (option_copied reply.entry)) result }
     {
         if self.stores.windows().live(page) {
             self.call_back(page, code, &call_value(reply)?)

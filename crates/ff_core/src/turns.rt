@@ -1,6 +1,6 @@
 //! One turn of a browser that isn't quiet.
 ghost use Rattle.std.specs.Prelude.{◌≡◌, ◌-◌, ◌<◌, ◌↔◌, List, [], All, IsTrue, None, drop};
-ghost use Rattle.ff_steps.specs.Rises.{RisesBy};
+ghost use Rattle.ff_contract.specs.Rises.{RisesBy};
 ghost use Rattle.ff_machine.specs.Answers.{Makes};
 ghost use Rattle.ff_machine.specs.State as state;
 ghost use Rattle.ff_machine.specs.Stores as stores;
@@ -9,9 +9,9 @@ ghost use Rattle.ff_machine.specs.Valid.{IsTask};
 ghost use Rattle.ff_core.specs.Copies.{spending, turning};
 
 use crate::parts::Parts;
+use ff_contract::Steps;
 use ff_name::NoMemory;
 use ff_step::Task;
-use ff_steps::Steps;
 use ff_value::Out;
 use std::collections::VecDeque;
 use std::sync::ledger::Ledger;
@@ -25,7 +25,8 @@ impl Parts {
         copies: &mut Steps<C>,
     ) -> Result<(), NoMemory>
         requires { All (IsTask self.old.stores) self.old.tasks }
-        ensures step { Makes self.old self.new outs.old.items outs.new.items (turns.turn self.old) result }
+        ensures step { Makes self.old self.new outs.old.items outs.new.items (turns.turn self.old)
+            result }
         ensures copies { RisesBy (turning self.old) copies.old copies.new }
     {
         if self.idle() {
@@ -52,7 +53,8 @@ impl Parts {
     /// What was changed is shown, no fuel is left, and the browser is quiet.
     #[inline(never)]
     fn settle(&mut self, outs: &mut Vec<Out>) -> Result<(), NoMemory>
-        ensures { Makes self.old self.new outs.old.items outs.new.items (turns.settle self.old) result }
+        ensures { Makes self.old self.new outs.old.items outs.new.items (turns.settle self.old)
+            result }
     {
         self.stores.settle(outs)?;
         self.fuel = 0;
@@ -78,7 +80,8 @@ impl Parts {
     /// All tasks are dropped, and then the browser settles.
     #[inline(never)]
     fn stop(&mut self, outs: &mut Vec<Out>) -> Result<(), NoMemory>
-        ensures { Makes self.old self.new outs.old.items outs.new.items (turns.stop self.old) result }
+        ensures { Makes self.old self.new outs.old.items outs.new.items (turns.stop self.old)
+            result }
     {
         self.drop_tasks();
         outs.push(Out::Stopped)?;
@@ -92,7 +95,8 @@ impl Parts {
         copies: &mut Steps<C>,
     ) -> Result<(), NoMemory>
         requires { All (IsTask self.old.stores) self.old.tasks }
-        ensures step { Makes self.old self.new outs.old.items outs.new.items (turns.first_work self.old self.old.tasks) result }
+        ensures step { Makes self.old self.new outs.old.items outs.new.items
+            (turns.first_work self.old self.old.tasks) result }
         ensures copies { RisesBy (spending self.old.stores self.old.tasks) copies.old copies.new }
     {
         match self.tasks.front_mut() {
@@ -119,7 +123,9 @@ impl Parts {
     #[inline(never)]
     fn begin_script<C: Ledger>(&mut self, copies: &mut Steps<C>) -> Result<(), NoMemory>
         requires { self.old.tasks ≡ [] }
-        ensures step { (puts : List Out) → Makes self.old self.new puts puts (state.given self.old (stores.take_ready self.old.stores) (turns.begin_script self.old)) result }
+        ensures step { (puts : List Out) → Makes self.old self.new puts puts
+            (state.given self.old (stores.take_ready self.old.stores) (turns.begin_script self.old))
+            result }
         ensures copies { RisesBy 17 copies.old copies.new }
     {
         match self.stores.take_ready(copies)? {

@@ -2,7 +2,7 @@
 ghost use Rattle.std.specs.Prelude.{◌≡◌, ◌+◌, ◌*◌, ◌/◌, ◌<◌, ◌≤◌, [], ◌∷◌, ◌++◌, map, length, IfErr, IfOk, OnOk, OnErr};
 ghost use Rattle.std.specs.Rc.{rc_value};
 ghost use Rattle.std.proofs.Common.{arith};
-ghost use Rattle.ff_steps.specs.Rises.{RisesBy};
+ghost use Rattle.ff_contract.specs.Rises.{RisesBy};
 ghost use Rattle.ff_cow.specs.Nodes.{cells_of, AreNodes};
 ghost use Rattle.ff_cow.specs.Edits.{edited_at};
 ghost use Rattle.ff_cow.specs.Tower.{branch_cells, IsBranch};
@@ -10,7 +10,7 @@ ghost use Rattle.ff_cow.specs.Tower.{branch_cells, IsBranch};
 use crate::cell::{Cell, NoMemory};
 use crate::edit::Edit;
 use crate::layer::{Layer, WIDTH, Writable};
-use ff_steps::Steps;
+use ff_contract::Steps;
 use std::alloc::Global;
 use std::rc::Rc;
 use std::sync::ledger::Ledger;
@@ -21,7 +21,7 @@ pub(crate) struct Branch<T> {
 }
 
 impl<T> Branch<T> {
-    // A node above one node.
+    /// A node above one node.
     pub(crate) fn above<V>(alloc: Global, kid: T) -> Result<Branch<T>, NoMemory>
     where
         T: Layer<V> + Drop,
@@ -111,7 +111,7 @@ impl<V, T: Writable<V>> Writable<V> for Branch<T> {
     ghost fewer = { λ node valid space. Prim.omega arith };
 }
 
-// Puts an empty node behind the others, where all of them are full.
+/// Puts an empty node behind the others, where all of them are full.
 #[inline(always)]
 fn make_place<V, T: Writable<V>>(
     kids: &mut Vec<Rc<T>>,
@@ -123,7 +123,8 @@ fn make_place<V, T: Writable<V>>(
     requires count { count ≡ length (cells_of T.cells (map rc_value kids.old.items)) }
     requires room { room ≡ T.capacity }
     requires space { count < 16 * room }
-    ensures cells { cells_of T.cells (map rc_value kids.new.items) ≡ cells_of T.cells (map rc_value kids.old.items) }
+    ensures cells { cells_of T.cells (map rc_value kids.new.items)
+        ≡ cells_of T.cells (map rc_value kids.old.items) }
     ensures nodes { AreNodes T.capacity T.cells T.is_valid (map rc_value kids.new.items) }
     ensures last { OnOk result (length kids.new.items ≡ count / room + 1) }
 {
@@ -133,7 +134,7 @@ fn make_place<V, T: Writable<V>>(
     Ok(())
 }
 
-// Changes the cell at `i` of a node, in a node of its own where another list shares it.
+/// Changes the cell at `i` of a node, in a node of its own where another list shares it.
 #[inline(always)]
 fn edit_in<V, T: Writable<V>, E: Edit<V>, C: Ledger>(
     kid: &mut Rc<T>,
@@ -148,7 +149,8 @@ where
     requires valid { T.is_valid (rc_value kid.old) }
     requires room { room ≡ T.capacity }
     requires within { i < length (T.cells (rc_value kid.old)) }
-    ensures done { OnOk result (T.cells (rc_value kid.new) ≡ edited_at (E.edited edit) i (T.cells (rc_value kid.old))) }
+    ensures done { OnOk result (T.cells (rc_value kid.new)
+        ≡ edited_at (E.edited edit) i (T.cells (rc_value kid.old))) }
     ensures kept { OnErr result (T.cells (rc_value kid.new) ≡ T.cells (rc_value kid.old)) }
     ensures returned { IfErr result (λ back. back ≡ edit) }
     ensures valid { T.is_valid (rc_value kid.new) }
@@ -164,8 +166,8 @@ where
     own.edit(i, room, edit, alloc, copies)
 }
 
-// Puts a cell behind the `count` cells of a node, into a node of its own where another list shares
-// it.
+/// Puts a cell behind the `count` cells of a node, into a node of its own where another list shares
+/// it.
 #[inline(always)]
 fn push_in<V, T: Writable<V>, C: Ledger>(
     kid: &mut Rc<T>,
@@ -181,7 +183,8 @@ where
     requires room { room ≡ T.capacity }
     requires count { count ≡ length (T.cells (rc_value kid.old)) }
     requires space { count < room }
-    ensures done { OnOk result (T.cells (rc_value kid.new) ≡ T.cells (rc_value kid.old) ++ value ∷ []) }
+    ensures done { OnOk result (T.cells (rc_value kid.new)
+        ≡ T.cells (rc_value kid.old) ++ value ∷ []) }
     ensures kept { OnErr result (T.cells (rc_value kid.new) ≡ T.cells (rc_value kid.old)) }
     ensures returned { IfErr result (λ back. back ≡ value) }
     ensures valid { T.is_valid (rc_value kid.new) }
@@ -197,7 +200,7 @@ where
     own.push(count, room, value, alloc, copies)
 }
 
-// Makes `kid` a node that no other list shares.
+/// Makes `kid` a node that no other list shares.
 #[inline(always)]
 fn unshare<V, T: Writable<V>, C: Ledger>(
     kid: &mut Rc<T>,
@@ -217,7 +220,7 @@ where
     Ok(())
 }
 
-// Puts a copy of a node that other lists share in its place.
+/// Puts a copy of a node that other lists share in its place.
 #[cold]
 #[inline(never)]
 fn copy_shared<V, T: Writable<V>, C: Ledger>(

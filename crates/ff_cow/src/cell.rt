@@ -1,7 +1,7 @@
 // What a list needs of its cells.
 ghost use Rattle.std.specs.Prelude.{◌≡◌, ◌+◌, IfOk};
 
-use ff_steps::Steps;
+use ff_contract::Steps;
 use std::alloc::AllocError;
 use std::sync::ledger::Ledger;
 

@@ -1,14 +1,14 @@
 // The list itself.
 ghost use Rattle.std.specs.Prelude.{◌≡◌, ◌<◌, ◌≤◌, ◌↔◌, [], ◌∷◌, ◌++◌, Some, length, IsTrue, IfOk, IfErr, OnOk, OnErr, slice_get, slice_set};
 ghost use Rattle.std.specs.Option.{option_copied};
-ghost use Rattle.ff_steps.specs.Rises.{RisesBy};
+ghost use Rattle.ff_contract.specs.Rises.{RisesBy};
 ghost use Rattle.ff_cow.specs.Push.{returned, is_full};
 
 use crate::cell::{Cell, NoMemory};
 use crate::edit::{Edit, Put};
 use crate::layer::{Layer, Writable};
 use crate::root::Root;
-use ff_steps::Steps;
+use ff_contract::Steps;
 use std::alloc::Global;
 use std::marker::Model;
 use std::sync::ledger::Ledger;
@@ -46,7 +46,8 @@ impl<V> Model for CowVec<V> {
 
     ghost view = { λ a. root_cells a.root };
 
-    ghost invariant = { λ a. IsRoot a.root × (a.count ≡ length (root_cells a.root)) × (a.count ≤ MOST_CELLS) };
+    ghost invariant = { λ a. IsRoot a.root × (a.count ≡ length (root_cells a.root))
+        × (a.count ≤ MOST_CELLS) };
 }
 
 impl<V> CowVec<V> {
@@ -132,7 +133,8 @@ impl<V> CowVec<V> {
     where
         V: Cell<C>,
         requires { i < length self.old }
-        ensures done { (cell : V) → slice_get self.old i ≡ Some cell → OnOk result (self.new ≡ slice_set self.old i (E.edited edit cell)) }
+        ensures done { (cell : V) → slice_get self.old i ≡ Some cell
+            → OnOk result (self.new ≡ slice_set self.old i (E.edited edit cell)) }
         ensures kept { OnErr result (self.new ≡ self.old) }
         ensures returned { IfErr result (λ back. back ≡ edit) }
         ensures copies { RisesBy 16 copies.old copies.new }

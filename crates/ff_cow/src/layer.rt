@@ -1,11 +1,11 @@
 // One layer of the tree. A node of it is seen as the list of the cells below it.
 ghost use Rattle.std.specs.Prelude.{◌≡◌, ℕ, ◌+◌, ◌<◌, ◌≤◌, [], ◌∷◌, ◌++◌, List, length, IfOk, IfErr, OnOk, OnErr, slice_get};
-ghost use Rattle.ff_steps.specs.Rises.{RisesBy};
+ghost use Rattle.ff_contract.specs.Rises.{RisesBy};
 ghost use Rattle.ff_cow.specs.Edits.{edited_at};
 
 use crate::cell::{Cell, NoMemory};
 use crate::edit::Edit;
-use ff_steps::Steps;
+use ff_contract::Steps;
 use std::alloc::Global;
 use std::sync::ledger::Ledger;
 
@@ -62,7 +62,8 @@ pub(crate) trait Writable<V>: Layer<V> + Drop {
         requires valid { Self.is_valid self.old }
         requires room { room ≡ Self.capacity }
         requires within { i < length (Self.cells self.old) }
-        ensures done { OnOk result (Self.cells self.new ≡ edited_at (E.edited edit) i (Self.cells self.old)) }
+        ensures done { OnOk result (Self.cells self.new
+            ≡ edited_at (E.edited edit) i (Self.cells self.old)) }
         ensures kept { OnErr result (Self.cells self.new ≡ Self.cells self.old) }
         ensures returned { IfErr result (λ back. back ≡ edit) }
         ensures valid { Self.is_valid self.new }
@@ -95,5 +96,6 @@ pub(crate) trait Writable<V>: Layer<V> + Drop {
     // what `edit` and `push` may count together with a copy of the node before them
     ghost few: { (node : Self) → Self.is_valid node → copied (Self.cells node) ≤ 16 };
 
-    ghost fewer: { (node : Self) → Self.is_valid node → length (Self.cells node) < Self.capacity → copied (Self.cells node) ≤ 15 };
+    ghost fewer: { (node : Self) → Self.is_valid node → length (Self.cells node) < Self.capacity
+        → copied (Self.cells node) ≤ 15 };
 }

@@ -6,7 +6,7 @@ ghost use Rattle.ff_cow.specs.Tower.{leaf_cells, IsLeaf};
 use crate::cell::{Cell, NoMemory};
 use crate::edit::Edit;
 use crate::layer::{Layer, WIDTH, Writable};
-use ff_steps::Steps;
+use ff_contract::Steps;
 use std::alloc::Global;
 use std::sync::ledger::Ledger;
 

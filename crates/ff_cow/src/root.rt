@@ -9,7 +9,7 @@ use crate::cell::{Cell, NoMemory};
 use crate::edit::Edit;
 use crate::layer::{Layer, WIDTH, Writable};
 use crate::leaf::Leaf;
-use ff_steps::Steps;
+use ff_contract::Steps;
 use std::alloc::Global;
 use std::rc::Rc;
 use std::sync::ledger::Ledger;
@@ -110,7 +110,7 @@ impl<V: Drop> Writable<V> for Root<V> {
     ghost fewer = { λ node valid space. Prim.omega arith };
 }
 
-// Puts a high root in the place of a low one that is full.
+/// Puts a high root in the place of a low one that is full.
 fn make_room<V: Drop, C: Ledger>(
     root: &mut Root<V>,
     count: usize,
@@ -136,7 +136,7 @@ where
     Ok(())
 }
 
-// A high node with the cells of a low one, whose leaves it shares.
+/// A high node with the cells of a low one, whose leaves it shares.
 fn raised<V: Drop, C: Ledger>(
     low: &Branch<Leaf<V>>,
     alloc: Global,

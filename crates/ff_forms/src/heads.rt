@@ -6,12 +6,19 @@ use ff_tree::Op;
 /// The words that head a document.
 #[derive(Clone, Copy, Debug, PartialEq, Eq)]
 pub enum DocHead {
+    /// `(text NAME STR)`.
     Text,
+    /// `(link NAME URL STR)`.
     Link,
+    /// `(box NAME STR HANDLER*)`.
     TextBox,
+    /// `(button NAME STR HANDLER*)`.
     Button,
+    /// `(script NAME EXPR)`.
     Script,
+    /// `(src NAME URL)`.
     Src,
+    /// `(div NAME DOC*)`.
     Div,
 }
 
@@ -56,16 +63,27 @@ impl Worded for DocHead {
 /// operators.
 #[derive(Clone, Copy, Debug, PartialEq, Eq)]
 pub enum ExprHead {
+    /// `(let VAR EXPR)`.
     Let,
+    /// `(set VAR EXPR)`.
     Set,
+    /// `(if EXPR EXPR EXPR)`.
     If,
+    /// `(while EXPR EXPR)`.
     While,
+    /// `(do EXPR*)`.
     Do,
+    /// `(and EXPR EXPR)`.
     And,
+    /// `(or EXPR EXPR)`.
     Or,
+    /// `(fn (VAR*) EXPR)`.
     Make,
+    /// `(call EXPR EXPR*)`.
     Apply,
+    /// `(new DOC)`.
     Tree,
+    /// An operator's word, and its operands.
     Prim(Op),
 }
 
@@ -154,6 +172,7 @@ impl Worded for ExprHead {
 /// The word that heads a handler.
 #[derive(Clone, Copy, Debug, PartialEq, Eq)]
 pub enum HandlerHead {
+    /// `(fn (VAR) EXPR)`.
     Make,
 }
 
@@ -183,8 +202,11 @@ impl Worded for HandlerHead {
 /// The words that head a response.
 #[derive(Clone, Copy, Debug, PartialEq, Eq)]
 pub enum RespHead {
+    /// `(doc COOKIES DOC*)`.
     Page,
+    /// `(script COOKIES EXPR)`.
     Script,
+    /// `(data COOKIES STR)`.
     Data,
 }
 
@@ -216,7 +238,9 @@ impl Worded for RespHead {
 /// The words that head a cookie entry.
 #[derive(Clone, Copy, Debug, PartialEq, Eq)]
 pub enum CookieHead {
+    /// `(put STR STR)`.
     Put,
+    /// `(drop STR)`.
     Drop,
 }
 

@@ -1,4 +1,6 @@
 //! The forms of documents, expressions and responses: what reading and printing both know.
+//!
+//! Floor: notation. It knows not what a machine makes of what is read.
 #![tactic(auto)]
 
 mod fault;

@@ -5,8 +5,8 @@ use Rattle.ff_value.specs.declared.ids.ActId.{ActId}
 use Rattle.ff_value.specs.declared.value.Val.{Val}
 
 -- `Part`, a form with the values of its first operands; `Do`, the parts of a `do` and the place of
--- the next; `Loop`, a turn of a loop; `Last`, a `do` of the part at hand alone; `Inside`, a call and
--- the activation outside of it
+-- the next; `Loop`, a turn of a loop; `Last`, a `do` of the part at hand alone; `Inside`, a call
+-- and the activation outside of it
 pub data Frame : Type 0 where
   Part : Expr → List Val → Frame
   Do : List Expr → ℕ → Frame

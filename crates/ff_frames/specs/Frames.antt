@@ -37,8 +37,9 @@ abbrev pub applied : Runnings → Running
 applied none = Do none
 applied (more e es) = Apply e es
 
--- the form with the values for its first operands and x for the next; a `while`, `and` or `or` stands
--- for the `if` that it becomes, with x for the test, and a form without operands for a `do` of x
+-- the form with the values for its first operands and x for the next; a `while`, `and` or `or`
+-- stands for the `if` that it becomes, with x for the test, and a form without operands for a `do`
+-- of x
 abbrev pub around : Expr-F Doc Expr Handler → List Val → Running → Running
 around (Expr-F.Let n e) vs x = Let n x
 around (Expr-F.Set n e) vs x = Set n x

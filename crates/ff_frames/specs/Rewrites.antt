@@ -40,15 +40,16 @@ abbrev pub with_frame : List Head → Option Head → List Head
 with_frame hs None = hs
 with_frame hs (Some h) = hs ++ h ∷ []
 
--- what stands for t is put behind the frames and their values: a part at hand, perhaps with a frame more
+-- what stands for t is put behind the frames and their values: a part at hand, perhaps with a frame
+-- more
 pub record IsPutOn (t : ActId → Running) (hs : List Head) (vs : List Val) (gs : List Head) (k : Hand) : Type 0 where
   pub put : Option Head × Focus
   pub heads : gs ≡ with_frame hs put.0
   pub hand : IsHolding vs put.1 k
   pub is : IsPut t put
 
--- the frame and the value at hand, which are the redex of a `do` or a call, are rewritten where they
--- stand; else only the value is left of them, and nothing changes
+-- the frame and the value at hand, which are the redex of a `do` or a call, are rewritten where
+-- they stand; else only the value is left of them, and nothing changes
 abbrev pub IsTurned : Head → Hand → Bool → Head → Hand → Type 0
 IsTurned f h true g k = (is_call (with_values f []) ≡ 0) × ((kept own : List Val) (v : Val) → h.values.items ≡ kept ++ own ++ v ∷ [] → length own ≡ held f
     → (x : Focus) × IsHolding kept x k × IsPut (λ a. local_row (wrap (with_values f own) a (Done v))) (Some g, x))

@@ -114,7 +114,8 @@ impl Control {
         arg: &Val,
         act: ActId,
     ) -> Result<(), NoMemory>
-        ensures done { OnOk result (self.new ≡ record { base = act; expr = call_of code.now arg.now }) }
+        ensures done { OnOk result (self.new ≡ record
+            { base = act; expr = call_of code.now arg.now }) }
         ensures emptied { OnErr result (self.new ≡ emptied) }
     {
         self.stack = Stack::empty(alloc);
@@ -124,7 +125,8 @@ impl Control {
 
     /// The value, where the expression is one.
     pub fn done(&self) -> Option<&Val>
-        ensures { MatchOption result (is_value self.now.expr ≡ false) (λ v. self.now.expr ≡ Done v.now) }
+        ensures { MatchOption result (is_value self.now.expr ≡ false)
+            (λ v. self.now.expr ≡ Done v.now) }
     {
         self.stack.value()
     }
@@ -211,7 +213,8 @@ impl Control {
     pub fn enter(&mut self, alloc: Global, act: ActId, body: &Body) -> Result<(), NoMemory>
         requires unfinished { is_value self.old.expr ≡ false }
         requires shallow { insides self.old.expr < MOST_CALLS }
-        ensures done { OnOk result (self.new ≡ rewritten_in (λ _. Inside act (whole body.now)) self.old) }
+        ensures done { OnOk result (self.new ≡ rewritten_in (λ _. Inside act (whole body.now))
+            self.old) }
         ensures emptied { OnErr result (self.new ≡ emptied) }
     {
         let done = self.stack.enter(act, body);

@@ -18,8 +18,8 @@ use ff_tree::{Body, Expr, Exprs, Lit};
 use ff_value::{NoMemory, Val};
 use std::alloc::Global;
 
-/// The values of all frames, those of the outermost first, and behind them the part at hand: a form,
-/// or else the last value.
+/// The values of all frames, those of the outermost first, and behind them the part at hand: a
+/// form, or else the last value.
 #[derive(Drop)]
 pub(crate) struct Hand {
     pub(crate) values: Vec<Val>,
@@ -73,7 +73,8 @@ impl Hand {
 
     /// The value at hand, if it is one.
     pub(crate) fn value(&self) -> Option<&Val>
-        ensures { option_copied result ≡ value_of self.now.form self.now.null self.now.values.items }
+        ensures { option_copied result ≡ value_of self.now.form self.now.null
+            self.now.values.items }
     {
         match &self.form {
             Some(_) => None,
@@ -87,7 +88,8 @@ impl Hand {
     /// The values of the innermost frame, and behind them the one at hand.
     pub(crate) fn operands(&self, head: &Head) -> &[Val]
         requires { held head.now < length self.now.values.items }
-        ensures { (kept all : List Value) → self.now.values.items ≡ kept ++ all → length all ≡ held head.now + 1 → result.now ≡ all }
+        ensures { (kept all : List Value) → self.now.values.items ≡ kept ++ all
+            → length all ≡ held head.now + 1 → result.now ≡ all }
     {
         let kept = self.values.len() - held_by(head) - 1;
         &self.values.as_slice()[kept..]
@@ -96,7 +98,8 @@ impl Hand {
     /// Drops the last values.
     fn drop_last(&mut self, count: usize)
         requires { count ≤ length self.old.values.items }
-        ensures left { (kept last : List Value) → self.old.values.items ≡ kept ++ last → length last ≡ count → self.new.values.items ≡ kept }
+        ensures left { (kept last : List Value) → self.old.values.items ≡ kept ++ last
+            → length last ≡ count → self.new.values.items ≡ kept }
         ensures form { self.new.form ≡ self.old.form }
     {
         let kept = self.values.len() - count;
@@ -106,7 +109,8 @@ impl Hand {
     /// Drops the value at hand, and those of a frame that is taken off.
     pub(crate) fn drop_values(&mut self, head: &Head)
         requires { held head.now < length self.old.values.items }
-        ensures left { (kept all : List Value) → self.old.values.items ≡ kept ++ all → length all ≡ held head.now + 1 → self.new.values.items ≡ kept }
+        ensures left { (kept all : List Value) → self.old.values.items ≡ kept ++ all
+            → length all ≡ held head.now + 1 → self.new.values.items ≡ kept }
         ensures form { self.new.form ≡ self.old.form }
     {
         self.drop_last(held_by(head) + 1);
@@ -145,7 +149,8 @@ impl Hand {
     /// Puts the value of a literal at hand.
     fn hold_literal(&mut self, lit: &Lit) -> Result<(), NoMemory>
         requires { self.old.form ≡ None }
-        ensures { OnOk result (IsHolding self.old.values.items (focus.Value (the_literal lit.now)) self.new) }
+        ensures { OnOk result (IsHolding self.old.values.items (focus.Value (the_literal lit.now))
+            self.new) }
     {
         self.values.push(literal(lit)?)?;
         Ok(())
@@ -154,7 +159,8 @@ impl Hand {
     /// Puts an expression at hand.
     pub(crate) fn hold_source(&mut self, expr: Source) -> Result<(), NoMemory>
         requires { self.old.form ≡ None }
-        ensures { OnOk result ((x : Focus) × Shows expr x × IsHolding self.old.values.items x self.new) }
+        ensures { OnOk result ((x : Focus) × Shows expr x
+            × IsHolding self.old.values.items x self.new) }
     {
         match expr.get() {
             Expr::Lit(lit) => self.hold_literal(lit)?,
@@ -166,7 +172,8 @@ impl Hand {
     /// Puts a body at hand.
     pub(crate) fn hold_body(&mut self, body: &Body) -> Result<(), NoMemory>
         requires { self.old.form ≡ None }
-        ensures { OnOk result ((x : Focus) × Shows body.now x × IsHolding self.old.values.items x self.new) }
+        ensures { OnOk result ((x : Focus) × Shows body.now x
+            × IsHolding self.old.values.items x self.new) }
     {
         match body.get() {
             Expr::Lit(lit) => self.hold_literal(lit)?,
@@ -200,7 +207,8 @@ impl Hand {
         requires free { self.old.form ≡ None }
         requires enough { count ≤ length self.old.values.items }
         requires within { at < length list.now }
-        ensures { OnOk result ((e : Expr) × (slice_get list.now at ≡ Some e) × IsHeldFor count e self.old self.new) }
+        ensures { OnOk result ((e : Expr) × (slice_get list.now at ≡ Some e)
+            × IsHeldFor count e self.old self.new) }
     {
         self.drop_last(count);
         self.hold_item(list, at)?;
@@ -220,7 +228,8 @@ impl Hand {
     /// Puts the operand at a place at hand; answers whether there is one.
     pub(crate) fn hold_operand(&mut self, expr: &Expr, at: usize) -> Result<bool, NoMemory>
         requires { self.old.form ≡ None }
-        ensures { IfOk result (λ there. IsHeld (slice_get (operands (out-Expr expr.now)) at) self.old there self.new) }
+        ensures { IfOk result (λ there. IsHeld (slice_get (operands (out-Expr expr.now)) at)
+            self.old there self.new) }
     {
         match expr {
             Expr::Prim(_, args) => self.hold_item(args, at),
@@ -242,7 +251,8 @@ impl Hand {
     /// The operand of a form that has one.
     fn hold_only(&mut self, part: &Body, at: usize) -> Result<bool, NoMemory>
         requires { self.old.form ≡ None }
-        ensures { IfOk result (λ there. IsHeld (slice_get (part.now ∷ []) at) self.old there self.new) }
+        ensures { IfOk result (λ there. IsHeld (slice_get (part.now ∷ []) at) self.old there
+            self.new) }
     {
         if at == 0 {
             self.hold_body(part)?;
@@ -255,7 +265,8 @@ impl Hand {
     /// The operand of a `do`.
     fn hold_first(&mut self, parts: &Exprs, at: usize) -> Result<bool, NoMemory>
         requires { self.old.form ≡ None }
-        ensures { IfOk result (λ there. IsHeld (slice_get (operands (Expr-F.Do parts.now)) at) self.old there self.new) }
+        ensures { IfOk result (λ there. IsHeld (slice_get (operands (Expr-F.Do parts.now)) at)
+            self.old there self.new) }
     {
         if at == 0 {
             self.hold_item(parts, at)

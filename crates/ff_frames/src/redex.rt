@@ -56,7 +56,9 @@ pub(crate) fn read_form(form: &Expr) -> Redex<'_>
 /// The redex that the values of a frame and the last one complete with it.
 pub(crate) fn read_frame<'a>(head: &'a Head, values: &'a [Val]) -> Redex<'a>
     requires { 0 < length values.now }
-    ensures { (vs : List Value) (v : Value) → values.now ≡ vs ++ v ∷ [] → IsFull (with_values head.now vs) → (a : ActId) → IsRedexOf (named result) (wrap (with_values head.now vs) a (Done v)) }
+    ensures { (vs : List Value) (v : Value) → values.now ≡ vs ++ v ∷ []
+        → IsFull (with_values head.now vs) → (a : ActId)
+        → IsRedexOf (named result) (wrap (with_values head.now vs) a (Done v)) }
 {
     match head {
         Head::Part(form, _) => read_part(form.get(), values),
@@ -67,7 +69,9 @@ pub(crate) fn read_frame<'a>(head: &'a Head, values: &'a [Val]) -> Redex<'a>
 /// The same of a form.
 fn read_part<'a>(form: &'a Expr, values: &'a [Val]) -> Redex<'a>
     requires { 0 < length values.now }
-    ensures { (vs : List Value) (v : Value) → values.now ≡ vs ++ v ∷ [] → slice_get (operands (out-Expr form.now)) (suc (length vs)) ≡ None → IsRedexOf (named result) (around (out-Expr form.now) vs (Done v)) }
+    ensures { (vs : List Value) (v : Value) → values.now ≡ vs ++ v ∷ []
+        → slice_get (operands (out-Expr form.now)) (suc (length vs)) ≡ None
+        → IsRedexOf (named result) (around (out-Expr form.now) vs (Done v)) }
 {
     match form {
         Expr::Prim(op, _) => Redex::Prim(*op, values),

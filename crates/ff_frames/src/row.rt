@@ -22,7 +22,8 @@ pub(crate) fn put_form(form: Source, heads: &mut Vec<Head>, hand: &mut Hand) -> 
     requires row { IsRow (out-Expr form) }
     requires local { IsLocal (layer (out-Expr form)) }
     requires free { hand.old.form ≡ None }
-    ensures { OnOk result (IsPutOn (λ a. local_row (layer (out-Expr form))) heads.old.items hand.old.values.items heads.new.items hand.new) }
+    ensures { OnOk result (IsPutOn (λ a. local_row (layer (out-Expr form))) heads.old.items
+        hand.old.values.items heads.new.items hand.new) }
 {
     let held = hold_test(hand, form.get())?;
     if held {
@@ -121,7 +122,9 @@ pub(crate) fn put_branch(
 ) -> Result<(), NoMemory>
     requires test { IsIf (out-Expr form) }
     requires free { hand.old.form ≡ None }
-    ensures { OnOk result ((vs : List Value) (v : Value) → IsPutOn (λ a. branch yes (around (out-Expr form) vs (Done v))) heads.old.items hand.old.values.items heads.new.items hand.new) }
+    ensures { OnOk result ((vs : List Value) (v : Value)
+        → IsPutOn (λ a. branch yes (around (out-Expr form) vs (Done v))) heads.old.items
+        hand.old.values.items heads.new.items hand.new) }
 {
     match form.get() {
         Expr::If(_, left, right) => hand.hold_body(if yes { left } else { right }),

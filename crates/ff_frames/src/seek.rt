@@ -38,7 +38,8 @@ fn opened(heads: &mut Vec<Head>, hand: &mut Hand, form: Source) -> Result<bool, 
     requires open { IsOpen (out-Expr form) }
     ensures fit { IfOk result (λ _. AllByRecursion IsFit heads.new.items) }
     ensures laid { IfOk result (λ _. IsLaid heads.new.items hand.new) }
-    ensures step { IfOk result (λ on. IsStep (frames heads.old.items hand.old) (focus.Part form) on (frames heads.new.items hand.new) (at_hand heads.new.items hand.new)) }
+    ensures step { IfOk result (λ on. IsStep (frames heads.old.items hand.old) (focus.Part form) on
+        (frames heads.new.items hand.new) (at_hand heads.new.items hand.new)) }
 {
     let on = hand.hold_operand(form.get(), 0)?;
     if on {
@@ -56,7 +57,9 @@ fn step(heads: &mut Vec<Head>, hand: &mut Hand) -> Result<bool, NoMemory>
     requires settled { IsSettled (at_hand heads.old.items hand.old) }
     ensures fit { IfOk result (λ _. AllByRecursion IsFit heads.new.items) }
     ensures laid { IfOk result (λ _. IsLaid heads.new.items hand.new) }
-    ensures step { IfOk result (λ on. IsStep (frames heads.old.items hand.old) (at_hand heads.old.items hand.old) on (frames heads.new.items hand.new) (at_hand heads.new.items hand.new)) }
+    ensures step { IfOk result (λ on. IsStep (frames heads.old.items hand.old)
+        (at_hand heads.old.items hand.old) on (frames heads.new.items hand.new)
+        (at_hand heads.new.items hand.new)) }
 {
     match hand.take_form() {
         Some(form) => opened(heads, hand, form),
@@ -74,7 +77,9 @@ pub(crate) fn seek(heads: &mut Vec<Head>, hand: &mut Hand) -> Result<(), NoMemor
     requires settled { IsSettled (at_hand heads.old.items hand.old) }
     ensures fit { OnOk result (AllByRecursion IsFit heads.new.items) }
     ensures laid { OnOk result (IsLaid heads.new.items hand.new) }
-    ensures there { OnOk result (IsThere (frames heads.old.items hand.old) (shown (at_hand heads.old.items hand.old)) (frames heads.new.items hand.new) (at_hand heads.new.items hand.new)) }
+    ensures there { OnOk result (IsThere (frames heads.old.items hand.old)
+        (shown (at_hand heads.old.items hand.old)) (frames heads.new.items hand.new)
+        (at_hand heads.new.items hand.new)) }
 {
     loop {
         if !step(heads, hand)? {

@@ -91,7 +91,8 @@ impl Stack {
 
     /// The stack of an expression that runs in an activation.
     pub(crate) fn started(alloc: Global, body: &Body, act: ActId) -> Result<Stack, NoMemory>
-        ensures is { IfOk result (λ s. evaluation s ≡ record { base = act; expr = whole body.now }) }
+        ensures is { IfOk result (λ s. evaluation s
+            ≡ record { base = act; expr = whole body.now }) }
         ensures valid { IfOk result IsValid }
     {
         let part = focus_on_body(body)?;
@@ -107,7 +108,12 @@ impl Stack {
         arg: &Val,
         act: ActId,
     ) -> Result<Stack, NoMemory>
-        ensures is { IfOk result (λ s. evaluation s ≡ record { base = act; expr = Apply (Done (val.Code code.now)) (more (Done arg.now) none) }) }
+        ensures is { IfOk result (λ s. evaluation s
+            ≡ record {
+              base = act;
+              expr = Apply (Done (val.Code code.now))
+                  (more (Done arg.now) none);
+            }) }
         ensures valid { IfOk result IsValid }
     {
         let part = Focus::Value(arg.copy()?);
@@ -154,7 +160,8 @@ impl Stack {
         requires open { is_value (evaluation self.old).expr ≡ false }
         requires test { IsTest (redex (evaluation self.old).expr) }
         ensures out { IsWithoutRedex self.old self.new }
-        ensures is { (vs : List Value) × (v : Value) × (redex (evaluation self.old).expr ≡ around (out-Expr result) vs (Done v)) }
+        ensures is { (vs : List Value) × (v : Value)
+            × (redex (evaluation self.old).expr ≡ around (out-Expr result) vs (Done v)) }
         ensures test { IsIf (out-Expr result) }
     {
         match self.heads.pop() {
@@ -226,7 +233,8 @@ impl Stack {
         requires valid { IsValid self.old }
         requires open { is_value (evaluation self.old).expr ≡ false }
         requires shallow { insides (evaluation self.old).expr < MOST_CALLS }
-        ensures rewrites { OnOk result (evaluation self.new ≡ rewritten_in (λ _. Inside act (whole body.now)) (evaluation self.old)) }
+        ensures rewrites { OnOk result (evaluation self.new
+            ≡ rewritten_in (λ _. Inside act (whole body.now)) (evaluation self.old)) }
         ensures valid { OnOk result (IsValid self.new) }
     {
         let part = focus_on_body(body)?;
@@ -241,7 +249,8 @@ impl Stack {
     pub(crate) fn give(&mut self, value: Val) -> Result<(), NoMemory>
         requires valid { IsValid self.old }
         requires open { is_value (evaluation self.old).expr ≡ false }
-        ensures rewrites { OnOk result (evaluation self.new ≡ rewritten_in (λ _. Done value) (evaluation self.old)) }
+        ensures rewrites { OnOk result (evaluation self.new
+            ≡ rewritten_in (λ _. Done value) (evaluation self.old)) }
         ensures valid { OnOk result (IsValid self.new) }
     {
         self.drop_redex();
@@ -253,7 +262,8 @@ impl Stack {
     pub(crate) fn give_copy(&mut self, value: &Val) -> Result<(), NoMemory>
         requires valid { IsValid self.old }
         requires open { is_value (evaluation self.old).expr ≡ false }
-        ensures rewrites { OnOk result (evaluation self.new ≡ rewritten_in (λ _. Done value.now) (evaluation self.old)) }
+        ensures rewrites { OnOk result (evaluation self.new
+            ≡ rewritten_in (λ _. Done value.now) (evaluation self.old)) }
         ensures valid { OnOk result (IsValid self.new) }
     {
         self.drop_redex();
@@ -266,7 +276,8 @@ impl Stack {
         requires valid { IsValid self.old }
         requires open { is_value (evaluation self.old).expr ≡ false }
         requires binding { IsBinding (redex (evaluation self.old).expr) }
-        ensures rewrites { OnOk result (evaluation self.new ≡ rewritten_in (λ _. bound (redex (evaluation self.old).expr)) (evaluation self.old)) }
+        ensures rewrites { OnOk result (evaluation self.new
+            ≡ rewritten_in (λ _. bound (redex (evaluation self.old).expr)) (evaluation self.old)) }
         ensures valid { OnOk result (IsValid self.new) }
     {
         self.leave();
@@ -278,7 +289,9 @@ impl Stack {
         requires valid { IsValid self.old }
         requires open { is_value (evaluation self.old).expr ≡ false }
         requires local { IsLocal (redex (evaluation self.old).expr) }
-        ensures rewrites { OnOk result (evaluation self.new ≡ rewritten_in (λ _. local_row (redex (evaluation self.old).expr)) (evaluation self.old)) }
+        ensures rewrites { OnOk result (evaluation self.new
+            ≡ rewritten_in (λ _. local_row (redex (evaluation self.old).expr))
+            (evaluation self.old)) }
         ensures valid { OnOk result (IsValid self.new) }
     {
         if self.hand.form.is_some() {
@@ -294,7 +307,8 @@ impl Stack {
         requires valid { IsValid self.old }
         requires form { IsSome self.old.hand.form }
         requires local { IsLocal (redex (evaluation self.old).expr) }
-        ensures { OnOk result (IsRewritten (local_row (redex (evaluation self.old).expr)) self.old self.new) }
+        ensures { OnOk result (IsRewritten (local_row (redex (evaluation self.old).expr)) self.old
+            self.new) }
     {
         match self.hand.take_form() {
             None => unreachable!(),
@@ -308,7 +322,8 @@ impl Stack {
         requires open { is_value (evaluation self.old).expr ≡ false }
         requires free { self.old.hand.form ≡ None }
         requires local { IsLocal (redex (evaluation self.old).expr) }
-        ensures { OnOk result (IsRewritten (local_row (redex (evaluation self.old).expr)) self.old self.new) }
+        ensures { OnOk result (IsRewritten (local_row (redex (evaluation self.old).expr)) self.old
+            self.new) }
     {
         match self.heads.last_mut() {
             None => unreachable!(),
@@ -326,7 +341,9 @@ impl Stack {
         requires valid { IsValid self.old }
         requires open { is_value (evaluation self.old).expr ≡ false }
         requires test { IsTest (redex (evaluation self.old).expr) }
-        ensures rewrites { OnOk result (evaluation self.new ≡ rewritten_in (λ _. branch yes (redex (evaluation self.old).expr)) (evaluation self.old)) }
+        ensures rewrites { OnOk result (evaluation self.new
+            ≡ rewritten_in (λ _. branch yes (redex (evaluation self.old).expr))
+            (evaluation self.old)) }
         ensures valid { OnOk result (IsValid self.new) }
     {
         let form = self.take_test();
@@ -336,7 +353,8 @@ impl Stack {
 
     /// The innermost frame, or `None` where nothing stands around the part at hand.
     fn top(&self) -> Option<&Head>
-        ensures { MatchOption result (self.now.heads.items ≡ []) (λ h. (rest : List Head) × (self.now.heads.items ≡ rest ++ h.now ∷ [])) }
+        ensures { MatchOption result (self.now.heads.items ≡ [])
+            (λ h. (rest : List Head) × (self.now.heads.items ≡ rest ++ h.now ∷ [])) }
     {
         self.heads.last()
     }
@@ -344,7 +362,8 @@ impl Stack {
     /// The value, where the expression is one.
     pub(crate) fn value(&self) -> Option<&Val>
         requires { IsValid self.now }
-        ensures { MatchOption result (is_value (evaluation self.now).expr ≡ false) (λ v. (evaluation self.now).expr ≡ Done v.now) }
+        ensures { MatchOption result (is_value (evaluation self.now).expr ≡ false)
+            (λ v. (evaluation self.now).expr ≡ Done v.now) }
     {
         match self.top() {
             Some(_) => None,

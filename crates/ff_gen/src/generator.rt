@@ -13,8 +13,8 @@ pub type NoMemory = AllocError;
 /// The most lines that a command asks for.
 pub const MOST_LINES: u32 = 100_000;
 
-/// The page that a reply brings: what is typed into its box is sent to another domain, and its button
-/// shows what the box has.
+/// The page that a reply brings: what is typed into its box is sent to another domain, and its
+/// button shows what the box has.
 const PAGE: &[u8] =
     b"reply a.com 0 (doc () (box b \"\" (fn (n) (ask \"http://b.com/q\" (text n) (fn (r) null)))) (button g \"go\" (fn (n) (set-text n (cat \"s\" (text (find (page (self)) \"b\")))))))\n";
 
@@ -48,7 +48,8 @@ impl Draws {
     /// and then a front of the line was appended.
     pub fn next_line(&mut self, out: &mut Vec<u8>) -> Result<(), NoMemory>
         ensures drawn { self.new ≡ spec.following self.old }
-        ensures line { Appends result out.old.items out.new.items (spec.line_of (spec.draw_of self.new)) }
+        ensures line { Appends result out.old.items out.new.items
+            (spec.line_of (spec.draw_of self.new)) }
     {
         self.number = following(self.number);
         print_line(self.number / 65_536, out)

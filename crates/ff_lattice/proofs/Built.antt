@@ -7,7 +7,7 @@ use Rattle.ff_lattice.specs.Bounds.{Chain, IsLattice}
 use Rattle.ff_lattice.specs.Bounds.Chain.{here, step}
 use Rattle.ff_lattice.specs.Levels.{nth, pair_at, IsLevel, IsGiven, AreApart, AreLevels, Reaches, IsOrderFault, IsFault, IsLatticeOf}
 use Rattle.ff_lattice.specs.Order.{IsOrder}
-use Rattle.ff_lattice.specs.Rows.{Related, AreRows, AreOrdered, HoldPairs, Closes, AreTurned, IsKept}
+use Rattle.ff_lattice.specs.Relation.{Related, IsRelation, AreOrdered, HoldPairs, Closes, AreTurned, IsKept}
 use Rattle.ff_lattice.proofs.Closure.{chain_append}
 use Rattle.ff_lattice.proofs.NameLemmas.{level_is}
 use Rattle.ff_lattice.proofs.Orders.{Agree, IsLattice-agree, IsOrderFault-agree}
@@ -45,8 +45,8 @@ module _ (names : List (List ℕ)) (below : List Pair) (old up : List (List ℕ)
     λ chain. chain_held (nth names a) (nth names b) chain a b in_a in_b refl refl,
   )
 
-  pub up_rows : AreRows (length names) up
-  up_rows = subst (λ (n : ℕ). AreRows n up) long closes.rows
+  pub up_rows : IsRelation (length names) up
+  up_rows = subst (λ (n : ℕ). IsRelation n up) long closes.rows
 
   pub up_ordered : AreOrdered up
   up_ordered = record {

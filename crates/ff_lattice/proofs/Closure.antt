@@ -3,7 +3,7 @@ use Rattle.std.proofs.Common.{ℕ, ◌+◌, ◌<◌, ◌≤◌, inl, inr, List, 
 use Rattle.std.proofs.lemmas.Bool.{cases_eq}
 use Rattle.ff_lattice.specs.Bounds.{Chain}
 use Rattle.ff_lattice.specs.Bounds.Chain.{here, step}
-use Rattle.ff_lattice.specs.Rows.{Related, AreRows, Passes, Closes}
+use Rattle.ff_lattice.specs.Relation.{Related, IsRelation, Passes, Closes}
 
 -- two chains make one
 pub chain_append : {X : Type 0} (R : X → X → Type 0) (a b c : X) → Chain R a b → Chain R b c → Chain R a c
@@ -12,12 +12,12 @@ chain_append R a b c (step _ m _ first rest) more = step a m c first (chain_appe
 
 -- the table after the passes through the levels below count
 pub record ClosedBelow (count : ℕ) (old new : List (List ℕ)) : Type 0 where
-  pub rows : AreRows (length old) new
+  pub rows : IsRelation (length old) new
   pub grows : (a b : ℕ) → Related old a b → Related new a b
   pub joined : (a m b : ℕ) → m < count → Related new a m → Related new m b → Related new a b
   pub sound : (a b : ℕ) → Related new a b → Chain (Related old) a b
 
-pub ClosedBelow-none : (old : List (List ℕ)) → AreRows (length old) old → ClosedBelow 0 old old
+pub ClosedBelow-none : (old : List (List ℕ)) → IsRelation (length old) old → ClosedBelow 0 old old
 ClosedBelow-none old valid = record {
   rows = valid;
   grows = λ a b held. held;
@@ -65,7 +65,7 @@ module _ (count : ℕ) (old mid new : List (List ℕ)) (closed : ClosedBelow cou
 
   pub ClosedBelow-more : ClosedBelow (count + 1) old new
   ClosedBelow-more = record {
-    rows = subst (λ (n : ℕ). AreRows n new) closed.rows.count passes.rows;
+    rows = subst (λ (n : ℕ). IsRelation n new) closed.rows.count passes.rows;
     grows = λ a b held. passes.grows a b (closed.grows a b held);
     joined = joined_more;
     sound = sound_more;

@@ -10,7 +10,7 @@ use Rattle.std.proofs.lemmas.List.{length-append}
 use lib.Count.{ones, ones_in}
 use Rattle.std.proofs.Math.Nat.{mod-eq_of_lt, mod-lt}
 use lib.Pow.{pow_pos}
-use Rattle.ff_lattice.specs.LevelSet.{has, below, levels_where, IsLevelSet, IsLeast}
+use Rattle.ff_lattice.specs.LevelSet.{has, levels_where, IsLevelSet, IsLeast, below}
 use Rattle.ff_lattice.specs.LevelBits.{levels_of, bits_of, bits_of-levels_of, has-levels_where}
 
 or_true : (b : Bool) → (b || true) ≡ true

@@ -7,7 +7,7 @@ use Rattle.std.proofs.lemmas.List.{get_or-take, length-take-le, take_more}
 use Rattle.ff_lattice.specs.declared.pair.Pair.{Pair}
 use Rattle.ff_lattice.specs.declared.fault.LatticeFault.TheVariants.{Unknown}
 use Rattle.ff_lattice.specs.Levels.{nth, pair_at, IsRepeat, IsLevel, IsKnown, IsAmongFirst, AreApart, IsFault}
-use Rattle.ff_lattice.specs.Rows.{Related, AreRows, HoldPairs, Relates}
+use Rattle.ff_lattice.specs.Relation.{Related, IsRelation, HoldPairs, Relates}
 
 -- a name that some name is equal to is that of a level
 pub level_from_any : (names : List (List ℕ)) (text : List ℕ) → list_any (pointwise nat_eq text) names ≡ true → IsLevel names text
@@ -112,7 +112,7 @@ module _ (count : ℕ) (names : List (List ℕ)) (below : List Pair) (old new : 
 
   pub HoldPairs-more : HoldPairs (count + 1) names below new
   HoldPairs-more = record {
-    rows = subst (λ (n : ℕ). AreRows n new) so_far.rows.count relates.rows;
+    rows = subst (λ (n : ℕ). IsRelation n new) so_far.rows.count relates.rows;
     known = known_more;
     reflexive = λ a in_a. relates.grows a a (so_far.reflexive a in_a);
     sound = sound_more;

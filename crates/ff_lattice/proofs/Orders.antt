@@ -7,13 +7,13 @@ use Rattle.ff_lattice.specs.declared.fault.LatticeFault.TheVariants.{NoLevels, T
 use Rattle.ff_lattice.specs.Bounds.{Flip, IsJoin, HasJoin, LacksJoin, LacksMeet, AreCyclic, IsLattice, NoPair, EachPair, IsLeastPair}
 use Rattle.ff_lattice.specs.LevelSet.{has, levels_where}
 use Rattle.ff_lattice.specs.Levels.{AreLeastNames, IsOrderFault}
-use Rattle.ff_lattice.specs.Rows.{Related, AreRows, AreOrdered, AreTurned}
+use Rattle.ff_lattice.specs.Relation.{Related, IsRelation, AreOrdered, AreTurned}
 use Rattle.ff_lattice.proofs.LevelSets.{same_levels, IsLevelSet-levels_where}
 use Rattle.ff_lattice.proofs.Tables.{made_holds, made_passes, same_tests}
 
 -- ---- the row of a join
 
-module _ (rows : List (List ℕ)) (a b : ℕ) (valid : AreRows (length rows) rows) (ordered : AreOrdered rows) where
+module _ (rows : List (List ℕ)) (a b : ℕ) (valid : IsRelation (length rows) rows) (ordered : AreOrdered rows) where
   abbrev both : ℕ → Bool
   both m = has (get_or rows a []) m && has (get_or rows b []) m
 

@@ -5,7 +5,7 @@ use Rattle.std.proofs.lemmas.Bool.Decides.{nat_tests}
 use Rattle.std.proofs.lemmas.List.{get_or-set_same, get_or-set_other, length-set, get_or_default, get_or_past}
 use Rattle.ff_lattice.specs.LevelSet.{has, levels_where, IsLevelSet}
 use Rattle.ff_lattice.specs.LevelBits.{has-levels_where}
-use Rattle.ff_lattice.specs.Rows.{related, Related, AreRows, IsEqual, Relates, Passes, AreTurned}
+use Rattle.ff_lattice.specs.Relation.{related, Related, IsRelation, IsEqual, Relates, Passes, AreTurned}
 use Rattle.ff_lattice.proofs.LevelSets.{has_in_range, levels_same, IsLevelSet-levels_where, levels_where_none}
 
 -- ---- a set that a test makes
@@ -52,7 +52,7 @@ at_row rows low new P in_low here other a =
       | inr ne ↦ subst (λ (r : List ℕ). P a r) (sym (get_or-set_other rows low a new [] ne)) (other a)
     ]
 
-module _ (old : List (List ℕ)) (low high : ℕ) (valid : AreRows (length old) old) (in_low : low < length old) (in_high : high < length old) where
+module _ (old : List (List ℕ)) (low high : ℕ) (valid : IsRelation (length old) old) (in_low : low < length old) (in_high : high < length old) where
   abbrev with_high : ℕ → Bool
   with_high m = has (get_or old low []) m || eqb m high
 
@@ -95,7 +95,7 @@ module _ (old : List (List ℕ)) (low high : ℕ) (valid : AreRows (length old) 
   }
 
 -- the row that `relate` writes
-pub relates_set : (old : List (List ℕ)) (low high : ℕ) (d new : List ℕ) → AreRows (length old) old → low < length old → high < length old → new ≡ levels_where (λ m. has (get_or old low d) m || eqb m high) → Relates old (set old low new) low high
+pub relates_set : (old : List (List ℕ)) (low high : ℕ) (d new : List ℕ) → IsRelation (length old) old → low < length old → high < length old → new ≡ levels_where (λ m. has (get_or old low d) m || eqb m high) → Relates old (set old low new) low high
 relates_set old low high d new valid in_low in_high new_is =
     let new_at : new ≡ levels_where (λ m. has (get_or old low []) m || eqb m high) =
     new_is ∙ ap (λ (r : List ℕ). levels_where (λ m. has r m || eqb m high)) (get_or_default old low d [] in_low) in
@@ -129,7 +129,7 @@ module _ (middle : ℕ) (reached row : List ℕ) where
       (λ on held. elim (or_cases (has row b) (has reached b) (made_passes joined b held)) as (λ _. (has row b ≡ true) ⊎ ((has row middle ≡ true) × (has reached b ≡ true))) [ inl before ↦ inl before | inr more ↦ inr (on, more) ])
       (λ _ held. inl held)
 
-module _ (old new : List (List ℕ)) (middle : ℕ) (valid : AreRows (length old) old) (same : length new ≡ length old) (each : (j : ℕ) → j < length old → get_or new j [] ≡ through middle (get_or old middle []) (get_or old j [])) where
+module _ (old new : List (List ℕ)) (middle : ℕ) (valid : IsRelation (length old) old) (same : length new ≡ length old) (each : (j : ℕ) → j < length old → get_or new j [] ≡ through middle (get_or old middle []) (get_or old j [])) where
   each_row : (j : ℕ) → get_or new j [] ≡ through middle (get_or old middle []) (get_or old j [])
   each_row j =
       elim (cases_lt j (length old)) as (λ _. get_or new j [] ≡ through middle (get_or old middle []) (get_or old j [])) [
@@ -204,7 +204,7 @@ module _ (n : ℕ) (table : List (List ℕ)) (few : n ≤ 16) (count : length ta
 abbrev pub column : List (List ℕ) → ℕ → List ℕ
 column up b = levels_where (λ l. related up l b)
 
-module _ (up down : List (List ℕ)) (valid : AreRows (length up) up) (count : length down ≡ length up) (each : (j : ℕ) → j < length up → get_or down j [] ≡ column up j) where
+module _ (up down : List (List ℕ)) (valid : IsRelation (length up) up) (count : length down ≡ length up) (each : (j : ℕ) → j < length up → get_or down j [] ≡ column up j) where
   related_first : (a b : ℕ) → Related up a b → a < length up
   related_first a b held =
       elim (cases_lt a (length up)) as (λ _. a < length up) [

@@ -12,7 +12,7 @@ use Rattle.ff_lattice.specs.Bounds.{Flip, HasJoin, LacksJoin, HasMeet, LacksMeet
 use Rattle.ff_lattice.specs.LevelSet.{has, levels_where, IsLevelSet}
 use Rattle.ff_lattice.specs.Levels.{nth, pair_at, IsRepeat, IsLevel, IsKnown, IsAmongFirst, AreSized, AreNamed, AreApart, AreLeastNames, IsFault, IsLatticeOf}
 use Rattle.ff_lattice.specs.Order.{Order, is_level_name}
-use Rattle.ff_lattice.specs.Rows.{related, Related, AreRows, AreOrdered, HoldPairs, Passes, Closes, AreTurned}
+use Rattle.ff_lattice.specs.Relation.{related, Related, IsRelation, AreOrdered, HoldPairs, Passes, Closes, AreTurned}
 use Rattle.ff_lattice.proofs.Built.{fault_from_order, lattice_is, up_rows, up_ordered}
 use Rattle.ff_lattice.proofs.Closure.{ClosedBelow, ClosedBelow-none, ClosedBelow-more, Closes-from_passes}
 use Rattle.ff_lattice.proofs.LevelSets.{IsLevelSet-levels_where}
@@ -152,7 +152,7 @@ module _ (n : ℕ) (few : n ≤ MOST_LEVELS) where
   table_count : (test : ℕ → ℕ → Bool) → length (table test) ≡ n
   table_count test = row_count (row test) n 0
 
-  table_rows : (test : ℕ → ℕ → Bool) → AreRows n (table test)
+  table_rows : (test : ℕ → ℕ → Bool) → IsRelation n (table test)
   table_rows test = record { few = few; count = table_count test; set = set; within = λ a b held. (table_passes test a b held).1 }
     where
       from : (l : ℕ) → (l < n) ⊎ (n ≤ l) → IsLevelSet (get_or (table test) l [])
@@ -169,7 +169,7 @@ module _ (n : ℕ) (few : n ≤ MOST_LEVELS) where
 
   passes_level : (start : ℕ → ℕ → Bool) (k : ℕ) → k < n → Passes (table (closed start k)) (table (closed start (suc k))) k
   passes_level start k in_k = record {
-    rows = subst (λ m. AreRows m (table (closed start (suc k)))) (sym (table_count (closed start k))) (table_rows (closed start (suc k)));
+    rows = subst (λ m. IsRelation m (table (closed start (suc k)))) (sym (table_count (closed start k))) (table_rows (closed start (suc k)));
     grows = λ a b held. let was = table_passes (closed start k) a b held in table_holds (closed start (suc k)) a b was.0 was.1 (ap (λ t. t || (closed start k a k && closed start k k b)) was.2);
     held = λ a b first other.
         let from = table_passes (closed start k) a k first in
@@ -190,7 +190,7 @@ module _ (n : ℕ) (few : n ≤ MOST_LEVELS) where
           inr (table_holds (closed start k) a k in_a in_k both.0, table_holds (closed start k) k b in_k in_b both.1)
 
   closed_below : (start : ℕ → ℕ → Bool) (k : ℕ) → k ≤ n → ClosedBelow k (table start) (table (closed start k))
-  closed_below start zero most = ClosedBelow-none (table start) (subst (λ m. AreRows m (table start)) (sym (table_count start)) (table_rows start))
+  closed_below start zero most = ClosedBelow-none (table start) (subst (λ m. IsRelation m (table start)) (sym (table_count start)) (table_rows start))
   closed_below start (suc k) most =
       let next : k + 1 ≡ suc k = omega arith in
       subst (λ m. ClosedBelow m (table start) (table (closed start (suc k)))) next
@@ -207,7 +207,7 @@ module _ (n : ℕ) (few : n ≤ MOST_LEVELS) where
 
   pub turned : (start : ℕ → ℕ → Bool) → AreTurned (up_of start) (down_of start)
   turned start = record {
-    rows = subst (λ m. AreRows m (down_of start)) (sym (table_count (closed start n))) (table_rows (λ a b. closed start n b a));
+    rows = subst (λ m. IsRelation m (down_of start)) (sym (table_count (closed start n))) (table_rows (λ a b. closed start n b a));
     turned = λ a b.
         same_tests (related (down_of start) b a) (related (up_of start) a b)
         (λ held. let is = table_passes (λ c d. closed start n d c) b a held in table_holds (closed start n) a b is.1 is.0 is.2)
@@ -260,7 +260,7 @@ cyclic_or rows a b = from (by_bool (related rows a b)) (by_bool (related rows b 
 abbrev above_both : List (List ℕ) → ℕ → ℕ → ℕ → Bool
 above_both rows a b m = has (get_or rows a []) m && has (get_or rows b []) m
 
-join_or : (rows : List (List ℕ)) → AreRows (length rows) rows → AreOrdered rows → (a b : ℕ) → HasJoin (Related rows) (length rows) a b ⊎ LacksJoin (Related rows) (length rows) a b
+join_or : (rows : List (List ℕ)) → IsRelation (length rows) rows → AreOrdered rows → (a b : ℕ) → HasJoin (Related rows) (length rows) a b ⊎ LacksJoin (Related rows) (length rows) a b
 join_or rows valid ordered a b = from (first_below (length rows) (λ c. get_or rows c [] ≡ levels_where (above_both rows a b)) (λ c less. test c (cases_Bool (bytes_eq (get_or rows c []) (levels_where (above_both rows a b))))))
   where
     test : (c : ℕ) → (bytes_eq (get_or rows c []) (levels_where (above_both rows a b)) ≡ true) ⊎ (bytes_eq (get_or rows c []) (levels_where (above_both rows a b)) ≡ false)
@@ -309,7 +309,7 @@ module _ (names : List (List ℕ)) (below : List Pair) (apart : AreApart names) 
   closes_up : Closes (table n few start) up
   closes_up = closes n few start
 
-  up_valid : AreRows n up
+  up_valid : IsRelation n up
   up_valid = up_rows names below (table n few start) up apart hold_pairs closes_up
 
   ordered : AreOrdered up
@@ -323,12 +323,12 @@ module _ (names : List (List ℕ)) (below : List Pair) (apart : AreApart names) 
 
   -- joins of the order, and its meets, which are the joins of the order from its other side
   has_join : (a b : ℕ) → a < b → b < n → HasJoin (Related up) n a b ⊎ LacksJoin (Related up) n a b
-  has_join a b after less = subst (λ m. HasJoin (Related up) m a b ⊎ LacksJoin (Related up) m a b) up_valid.count (join_or up (subst (λ m. AreRows m up) (sym up_valid.count) up_valid) ordered a b)
+  has_join a b after less = subst (λ m. HasJoin (Related up) m a b ⊎ LacksJoin (Related up) m a b) up_valid.count (join_or up (subst (λ m. IsRelation m up) (sym up_valid.count) up_valid) ordered a b)
 
   down_join : (a b : ℕ) → a < b → b < n → HasJoin (Related down) n a b ⊎ LacksJoin (Related down) n a b
   down_join a b after less =
       subst (λ m. HasJoin (Related down) m a b ⊎ LacksJoin (Related down) m a b) down_count
-      (join_or down (subst (λ m. AreRows m down) (up_valid.count ∙ sym down_count) (subst (λ m. AreRows m down) refl turned_down.rows)) (AreOrdered-turned up down turned_down ordered) a b)
+      (join_or down (subst (λ m. IsRelation m down) (up_valid.count ∙ sym down_count) (subst (λ m. IsRelation m down) refl turned_down.rows)) (AreOrdered-turned up down turned_down ordered) a b)
 
   has_meet : (a b : ℕ) → a < b → b < n → HasMeet (Related up) n a b ⊎ LacksMeet (Related up) n a b
   has_meet a b after less = from (down_join a b after less)

@@ -3,9 +3,9 @@ use Rattle.std.proofs.Common.{◌≡◌, ℕ, ◌<◌, ◌≤◌, zero, suc, tru
 use Rattle.std.proofs.lemmas.Bool.{false≢true}
 use Rattle.std.proofs.lemmas.Bool.Decides.{nat_tests}
 use Rattle.ff_lattice.specs.Bounds.{HasJoin, HasMeet}
-use Rattle.ff_lattice.specs.LevelSet.{has, below, levels_where, IsLevelSet}
+use Rattle.ff_lattice.specs.LevelSet.{has, levels_where, IsLevelSet, below}
 use Rattle.ff_lattice.specs.Order.{Order, leq, name, two, AtOrBelow, is_level_name, IsOrder}
-use Rattle.ff_lattice.specs.Rows.{IsKept}
+use Rattle.ff_lattice.specs.Relation.{IsKept}
 
 each_of_two : (P : ℕ → Type 0) → P 0 → P 1 → (l : ℕ) → l < 2 → P l
 each_of_two P first second zero h = first

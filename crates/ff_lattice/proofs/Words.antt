@@ -4,7 +4,7 @@ use Rattle.std.specs.List.{list_all}
 use Rattle.std.proofs.lemmas.Bool.{cases_eq, cases_Bool, and_parts, and_from, cond-true, cond-false, true≢false}
 use Rattle.ff_lattice.specs.Bounds.{Flip, IsJoin, IsMeet, HasJoin}
 use Rattle.ff_lattice.specs.LevelSet.{below}
-use Rattle.ff_lattice.specs.Rows.{Related, AreRows, IsKept}
+use Rattle.ff_lattice.specs.Relation.{Related, IsRelation, IsKept}
 use Rattle.ff_lattice.proofs.Orders.{Agree, Agree-sym, IsJoin-agree, HasJoin-agree, turned-agree}
 use Rattle.ff_lattice.specs.Order.{Order, size, leq, pick, is_least_above, join, meet, bottom, top, AtOrBelow, IsOrder}
 
@@ -116,8 +116,8 @@ module _ (order : Order) (under : List (List ℕ)) (kept : IsKept order under) w
   count = kept.valid.rows
 
   -- the table of those below is one of its own size
-  pub under_rows : (rows : List (List ℕ)) → rows ≡ under → AreRows (length rows) rows
-  under_rows rows is = subst (λ (r : List (List ℕ)). AreRows (length r) r) (sym is) (subst (λ (k : ℕ). AreRows k under) (sym kept.turned.rows.count) kept.turned.rows)
+  pub under_rows : (rows : List (List ℕ)) → rows ≡ under → IsRelation (length rows) rows
+  under_rows rows is = subst (λ (r : List (List ℕ)). IsRelation (length r) r) (sym is) (subst (λ (k : ℕ). IsRelation k under) (sym kept.turned.rows.count) kept.turned.rows)
 
   pub up_join : (rows : List (List ℕ)) → rows ≡ order.above → (a b : ℕ) → a < size order → b < size order → HasJoin (Related rows) (length rows) a b
   up_join rows is a b in_a in_b =

@@ -5,7 +5,7 @@ use Rattle.std.proofs.Common.{◌≤◌, inl, inr, refl, sym, ◌∙◌, ap, sub
 use Rattle.std.proofs.lemmas.Bool.{cases_eq, le-ltb, eq-eqb, ne_eqb, eqb-true}
 use Rattle.std.proofs.lemmas.Nat.Bits.{bit_at_or, bit_at-zero, bit_at-lt, bit_at-pow_same, bit_at-pow_other, bit_at_above, same_from_bits}
 use Rattle.std.proofs.lemmas.Bool.Decides.{nat_tests}
-use Rattle.ff_lattice.specs.LevelSet.{has, below, levels_where}
+use Rattle.ff_lattice.specs.LevelSet.{has, levels_where, below}
 
 -- the levels whose bits are set
 abbrev pub levels_of : ℕ → List ℕ

@@ -7,7 +7,8 @@ use Rattle.ff_lattice.specs.declared.names.TheConstants.{MOST_LEVELS}
 abbrev pub has : List ℕ → ℕ → Bool
 has set l = list_any (λ m. m == l) set
 
--- the numbers below n, in rising order
+-- the numbers below n, in rising order: as `below` of ff_contract, and unfolded by name alone, so
+-- that a set of all the levels that there may be stays one word in a goal
 unfoldable pub below : ℕ → List ℕ
 below zero = []
 below (suc n) = below n ++ n ∷ []

@@ -3,4 +3,4 @@ pub mod LevelBits
 pub mod LevelSet
 pub mod Levels
 pub mod Order
-pub mod Rows
+pub mod Relation

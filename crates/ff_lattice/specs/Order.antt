@@ -7,7 +7,7 @@ use Rattle.ff_name.specs.Spelling.{stands_in_name}
 use Rattle.ff_name.specs.declared.levels.Level.{Level}
 use Rattle.ff_lattice.specs.declared.names.TheConstants.{MOST_LEVELS, MOST_LEVEL_NAME_BYTES}
 use Rattle.ff_lattice.specs.Bounds.{IsLattice}
-use Rattle.ff_lattice.specs.LevelSet.{has, below, IsLevelSet}
+use Rattle.ff_lattice.specs.LevelSet.{has, IsLevelSet, below}
 
 pub record Order : Type 0 where
   pub names : List (List ℕ)

@@ -2,14 +2,14 @@
 ghost use Rattle.std.specs.Prelude.{◌≡◌, ◌≢◌, ℕ, ◌<◌, ◌↔◌, IsTrue, OnOk, IfOk, IfErr, IfSome, IfNone, MatchOption, length};
 ghost use Rattle.ff_lattice.specs.Bounds.{IsJoin, LacksJoin, AreCyclic, IsLattice, NoPair, EachPair, HasJoin, IsLeastPair};
 ghost use Rattle.ff_lattice.specs.Levels.{IsOrderFault, nth};
-ghost use Rattle.ff_lattice.specs.Rows.{Related, AreRows, AreOrdered, AreTurned};
+ghost use Rattle.ff_lattice.specs.Relation.{Related, IsRelation, AreOrdered, AreTurned};
 
 use crate::{LatticeFault, LevelSet, NoMemory};
 use ff_name::{Level, Text};
 
 /// The level that is related to just what both `a` and `b` are related to, which is their join.
 pub(crate) fn join_in(rows: &[LevelSet], a: Level, b: Level) -> Option<Level>
-    requires rows { AreRows (length rows.now) rows.now }
+    requires rows { IsRelation (length rows.now) rows.now }
     requires ordered { AreOrdered rows.now }
     requires first { a.0 < length rows.now }
     requires second { b.0 < length rows.now }
@@ -27,7 +27,7 @@ pub(crate) fn join_in(rows: &[LevelSet], a: Level, b: Level) -> Option<Level>
 
 /// Whether each of the levels is related to the other.
 fn are_cyclic(rows: &[LevelSet], a: Level, b: Level) -> bool
-    requires rows { AreRows (length rows.now) rows.now }
+    requires rows { IsRelation (length rows.now) rows.now }
     requires first { a.0 < length rows.now }
     requires second { b.0 < length rows.now }
     ensures { IsTrue result ↔ AreCyclic (Related rows.now) a.0 b.0 }
@@ -37,8 +37,9 @@ fn are_cyclic(rows: &[LevelSet], a: Level, b: Level) -> bool
 
 /// The least two levels that are each related to the other.
 fn first_cycle(rows: &[LevelSet]) -> Option<(Level, Level)>
-    requires { AreRows (length rows.now) rows.now }
-    ensures { MatchOption result (NoPair (length rows.now) (AreCyclic (Related rows.now))) (λ pair. IsLeastPair (length rows.now) (AreCyclic (Related rows.now)) pair.0.0 pair.1.0) }
+    requires { IsRelation (length rows.now) rows.now }
+    ensures { MatchOption result (NoPair (length rows.now) (AreCyclic (Related rows.now)))
+        (λ pair. IsLeastPair (length rows.now) (AreCyclic (Related rows.now)) pair.0.0 pair.1.0) }
 {
     let size = rows.len() as u8;
     for a in 0..size {
@@ -53,9 +54,12 @@ fn first_cycle(rows: &[LevelSet]) -> Option<(Level, Level)>
 
 /// The least two levels with no join.
 fn first_without_join(rows: &[LevelSet]) -> Option<(Level, Level)>
-    requires rows { AreRows (length rows.now) rows.now }
+    requires rows { IsRelation (length rows.now) rows.now }
     requires ordered { AreOrdered rows.now }
-    ensures { MatchOption result (EachPair (length rows.now) (HasJoin (Related rows.now) (length rows.now))) (λ pair. IsLeastPair (length rows.now) (LacksJoin (Related rows.now) (length rows.now)) pair.0.0 pair.1.0) }
+    ensures { MatchOption result (EachPair (length rows.now)
+        (HasJoin (Related rows.now) (length rows.now)))
+        (λ pair. IsLeastPair (length rows.now) (LacksJoin (Related rows.now) (length rows.now))
+        pair.0.0 pair.1.0) }
 {
     let size = rows.len() as u8;
     for a in 0..size {
@@ -72,7 +76,8 @@ fn first_without_join(rows: &[LevelSet]) -> Option<(Level, Level)>
 fn names_of(levels: &Vec<Text>, a: Level, b: Level) -> Result<(Text, Text), NoMemory>
     requires first { a.0 < length levels.now.items }
     requires second { b.0 < length levels.now.items }
-    ensures { IfOk result (λ names. (names.0 ≡ nth levels.now.items a.0) × (names.1 ≡ nth levels.now.items b.0)) }
+    ensures { IfOk result (λ names. (names.0 ≡ nth levels.now.items a.0)
+        × (names.1 ≡ nth levels.now.items b.0)) }
 {
     let low = levels[a.0 as usize].copy()?;
     let high = levels[b.0 as usize].copy()?;
@@ -86,11 +91,12 @@ pub(crate) fn check_order(
     down: &[LevelSet],
 ) -> Result<(), LatticeFault>
     requires size { length up.now ≡ length levels.now.items }
-    requires up { AreRows (length up.now) up.now }
+    requires up { IsRelation (length up.now) up.now }
     requires ordered { AreOrdered up.now }
     requires down { AreTurned up.now down.now }
     ensures found { OnOk result (IsLattice (Related up.now) (length levels.now.items)) }
-    ensures fault { IfErr result (λ fault. fault ≢ LatticeFault.NoMemory → IsOrderFault levels.now.items (Related up.now) fault) }
+    ensures fault { IfErr result (λ fault. fault ≢ LatticeFault.NoMemory
+        → IsOrderFault levels.now.items (Related up.now) fault) }
 {
     if let Some((a, b)) = first_cycle(up) {
         let (low, high) = names_of(levels, a, b)?;

@@ -8,7 +8,7 @@ ghost use Rattle.ff_lattice.specs.Order.{Order, size, leq, name, level_named, jo
 use crate::bounds::{check_order, join_in};
 use crate::names::check_names;
 use crate::numbering::numbered;
-use crate::rows::{close, turned};
+use crate::relation::{close, turned};
 use crate::{LatticeFault, LevelSet, NoMemory, Pair};
 use ff_name::{Level, Text};
 use std::alloc::Global;
@@ -36,17 +36,18 @@ impl Drop for Lattice {
 
 impl Model for Lattice {
     ghost use Rattle.ff_lattice.specs.Order.{Order};
-    ghost use Rattle.ff_lattice.specs.Rows.{IsKept};
+    ghost use Rattle.ff_lattice.specs.Relation.{IsKept};
 
     ghost Value = { Order };
 
     ghost view = { λ s. record { names = s.names.items; above = s.up.items } };
 
-    ghost invariant = { λ s. IsKept (record { names = s.names.items; above = s.up.items }) s.down.items };
+    ghost invariant = { λ s. IsKept (record { names = s.names.items; above = s.up.items })
+        s.down.items };
 }
 
 impl Lattice {
-    /// The level `L` below the level `H`. Its one refusal is want of memory.
+    /// The level `L` below the level `H`.
     pub fn two(alloc: Global) -> Result<Lattice, NoMemory>
         ensures { IfOk result (λ lattice. lattice ≡ two) }
     {
@@ -69,9 +70,13 @@ impl Lattice {
     /// come in place of any of these.
     pub fn build(alloc: Global, names: &[Text], below: &[Pair]) -> Result<Lattice, LatticeFault>
         ensures found { IfOk result (IsLatticeOf names.now below.now) }
-        ensures fault { IfErr result (λ fault. fault ≢ LatticeFault.NoMemory → IsFault names.now below.now fault) }
-        ensures only { AreLevels names.now below.now → IsLattice (Reaches names.now below.now) (length names.now) → IfErr result (λ fault. fault ≡ LatticeFault.NoMemory) }
-        ensures exact { (fault : LatticeFault) → IsFault names.now below.now fault → Answers result (Err fault) (Err LatticeFault.NoMemory) }
+        ensures fault { IfErr result (λ fault. fault ≢ LatticeFault.NoMemory
+            → IsFault names.now below.now fault) }
+        ensures only { AreLevels names.now below.now
+            → IsLattice (Reaches names.now below.now) (length names.now)
+            → IfErr result (λ fault. fault ≡ LatticeFault.NoMemory) }
+        ensures exact { (fault : LatticeFault) → IsFault names.now below.now fault
+            → Answers result (Err fault) (Err LatticeFault.NoMemory) }
     {
         check_names(names)?;
         Lattice::of_named(alloc, names, below)
@@ -81,7 +86,8 @@ impl Lattice {
     fn of_named(alloc: Global, names: &[Text], below: &[Pair]) -> Result<Lattice, LatticeFault>
         requires { AreNamed names.now }
         ensures found { IfOk result (IsLatticeOf names.now below.now) }
-        ensures fault { IfErr result (λ fault. fault ≢ LatticeFault.NoMemory → IsFault names.now below.now fault) }
+        ensures fault { IfErr result (λ fault. fault ≢ LatticeFault.NoMemory
+            → IsFault names.now below.now fault) }
     {
         let (names, mut up) = numbered(alloc, names, below)?;
         close(&mut up);
@@ -182,7 +188,8 @@ impl Lattice {
         ensures value { result ≡ level_named self.now bytes.now }
         ensures valid { IsOrder self.now }
         ensures within { IsTag self.now result }
-        ensures found { IfSome result (λ l. (l.0 < size self.now) × (name self.now l.0 ≡ bytes.now)) }
+        ensures found { IfSome result (λ l. (l.0 < size self.now)
+            × (name self.now l.0 ≡ bytes.now)) }
         ensures none { IfNone result ((l : ℕ) → l < size self.now → name self.now l ≢ bytes.now) }
     {
         for number in 0..self.size() {

@@ -1,4 +1,6 @@
 //! The lattice of levels: which levels there are, which is at or below which, and sets of levels.
+//!
+//! Floor: who may know. It knows not what a browser does with an input.
 #![tactic(auto)]
 
 mod bounds;
@@ -8,7 +10,7 @@ mod level_set;
 mod names;
 mod numbering;
 mod pair;
-mod rows;
+mod relation;
 
 pub use fault::LatticeFault;
 pub use ff_name::NoMemory;

@@ -3,10 +3,10 @@
 //! lattice is built.
 ghost use Rattle.std.specs.Prelude.{◌≡◌, ◌≢◌, ℕ, ◌<◌, List, IfOk, IfErr, length};
 ghost use Rattle.ff_lattice.specs.Levels.{AreNamed, AreApart, IsFault, IsLevel, nth};
-ghost use Rattle.ff_lattice.specs.Rows.{HoldPairs};
+ghost use Rattle.ff_lattice.specs.Relation.{HoldPairs};
 ghost use Rattle.ff_lattice.specs.declared.pair.Pair.{Pair};
 
-use crate::rows::{equal_rows, relate};
+use crate::relation::{equality, relate};
 use crate::{LatticeFault, LevelSet, NoMemory, Pair};
 use ff_name::{Level, Text};
 use indexmap::IndexSet;
@@ -16,7 +16,8 @@ use std::alloc::Global;
 fn distinct_names(alloc: Global, names: &[Text]) -> Result<IndexSet<Text>, LatticeFault>
     requires { AreNamed names.now }
     ensures found { IfOk result (λ levels. (levels.keys ≡ names.now) × AreApart names.now) }
-    ensures fault { IfErr result (λ fault. fault ≢ LatticeFault.NoMemory → (below : List Pair) → IsFault names.now below fault) }
+    ensures fault { IfErr result (λ fault. fault ≢ LatticeFault.NoMemory → (below : List Pair)
+        → IsFault names.now below fault) }
 {
     let mut levels = IndexSet::new(alloc);
     for name in names {
@@ -31,8 +32,10 @@ fn distinct_names(alloc: Global, names: &[Text]) -> Result<IndexSet<Text>, Latti
 /// The level of this name.
 fn level_named(levels: &IndexSet<Text>, name: &Text) -> Result<Level, LatticeFault>
     requires { length levels.now.keys < 256 }
-    ensures found { IfOk result (λ l. (l.0 < length levels.now.keys) × (nth levels.now.keys l.0 ≡ name.now)) }
-    ensures fault { IfErr result (λ fault. fault ≢ LatticeFault.NoMemory → (fault ≡ LatticeFault.Unknown name.now) × (¬ IsLevel levels.now.keys name.now)) }
+    ensures found { IfOk result (λ l. (l.0 < length levels.now.keys)
+        × (nth levels.now.keys l.0 ≡ name.now)) }
+    ensures fault { IfErr result (λ fault. fault ≢ LatticeFault.NoMemory
+        → (fault ≡ LatticeFault.Unknown name.now) × (¬ IsLevel levels.now.keys name.now)) }
 {
     match levels.get_index_of(name) {
         Some(place) => Ok(Level(place as u8)),
@@ -41,16 +44,18 @@ fn level_named(levels: &IndexSet<Text>, name: &Text) -> Result<Level, LatticeFau
 }
 
 /// The table that relates each level to itself and the levels of each pair.
-fn given_rows(
+fn given_relation(
     alloc: Global,
     levels: &IndexSet<Text>,
     below: &[Pair],
 ) -> Result<Vec<LevelSet>, LatticeFault>
     requires { AreApart levels.now.keys }
-    ensures found { IfOk result (λ rows. HoldPairs (length below.now) levels.now.keys below.now rows.items) }
-    ensures fault { IfErr result (λ fault. fault ≢ LatticeFault.NoMemory → IsFault levels.now.keys below.now fault) }
+    ensures found { IfOk result (λ rows. HoldPairs (length below.now) levels.now.keys below.now
+        rows.items) }
+    ensures fault { IfErr result (λ fault. fault ≢ LatticeFault.NoMemory
+        → IsFault levels.now.keys below.now fault) }
 {
-    let mut rows = equal_rows(alloc, levels.len() as u8)?;
+    let mut rows = equality(alloc, levels.len() as u8)?;
     for pair in below {
         let low = level_named(levels, &pair.low)?;
         let high = level_named(levels, &pair.high)?;
@@ -78,10 +83,12 @@ pub(crate) fn numbered(
     below: &[Pair],
 ) -> Result<(Vec<Text>, Vec<LevelSet>), LatticeFault>
     requires { AreNamed names.now }
-    ensures found { IfOk result (λ given. (given.0.items ≡ names.now) × AreApart names.now × HoldPairs (length below.now) names.now below.now given.1.items) }
-    ensures fault { IfErr result (λ fault. fault ≢ LatticeFault.NoMemory → IsFault names.now below.now fault) }
+    ensures found { IfOk result (λ given. (given.0.items ≡ names.now) × AreApart names.now
+        × HoldPairs (length below.now) names.now below.now given.1.items) }
+    ensures fault { IfErr result (λ fault. fault ≢ LatticeFault.NoMemory
+        → IsFault names.now below.now fault) }
 {
     let levels = distinct_names(alloc, names)?;
-    let rows = given_rows(alloc, &levels, below)?;
+    let rows = given_relation(alloc, &levels, below)?;
     Ok((copied(alloc, levels.as_slice())?, rows))
 }

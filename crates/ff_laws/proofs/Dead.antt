@@ -2,8 +2,8 @@
 use Rattle.std.proofs.Common.{◌≡◌, ℕ, Bool, true, false, cond, ◌==◌, Option, Some, None, List, [], ◌∷◌, ◌++◌, map, find, refl, ap, ◌∙◌, eq-eqb}
 use Rattle.std.proofs.lemmas.Bool.{or_left, or_right}
 use Rattle.std.specs.List.{list_any}
-use Rattle.ff_reactive.specs.Runs.{Handled, plain, plain_from}
-use Rattle.ff_reactive.specs.Turns.{settle, machine_of}
+use Rattle.ff_confinement.specs.Runs.{Handled, plain, plain_from}
+use Rattle.ff_confinement.specs.Turns.{settle, machine_of}
 use Rattle.ff_tree.specs.declared.tree.Expr.{Expr}
 use Rattle.ff_value.specs.declared.ids.PageId.{PageId}
 use Rattle.ff_value.specs.declared.ids.WinId.{WinId}

@@ -1,7 +1,7 @@
 -- What each step of the stores makes is later than they were.
 use Rattle.std.proofs.Common.{ℕ, ◌≤◌, Bool, true, false, cond, Option, Some, None, List, [], ◌∷◌, length, arith, refl, length-append, length-set}
 use Rattle.std.specs.Prelude.{⊤}
-use Rattle.ff_reactive.specs.Turns.{Stepped}
+use Rattle.ff_confinement.specs.Turns.{Stepped}
 use Rattle.ff_name.specs.declared.urls.Url.{Url}
 use Rattle.ff_name.specs.declared.urls.Url.TheVariants as url
 use Rattle.ff_tree.specs.declared.tree.Doc.{Doc}
@@ -24,15 +24,15 @@ use Rattle.ff_machine.specs.Stores as stores
 use Rattle.ff_machine.specs.Stores.{Stores}
 use Rattle.ff_machine.specs.References.{Grows, made}
 use Rattle.ff_laws.specs.Later.{IsSamePage, AreLaterWindows, AreLater}
-use Rattle.ff_laws.proofs.LaterWindows as later
+use Rattle.ff_laws.proofs.LaterWindows as windows_later
 
 -- nothing changes
 pub unchanged : (s : Stores) → AreLater s s
-unchanged s = record { nodes = omega arith; windows = later.unchanged s.windows; mass = omega arith }
+unchanged s = record { nodes = omega arith; windows = windows_later.unchanged s.windows; mass = omega arith }
 
 -- one change and then another
 pub both : (a b c : Stores) → AreLater a b → AreLater b c → AreLater a c
-both a b c g h = record { nodes = omega (arith, g.nodes, h.nodes); windows = later.both a.windows b.windows c.windows g.windows h.windows; mass = omega (arith, g.mass, h.mass) }
+both a b c g h = record { nodes = omega (arith, g.nodes, h.nodes); windows = windows_later.both a.windows b.windows c.windows g.windows h.windows; mass = omega (arith, g.mass, h.mass) }
 
 -- other windows alone
 pub other_windows : (s : Stores) (w : Windows) → AreLaterWindows s.windows w → AreLater s (record s { windows = w })
@@ -40,7 +40,7 @@ other_windows s w h = record { nodes = omega arith; windows = h; mass = omega ar
 
 -- other nodes alone, at least as many
 pub other_nodes : (s : Stores) (nodes : List Node) → length s.nodes ≤ length nodes → AreLater s (record s { nodes = nodes })
-other_nodes s nodes le = record { nodes = le; windows = later.unchanged s.windows; mass = omega arith }
+other_nodes s nodes le = record { nodes = le; windows = windows_later.unchanged s.windows; mass = omega arith }
 
 -- what follows a step is later than what was before it
 pub then_later : (s : Stores) (first : Stepped Out Stores) (next : Stores → Stepped Out Stores) → AreLater s first.after → AreLater first.after (next first.after).after
@@ -71,7 +71,7 @@ one_of s false x y g h = h
 
 -- a request is sent
 pub sent : (s : Stores) (domain uri body : List ℕ) (to : Dst) → AreLater s (stores.sent s domain uri body to).after
-sent s domain uri body to = record { nodes = omega arith; windows = later.unchanged s.windows; mass = omega arith }
+sent s domain uri body to = record { nodes = omega arith; windows = windows_later.unchanged s.windows; mass = omega arith }
 
 -- the same where there is room
 pub send : (s : Stores) (domain uri body : List ℕ) (to : Dst) → MaybeLater s (stores.send s domain uri body to)
@@ -81,7 +81,7 @@ send s domain uri body to = if_room s (stores.has_ask_room s domain) (stores.sen
 
 -- the queue of a page was changed
 pub queue_changed : (s : Stores) (p : PageId) (page : Page) → IsSamePage (page_at s.windows p) page → AreLater s (record s { windows = windows.set_page s.windows p page })
-queue_changed s p page is = other_windows s (windows.set_page s.windows p page) (later.other_queue s.windows p page is)
+queue_changed s p page is = other_windows s (windows.set_page s.windows p page) (windows_later.other_queue s.windows p page is)
 
 queued : (s : Stores) (page : PageId) (body : Expr) → AreLater s (stores.queued s page body).after
 queued s page body = queue_changed s page _ (record { url = refl; win = refl; root = refl; act = refl })
@@ -134,7 +134,7 @@ start page n s = start_each page (nodes.scripts s.nodes n) s
 pub page_more : (s : Stores) (w : WinId) (u : Url) (docs : List Doc) → AreLater s (stores.with_page s w u docs)
 page_more s w u docs = record {
   nodes = omega (arith, length-append s.nodes ((stores.page_tree s docs).nodes (length s.nodes) None));
-  windows = later.page_more s.windows u w (nodes.next_node s.nodes);
+  windows = windows_later.page_more s.windows u w (nodes.next_node s.nodes);
   mass = omega arith;
 }
 
@@ -143,7 +143,7 @@ pub page_shown : (s : Stores) (w : WinId) (u : Url) (docs : List Doc) → AreLat
 page_shown s w u docs =
     let t = stores.with_page s w u docs in
     let h = page_more s w u docs in
-    record { nodes = h.nodes; windows = later.another_shown s.windows t.windows h.windows (windows.next_page s.windows) (omega arith) w; mass = h.mass }
+    record { nodes = h.nodes; windows = windows_later.another_shown s.windows t.windows h.windows (windows.next_page s.windows) (omega arith) w; mass = h.mass }
 
 -- a page is loaded
 pub loaded : (s : Stores) (w : WinId) (u : Url) (docs : List Doc) → AreLater s (stores.loaded s w u docs).after

@@ -4,7 +4,7 @@ use Rattle.std.specs.Prelude.{⊤}
 use Rattle.std.proofs.lemmas.Bool.{and_parts, leb-true}
 use Rattle.ff_operators.specs.Limits.{most_mass}
 use Rattle.std.specs.Ordering.{int_eq}
-use Rattle.ff_reactive.specs.Turns.{Stepped}
+use Rattle.ff_confinement.specs.Turns.{Stepped}
 use Rattle.ff_name.specs.Address.{printed}
 use Rattle.ff_name.specs.Reading.{read_url}
 use Rattle.ff_name.specs.declared.urls.Url.{Url}

@@ -1,7 +1,7 @@
 -- Windows, nodes, cookies and replies: each step leaves later stores.
 use Rattle.std.proofs.Common.{ℕ, ◌≤◌, Bool, true, false, cond, Option, Some, None, List, [], length, slice_get, arith, refl, length-set}
 use Rattle.std.specs.Prelude.{⊤}
-use Rattle.ff_reactive.specs.Turns.{Stepped}
+use Rattle.ff_confinement.specs.Turns.{Stepped}
 use Rattle.ff_name.specs.declared.urls.Url.{Url}
 use Rattle.ff_name.specs.declared.urls.Url.TheVariants as url
 use Rattle.ff_tree.specs.declared.tree.Expr.{Expr}

@@ -1,8 +1,8 @@
 -- A turn leaves later stores, and so does all that an input brings about.
 use Rattle.std.proofs.Common.{◌≡◌, ℕ, zero, suc, Bool, true, false, cond, Option, Some, None, List, [], ◌∷◌, refl, sym, subst}
 use Rattle.std.specs.Prelude.{⊤}
-use Rattle.ff_reactive.specs.Runs.{Handled}
-use Rattle.ff_reactive.specs.Turns.{Stepped, settle, machine_of}
+use Rattle.ff_confinement.specs.Runs.{Handled}
+use Rattle.ff_confinement.specs.Turns.{Stepped, settle, machine_of}
 use Rattle.ff_tree.specs.declared.tree.Expr.{Expr}
 use Rattle.ff_name.specs.declared.urls.Url.{Url}
 use Rattle.ff_name.specs.declared.urls.Url.TheVariants as url

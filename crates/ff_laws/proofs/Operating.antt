@@ -2,7 +2,7 @@
 use Rattle.std.proofs.Common.{◌≡◌, ℕ, ◌<◌, Bool, true, false, cond, ℤ, Option, Some, None, Result, Ok, Err, List, [], ◌∷◌, length, All, refl}
 use Rattle.std.specs.Str.{IsUtf8}
 use Rattle.std.proofs.lemmas.List.Elements.{All-head, All-tail}
-use Rattle.ff_reactive.specs.Turns.{Stepped}
+use Rattle.ff_confinement.specs.Turns.{Stepped}
 use Rattle.ff_name.specs.Address.{IsWellSpelled, Spells, IsRequest}
 use Rattle.ff_name.specs.Address.Spells.{as_printed, with_no_request}
 use Rattle.ff_name.specs.Reading.{read_url}

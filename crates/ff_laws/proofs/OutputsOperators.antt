@@ -4,7 +4,7 @@ use Rattle.std.specs.Prelude.{⊤}
 use Rattle.std.specs.Str.{IsUtf8}
 use Rattle.std.proofs.lemmas.List.Elements.{All-head, All-tail}
 use Rattle.std.proofs.lemmas.Str.{IsUtf8-nil}
-use Rattle.ff_reactive.specs.Turns.{Stepped}
+use Rattle.ff_confinement.specs.Turns.{Stepped}
 use Rattle.ff_name.specs.Address.{IsWellSpelled}
 use Rattle.ff_name.specs.Reading.{read_url}
 use Rattle.ff_name.specs.declared.urls.Url.{Url}

@@ -1,9 +1,9 @@
 -- Runs over well spelled inputs put well spelled outputs.
 use Rattle.std.proofs.Common.{ℕ, ◌+◌, List, [], ◌∷◌, All}
 use Rattle.std.proofs.lemmas.List.Elements.{All-nil, All-cons, All-head, All-tail}
-use Rattle.ff_reactive.specs.Runs.{plain, plain_from}
-use Rattle.ff_reactive.specs.Turns.{KeepsOk, machine_of}
-use Rattle.ff_reactive.proofs.Turns.{machine_outputs_ok}
+use Rattle.ff_confinement.specs.Runs.{plain, plain_from}
+use Rattle.ff_confinement.specs.Turns.{KeepsOk, machine_of}
+use Rattle.ff_confinement.proofs.Turns.{machine_outputs_ok}
 use Rattle.ff_value.specs.Spelled.{IsWellSpelledInput}
 use Rattle.ff_value.specs.declared.input.Input.{Input}
 use Rattle.ff_machine.specs.State.{State, empty}

@@ -7,7 +7,7 @@ use Rattle.std.specs.FinSet as finset
 use Rattle.std.proofs.lemmas.Bool.{and_parts}
 use Rattle.std.proofs.lemmas.List.Elements.{All-nil, All-cons, All-append, All-weaker}
 use Rattle.std.proofs.lemmas.Str.{IsUtf8-nil}
-use Rattle.ff_reactive.specs.Turns.{Stepped}
+use Rattle.ff_confinement.specs.Turns.{Stepped}
 use Rattle.ff_name.specs.Spelling.{IsDomain}
 use Rattle.ff_name.specs.Address.{IsRequest, IsWellSpelled}
 use Rattle.ff_name.specs.declared.urls.Url.{Url}

@@ -3,7 +3,7 @@ use Rattle.std.proofs.Common.{◌≡◌, ℕ, zero, suc, Bool, true, false, cond
 use Rattle.std.specs.Prelude.{⊤}
 use Rattle.std.specs.FinMap as finmap
 use Rattle.std.proofs.lemmas.List.Elements.{All-head}
-use Rattle.ff_reactive.specs.Turns.{Stepped}
+use Rattle.ff_confinement.specs.Turns.{Stepped}
 use Rattle.ff_name.specs.Spelling.{IsDomain}
 use Rattle.ff_name.specs.Address.{IsWellSpelled}
 use Rattle.ff_name.specs.declared.urls.Url.{Url}

@@ -2,8 +2,8 @@
 use Rattle.std.proofs.Common.{◌≡◌, ℕ, zero, suc, ◌+◌, true, false, Option, Some, None, List, [], ◌∷◌, refl, sym, ◌∙◌}
 use Rattle.std.proofs.lemmas.Bool.{false≢true}
 use Rattle.std.specs.Prelude.{⊤}
-use Rattle.ff_reactive.specs.Turns.{KeepsOk, machine_of}
-use Rattle.ff_reactive.proofs.Turns.{machine_handle_ok}
+use Rattle.ff_confinement.specs.Turns.{KeepsOk, machine_of}
+use Rattle.ff_confinement.proofs.Turns.{machine_handle_ok}
 use Rattle.ff_tree.specs.declared.tree.Expr.{Expr}
 use Rattle.ff_value.specs.declared.ids.PageId.{PageId}
 use Rattle.ff_value.specs.declared.input.Input.{Input}

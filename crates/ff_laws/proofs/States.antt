@@ -2,9 +2,9 @@
 use Rattle.std.proofs.Common.{◌≡◌, ℕ, zero, suc, ◌+◌, ◌<◌, ◌≤◌, ◌⊎◌, inl, inr, Bool, true, false, Option, Some, None, List, [], ◌∷◌, All, arith, refl, ◌∙◌}
 use Rattle.std.specs.Prelude.{⊤}
 use Rattle.std.proofs.lemmas.List.Elements.{All-head, All-tail}
-use Rattle.ff_reactive.specs.Runs.{after_from, after}
-use Rattle.ff_reactive.specs.Turns.{KeepsOk, machine_of}
-use Rattle.ff_reactive.proofs.Turns.{machine_handle_ok}
+use Rattle.ff_confinement.specs.Runs.{after_from, after}
+use Rattle.ff_confinement.specs.Turns.{KeepsOk, machine_of}
+use Rattle.ff_confinement.proofs.Turns.{machine_handle_ok}
 use Rattle.ff_tree.specs.declared.tree.Expr.{Expr}
 use Rattle.ff_value.specs.Spelled.{IsWellSpelledInput}
 use Rattle.ff_value.specs.declared.ids.PageId.{PageId}

@@ -1,6 +1,6 @@
 -- What a change of stores keeps.
 use Rattle.std.specs.Prelude.{Option, Some, None, ⊤}
-use Rattle.ff_reactive.specs.Turns.{Stepped}
+use Rattle.ff_confinement.specs.Turns.{Stepped}
 use Rattle.ff_value.specs.declared.output.Out.{Out}
 use Rattle.ff_machine.specs.References.{Grows, made}
 use Rattle.ff_machine.specs.Stores.{Stores}

@@ -1,6 +1,8 @@
 //! Laws of the written machine: what its definitions keep, proved once for all crates that cite
 //! them.
 //!
+//! Floor: one browser. It knows of no levels.
+//!
 //! The crate has no function that computes: each function has a law for its contract, and the
 //! lemmas that bodies above cite stand in `proofs/`.
 //!

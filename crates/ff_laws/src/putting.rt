@@ -1,6 +1,6 @@
 ghost use Rattle.std.specs.Prelude.{◌≡◌, ℕ, false, List, All};
-ghost use Rattle.ff_reactive.specs.Runs.{plain};
-ghost use Rattle.ff_reactive.specs.Turns.{KeepsOk, machine_of};
+ghost use Rattle.ff_confinement.specs.Runs.{plain};
+ghost use Rattle.ff_confinement.specs.Turns.{KeepsOk, machine_of};
 ghost use Rattle.ff_tree.specs.declared.op.Op.{Op};
 ghost use Rattle.ff_value.specs.Spelled.{IsWellSpelledInput};
 ghost use Rattle.ff_value.specs.declared.ids.PageId.{PageId};
@@ -22,16 +22,23 @@ ghost use Rattle.ff_laws.specs.Puts.{IsOut, AreOuts, OutsUnlessFault, OutsIfMove
 /// their keys: what taking a well spelled input puts, a turn whose tasks are valid, an operator
 /// with valid operands, and one reduction of a valid evaluation.
 pub fn what_is_put_is_well_spelled()
-    ensures begin { (s : State) (i : Input) → IsStores s.stores → IsWellSpelledInput i → AreOuts (begin s i).outputs }
-    ensures turn { (s : State) → IsStores s.stores → All (IsTask s.stores) s.tasks → AreOuts (turn s).outputs }
-    ensures operator { (s : Stores) (page : PageId) → IsStores s → (op : Op) (args : List Val) → All (IsVal (made s)) args → OutsUnlessFault (operate s page op args) }
-    ensures reduction { (s : Stores) (page : PageId) (t : Evaluation) → IsStores s → IsRunning (made s) t.expr → is_value t.expr ≡ false → OutsIfMoved (Red s page t) }
+    ensures begin { (s : State) (i : Input) → IsStores s.stores → IsWellSpelledInput i
+        → AreOuts (begin s i).outputs }
+    ensures turn { (s : State) → IsStores s.stores → All (IsTask s.stores) s.tasks
+        → AreOuts (turn s).outputs }
+    ensures operator { (s : Stores) (page : PageId) → IsStores s → (op : Op) (args : List Val)
+        → All (IsVal (made s)) args → OutsUnlessFault (operate s page op args) }
+    ensures reduction { (s : Stores) (page : PageId) (t : Evaluation) → IsStores s
+        → IsRunning (made s) t.expr → is_value t.expr ≡ false → OutsIfMoved (Red s page t) }
 {}
 
 /// From valid states and well spelled inputs the browser puts such outputs alone: at each step, in
 /// all that an input brings about, however many turns that may take, and in a whole run.
 pub fn what_a_run_puts_is_well_spelled()
-    ensures reactor { (budget : ℕ) → KeepsOk (reactor budget) IsWellSpelledInput (IsState budget) IsOut }
-    ensures handled { (budget most : ℕ) (s : State) (i : Input) → IsState budget s → IsWellSpelledInput i → AreOuts ((machine_of (reactor budget) most).handle s i).outputs }
-    ensures run { (budget : ℕ) (is : List Input) → All IsWellSpelledInput is → All AreOuts (plain (browser budget) is) }
+    ensures reactor { (budget : ℕ) → KeepsOk (reactor budget) IsWellSpelledInput (IsState budget)
+        IsOut }
+    ensures handled { (budget most : ℕ) (s : State) (i : Input) → IsState budget s
+        → IsWellSpelledInput i → AreOuts ((machine_of (reactor budget) most).handle s i).outputs }
+    ensures run { (budget : ℕ) (is : List Input) → All IsWellSpelledInput is
+        → All AreOuts (plain (browser budget) is) }
 {}

@@ -1,7 +1,7 @@
 -- Runs put together from what each input and each turn gives.
 use Rattle.std.proofs.Common.{◌≡◌, ℕ, zero, suc, true, false, cond, List, [], ◌∷◌, ◌++◌, refl, ap, ◌∙◌}
-use Rattle.ff_reactive.specs.Runs.{Machine, Handled, plain_from}
-use Rattle.ff_reactive.specs.Turns.{Stepped, Reactor, settle, machine_of}
+use Rattle.ff_confinement.specs.Runs.{Machine, Handled, plain_from}
+use Rattle.ff_confinement.specs.Turns.{Stepped, Reactor, settle, machine_of}
 
 module _ {I O S : Type 0} (r : Reactor I O S) where
   -- a quiet state makes no turn

@@ -1,8 +1,8 @@
 -- Fuel: an input brings the browser's, and each turn spends some of it or is the last.
 use Rattle.std.proofs.Common.{◌≡◌, ℕ, zero, suc, ◌+◌, ◌<◌, ◌⊎◌, inl, inr, Bool, true, false, cond, Option, Some, None, List, [], ◌∷◌, arith, refl, ◌∙◌}
 use Rattle.std.specs.Prelude.{⊤}
-use Rattle.ff_reactive.specs.Turns.{Stepped, machine_of, KeepsOk, IsFuelled}
-use Rattle.ff_reactive.proofs.Turns.{handle_quiet, machine_handle_ok}
+use Rattle.ff_confinement.specs.Turns.{Stepped, machine_of, KeepsOk, IsFuelled}
+use Rattle.ff_confinement.proofs.Turns.{handle_quiet, machine_handle_ok}
 use Rattle.ff_tree.specs.declared.tree.Expr.{Expr}
 use Rattle.ff_name.specs.declared.urls.Url.{Url}
 use Rattle.ff_name.specs.declared.urls.Url.TheVariants as url

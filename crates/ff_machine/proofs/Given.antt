@@ -3,8 +3,8 @@ use Rattle.std.proofs.Common.{◌≡◌, ℕ, suc, ◌+◌, ◌≤◌, true, fal
 use Rattle.std.specs.Prelude.{codes}
 use Rattle.std.specs.FinMap as finmap
 use Rattle.std.specs.FinSet as finset
-use Rattle.ff_reactive.specs.Runs.{Machine, plain}
-use Rattle.ff_reactive.specs.Turns.{machine_of}
+use Rattle.ff_confinement.specs.Runs.{Machine, plain}
+use Rattle.ff_confinement.specs.Turns.{machine_of}
 use Rattle.ff_name.specs.declared.urls.Url.TheVariants as url
 use Rattle.ff_value.specs.declared.ids.NodeId.{NodeId}
 use Rattle.ff_value.specs.declared.input.Input.{Input}

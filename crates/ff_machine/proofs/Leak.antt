@@ -5,7 +5,7 @@ use Rattle.std.specs.Ordering.{nat_cmp}
 use Rattle.std.specs.Cmp.Lexicographic.{slice_cmp}
 use Rattle.std.specs.FinMap as finmap
 use Rattle.std.specs.FinSet as finset
-use Rattle.ff_reactive.specs.Runs.{plain}
+use Rattle.ff_confinement.specs.Runs.{plain}
 use Rattle.ff_name.specs.Reading.{read_url}
 use Rattle.ff_tree.specs.declared.op.Op.TheVariants as op
 use Rattle.ff_value.specs.Weight.{resp_weight}
@@ -38,7 +38,7 @@ use Rattle.ff_machine.proofs.Given.{root_of, leaf, waiting, answered, with_home,
 use Rattle.ff_machine.proofs.Maps.{no_pairs, room_first, touched_none, touched_last}
 use Rattle.ff_machine.proofs.Laying.{laid-TextBox, laid-Button, handler-code}
 use Rattle.ff_machine.proofs.Weights.{weight-TextBox, weight-Button, weight-Handler, weight-Lit, weight-Make, weight-Prim}
-use Rattle.ff_machine.proofs.Rows.{handles_opening, loads_page, loaded_tree, lays, under_root}
+use Rattle.ff_machine.proofs.Worked.{handles_opening, loads_page, loaded_tree, lays, under_root}
 
 -- The page: a box b, and a button g whose handler asks.
 

@@ -5,7 +5,7 @@ pub mod Laying
 pub mod Weights
 pub mod Derived
 pub mod Given
-pub mod Rows
+pub mod Worked
 pub mod Texts
 pub mod Scripts
 pub mod Leak

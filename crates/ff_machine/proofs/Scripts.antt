@@ -3,8 +3,8 @@ use Rattle.std.proofs.Common.{◌≡◌, ℕ, suc, ◌≤◌, pos, true, false, 
 use Rattle.std.specs.Prelude.{codes}
 use Rattle.std.specs.FinMap as finmap
 use Rattle.std.specs.FinSet as finset
-use Rattle.ff_reactive.specs.Runs.{plain}
-use Rattle.ff_reactive.specs.Turns.{settle}
+use Rattle.ff_confinement.specs.Runs.{plain}
+use Rattle.ff_confinement.specs.Turns.{settle}
 use Rattle.ff_tree.specs.declared.op.Op.TheVariants as op
 use Rattle.ff_tree.specs.declared.tree.Expr.{Expr}
 use Rattle.ff_tree.specs.declared.tree.Lit.TheVariants as lit
@@ -41,7 +41,7 @@ use Rattle.ff_machine.proofs.Given.{root_of, leaf, waiting, answered, with_home,
 use Rattle.ff_machine.proofs.Maps.{no_pairs, room_first, same_domain, asked_one, answered_one, touched_none}
 use Rattle.ff_machine.proofs.Laying.{laid-Text, laid-Script, laid-Src}
 use Rattle.ff_machine.proofs.Weights.{weight-Text, weight-Script, weight-Src, weight-Lit, weight-Prim}
-use Rattle.ff_machine.proofs.Rows.{handles_opening, loads_page, loaded_tree, lays, under_root}
+use Rattle.ff_machine.proofs.Worked.{handles_opening, loads_page, loaded_tree, lays, under_root}
 use Rattle.ff_machine.proofs.Texts.{IsText, weight_set, at, sets_text, shows_text}
 
 -- A fault: `(text x ..) (script s (+ 9223372036854775807 1)) (script t (set-text .. "ok"))`.

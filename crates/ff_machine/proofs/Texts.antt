@@ -4,7 +4,7 @@ use Rattle.std.specs.Prelude.{codes}
 use Rattle.std.specs.FinMap as finmap
 use Rattle.std.specs.FinSet as finset
 use Rattle.ff_operators.specs.Limits.{most_mass}
-use Rattle.ff_reactive.specs.Turns.{settle}
+use Rattle.ff_confinement.specs.Turns.{settle}
 use Rattle.ff_tree.specs.declared.op.Op.TheVariants as op
 use Rattle.ff_tree.specs.Weight.{string, expr_weight}
 use Rattle.ff_value.specs.declared.ids.NodeId.{NodeId}

@@ -12,7 +12,7 @@ use Rattle.ff_name.specs.declared.urls.Url.TheVariants as url
 use Rattle.ff_operators.specs.declared.answer.Applied.{Applied}
 use Rattle.ff_operators.specs.Operands.{with_operands, no_operands, one_str, two_strs, one_win, win_str, one_node, node_str, node_num, node_str_num, nodes_num, node_code, strs_code}
 use Rattle.ff_operators.specs.Pure.{apply}
-use Rattle.ff_reactive.specs.Turns.{Stepped}
+use Rattle.ff_confinement.specs.Turns.{Stepped}
 use Rattle.ff_tree.specs.declared.op.Op.{Op}
 use Rattle.ff_tree.specs.declared.op.Op.TheVariants as op
 use Rattle.ff_value.specs.Spelled.{IsWellSpelledVal}

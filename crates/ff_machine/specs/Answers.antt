@@ -5,7 +5,7 @@ use Rattle.std.specs.Prelude.{◌≡◌, Bool, true, false, List, [], ◌++◌, 
 use Rattle.ff_contract.specs.Appending.{AppendsFront}
 use Rattle.ff_operators.specs.declared.answer.Fail.{Fail}
 use Rattle.ff_operators.specs.declared.answer.Fail.TheVariants as fail
-use Rattle.ff_reactive.specs.Turns.{Stepped}
+use Rattle.ff_confinement.specs.Turns.{Stepped}
 use Rattle.ff_value.specs.declared.fault.Fault.{Fault}
 use Rattle.ff_value.specs.declared.output.Out.{Out}
 use Rattle.ff_value.specs.declared.value.Val.{Val}

@@ -19,7 +19,7 @@ use Rattle.ff_value.specs.contracts.value.Val as val
 use Rattle.ff_value.specs.declared.value.Code.{Code}
 use Rattle.ff_machine.specs.contracts.records.Shape as shape
 use Rattle.ff_machine.specs.contracts.records.Entry as entry
-use Rattle.ff_machine.specs.contracts.records.Pending as pending
+use Rattle.ff_machine.specs.contracts.records.Pending as request
 use Rattle.ff_machine.specs.declared.records.Shape.{Shape}
 use Rattle.ff_machine.specs.declared.records.Entry.{Entry}
 use Rattle.ff_term.specs.Running.{Evaluation}
@@ -76,7 +76,7 @@ coded_jar = finmap.code (coded× (coded_list coded_ℕ) (coded_list coded_ℕ)) 
 
 -- of pending requests
 abbrev pub coded_requests : Coded Requests
-coded_requests = finmap.code (coded_list coded_ℕ) (coded_list pending.the_row.coded)
+coded_requests = finmap.code (coded_list coded_ℕ) (coded_list request.the_row.coded)
 
 -- of sets of pages
 abbrev pub coded_pages : Coded Pages

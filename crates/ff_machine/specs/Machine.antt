@@ -1,7 +1,7 @@
 -- One copy of the browser as a reactor, and as a machine.
 use Rattle.std.specs.Prelude.{ℕ, ◌+◌}
-use Rattle.ff_reactive.specs.Runs.{Machine}
-use Rattle.ff_reactive.specs.Turns.{Reactor, machine_of}
+use Rattle.ff_confinement.specs.Runs.{Machine}
+use Rattle.ff_confinement.specs.Turns.{Reactor, machine_of}
 use Rattle.ff_value.specs.declared.input.Input.{Input}
 use Rattle.ff_value.specs.declared.output.Out.{Out}
 use Rattle.ff_machine.specs.State.{State, empty}

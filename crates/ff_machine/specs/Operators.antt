@@ -1,7 +1,7 @@
 -- The operators on cookies, windows, nodes and requests: what each gives for its operands, what it
 -- leaves and what it puts, or why it fails. A fault changes nothing.
 use Rattle.std.specs.Prelude.{ℕ, cond, ◌==◌, ◌&&◌, ℤ, pos, nat_abs, int_lt, Option, Some, None, Result, Ok, Err, List, [], length, slice_get, option_and_then}
-use Rattle.ff_reactive.specs.Turns.{Stepped}
+use Rattle.ff_confinement.specs.Turns.{Stepped}
 use Rattle.ff_name.specs.Address.{printed}
 use Rattle.ff_name.specs.declared.urls.Url.{Url}
 use Rattle.ff_name.specs.declared.urls.Url.TheVariants as url

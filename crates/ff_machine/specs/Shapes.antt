@@ -94,8 +94,8 @@ may_have_handlers (shape.TextBox x text) = true
 may_have_handlers (shape.Button x text) = true
 may_have_handlers other = false
 
--- what the user is shown of it, where its children are shown as `parts`: nothing of a script, and no
--- page inside a page
+-- what the user is shown of it, where its children are shown as `parts`: nothing of a script, and
+-- no page inside a page
 abbrev pub shown_as : Shape → List ShownPart → List ShownPart
 shown_as (shape.Page page) parts = []
 shown_as (shape.Text x text) parts = shown_part.Text text ∷ []

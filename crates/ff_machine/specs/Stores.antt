@@ -4,7 +4,7 @@ use Rattle.std.specs.Prelude.{ℕ, ◌+◌, Bool, cond, ◌&&◌, nat_le, Option
 use Rattle.std.specs.Ordering.{nat_cmp}
 use Rattle.std.specs.FinMap as finmap
 use Rattle.std.specs.FinSet as finset
-use Rattle.ff_reactive.specs.Turns.{Stepped}
+use Rattle.ff_confinement.specs.Turns.{Stepped}
 use Rattle.ff_name.specs.declared.urls.Url.{Url}
 use Rattle.ff_name.specs.declared.urls.Url.TheVariants as url
 use Rattle.ff_tree.specs.declared.tree.Doc.{Doc}
@@ -18,7 +18,7 @@ use Rattle.ff_value.specs.declared.ids.NodeId.{NodeId}
 use Rattle.ff_value.specs.declared.output.Out.{Out}
 use Rattle.ff_value.specs.declared.output.Out.TheVariants as out
 use Rattle.ff_value.specs.declared.reply.CookieOp.{CookieOp}
-use Rattle.ff_value.specs.declared.reply.CookieOp.TheVariants as cookie_op
+use Rattle.ff_value.specs.declared.reply.CookieOp.TheVariants as cookie
 use Rattle.ff_machine.specs.declared.records.Dst.{Dst}
 use Rattle.ff_machine.specs.declared.records.Dst.TheVariants as dst
 use Rattle.ff_machine.specs.declared.records.Entry.TheVariants.{Ready}
@@ -266,8 +266,8 @@ take_answer s domain k = taken_out s domain k (slice_get (net.asked s.requests d
 
 -- one entry of a reply's cookies; one that can't be put is skipped
 abbrev pub put_cookie : List ℕ → CookieOp → Jar → Jar
-put_cookie domain (cookie_op.Put key value) jar = cond (is_some (net.cookie_fault jar domain key value)) jar (net.cookie_put jar domain key value)
-put_cookie domain (cookie_op.Drop key) jar = net.cookie_deleted jar domain key
+put_cookie domain (cookie.Put key value) jar = cond (is_some (net.cookie_fault jar domain key value)) jar (net.cookie_put jar domain key value)
+put_cookie domain (cookie.Drop key) jar = net.cookie_deleted jar domain key
 
 -- such entries one after another
 abbrev pub put_each : List ℕ → List CookieOp → Jar → Jar

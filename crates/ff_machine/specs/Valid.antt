@@ -14,7 +14,7 @@ use Rattle.ff_term.specs.Redex.{Redex}
 use Rattle.ff_term.specs.Running.{Running}
 use Rattle.ff_term.specs.declared.TheConstants.{MOST_CALLS}
 use Rattle.ff_term.specs.Calls.{CallsStandAround, calls_around}
-use Rattle.ff_term.specs.Meets.{Conditions, Meets}
+use Rattle.ff_term.specs.Conditions.{Conditions, Satisfies}
 use Rattle.ff_term.specs.Redexes.{GivesSound}
 use Rattle.ff_machine.specs.declared.records.Shape.TheVariants as shape
 use Rattle.ff_machine.specs.Shapes.{is_started}
@@ -55,7 +55,7 @@ valid m = record {
 
 -- a runtime expression whose values, activations, names, functions and documents are valid
 abbrev pub IsRunning : Made → Running → Type 0
-IsRunning m e = Meets (valid m) e
+IsRunning m e = Satisfies (valid m) e
 
 -- the same of what a redex hands out
 abbrev pub IsRedex : Made → Redex → Type 0

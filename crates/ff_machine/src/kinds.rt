@@ -5,10 +5,13 @@ use ff_name::Worded;
 pub enum Kind {
     /// The root of a page.
     Page,
+    /// A text.
     Text,
+    /// A link.
     Link,
     /// A box, into which the user types.
     TextBox,
+    /// A button, with handlers.
     Button,
     /// An inline script.
     Script,

@@ -1,6 +1,8 @@
 //! The written machine: what one copy of the browser is, as definitions, and the small types in
 //! which they and the program speak alike.
 //!
+//! Floor: one browser. It knows of no levels.
+//!
 //! This crate has no functions but copies. Its definitions (`specs/`) are what the contracts of all
 //! stores, of the reduction and of the browser cite, and no crate above writes a second one.
 //! `docs/MACHINE.md` says the same in words.
@@ -19,7 +21,7 @@
 //! - `Operators`: what each operator of the script language does with its operands, or why it
 //!   fails. `Reduction`: the one reduction of a runtime expression (`Red`), by its redex.
 //! - `State`, `Inputs`, `Turns`: the state of a browser, what it makes of an input (`begin`), and
-//!   one turn (`turn`). `Machine` has them as the reactor whose runs `ff_reactive` speaks of.
+//!   one turn (`turn`). `Machine` has them as the reactor whose runs `ff_confinement` speaks of.
 //! - `Alone`, `References`, `Valid`: which stores are valid. A store keeps some of it by itself
 //!   (`Alone`); what refers to a window, page, node or activation refers to one that was made
 //!   (`References`); the rest holds across stores, of tasks and of states.

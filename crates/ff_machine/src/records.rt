@@ -8,15 +8,19 @@ use ff_value::{Body, Code, PageId, WinId};
 pub enum Shape {
     /// The root of a page.
     Page(PageId),
+    /// A text: its name, and what it says.
     Text(Name, Text),
     /// A link: its name, its address and its label.
     Link(Name, Url, Text),
+    /// A text box: its name and its text.
     TextBox(Name, Text),
+    /// A button: its name and its label.
     Button(Name, Text),
     /// A script, and whether it was started.
     Script(Name, bool, Body),
     /// The address of a script, and whether it was started.
     Src(Name, bool, Url),
+    /// A division: its name.
     Div(Name),
 }
 
@@ -133,7 +137,9 @@ impl Dst {
 /// A request whose reply hasn't come: its request text, and what the reply is for.
 #[derive(Debug, Drop)]
 pub struct Pending {
+    /// The request text: what stands behind the domain.
     pub uri: Text,
+    /// What the reply is for.
     pub dst: Dst,
 }
 

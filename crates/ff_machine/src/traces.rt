@@ -1,5 +1,5 @@
 ghost use Rattle.std.specs.Prelude.{◌≡◌, ℕ, ◌≤◌};
-ghost use Rattle.ff_reactive.specs.Runs.{plain};
+ghost use Rattle.ff_confinement.specs.Runs.{plain};
 ghost use Rattle.ff_machine.specs.Machine.{browser};
 ghost use Rattle.ff_machine.specs.Traces.{page_load, leak, without_typing, fault_in_script, waiting_slot, queue_left};
 
@@ -10,12 +10,14 @@ pub fn a_page_is_loaded_once()
 
 /// A script that fails ends with its error, and the next script runs.
 pub fn a_fault_ends_its_script_alone()
-    ensures { (fuel : ℕ) → 8 ≤ fuel → plain (browser fuel) fault_in_script.inputs ≡ fault_in_script.outputs }
+    ensures { (fuel : ℕ) → 8 ≤ fuel → plain (browser fuel) fault_in_script.inputs
+        ≡ fault_in_script.outputs }
 {}
 
 /// A script that hasn't come holds back the next one.
 pub fn a_slot_holds_back_the_next_script()
-    ensures { (fuel : ℕ) → 12 ≤ fuel → plain (browser fuel) waiting_slot.inputs ≡ waiting_slot.outputs }
+    ensures { (fuel : ℕ) → 12 ≤ fuel → plain (browser fuel) waiting_slot.inputs
+        ≡ waiting_slot.outputs }
 {}
 
 /// With one fuel for each input a script is stopped, and the next one waits for the next input.
@@ -27,5 +29,6 @@ pub fn a_queue_waits_for_fuel()
 /// an empty text in its place.
 pub fn the_plain_machine_leaks()
     ensures typed { (fuel : ℕ) → 9 ≤ fuel → plain (browser fuel) leak.inputs ≡ leak.outputs }
-    ensures unseen { (fuel : ℕ) → 9 ≤ fuel → plain (browser fuel) without_typing.inputs ≡ without_typing.outputs }
+    ensures unseen { (fuel : ℕ) → 9 ≤ fuel → plain (browser fuel) without_typing.inputs
+        ≡ without_typing.outputs }
 {}

@@ -7,7 +7,7 @@ use Rattle.ff_name.specs.declared.urls.TheConstants.{MOST_REQUEST_BYTES}
 use Rattle.ff_name.specs.declared.urls.Url.{Url}
 use Rattle.ff_name.specs.declared.urls.Url.TheVariants.{Blank, At}
 use Rattle.ff_name.specs.declared.urls.UrlFault.{UrlFault}
-use Rattle.ff_name.specs.declared.urls.UrlFault.TheVariants as fault
+use Rattle.ff_name.specs.declared.urls.UrlFault.TheVariants as url_fault
 use Rattle.ff_name.proofs.Ascii.{domain_has_no_slash}
 
 IsSlashless : List ℕ → Type 0
@@ -143,7 +143,7 @@ none_without_scheme bytes isnt none url spells = elim (spells_cases bytes url sp
   | inr at ↦ none at.rest at.schemed
 ]
 
-pub only_scheme : (bytes : List ℕ) → ((rest : List ℕ) → bytes ≢ scheme ++ rest) → (which : UrlFault) → Faults bytes which → which ≡ fault.Scheme
+pub only_scheme : (bytes : List ℕ) → ((rest : List ℕ) → bytes ≢ scheme ++ rest) → (which : UrlFault) → Faults bytes which → which ≡ url_fault.Scheme
 only_scheme bytes none which (no_scheme isnt none') = refl
 only_scheme bytes none which (in_parts rest host request schemed parts wrong) = absurd (none rest schemed)
 
@@ -167,14 +167,14 @@ abbrev IsFoundAt : List ℕ → List ℕ → Url → Type 0
 IsFoundAt host request url = ArePassed host request × (url ≡ At host (request_or_slash request))
 
 abbrev IsFaultAt : List ℕ → List ℕ → UrlFault → Type 0
-IsFaultAt host request which = ((which ≡ fault.NoMemory) × ArePassed host request) ⊎ PartFaults host request which
+IsFaultAt host request which = ((which ≡ url_fault.NoMemory) × ArePassed host request) ⊎ PartFaults host request which
 
 -- what reading answers, from what it answers of the parts
 pub found_at : (bytes rest host request : List ℕ) → bytes ≡ scheme ++ rest → Parts rest host request → (answer : Result Url UrlFault) → IfOk answer (IsFoundAt host request) → IfOk answer (Spells bytes)
 found_at bytes rest host request schemed parts (Ok url) found = subst (Spells bytes) (sym found.1) (spells_from_parts bytes rest host request schemed parts found.0)
 found_at bytes rest host request schemed parts (Err which) found = tt
 
-pub only_at : (bytes rest host request : List ℕ) → bytes ≡ scheme ++ rest → Parts rest host request → (answer : Result Url UrlFault) → IfOk answer (IsFoundAt host request) → IfErr answer (IsFaultAt host request) → (url : Url) → Spells bytes url → (answer ≡ Ok url) ⊎ (answer ≡ Err fault.NoMemory)
+pub only_at : (bytes rest host request : List ℕ) → bytes ≡ scheme ++ rest → Parts rest host request → (answer : Result Url UrlFault) → IfOk answer (IsFoundAt host request) → IfErr answer (IsFaultAt host request) → (url : Url) → Spells bytes url → (answer ≡ Ok url) ⊎ (answer ≡ Err url_fault.NoMemory)
 only_at bytes rest host request schemed parts (Ok found) is_found wrong url spells =
     let only = only_parts bytes rest host request schemed parts url spells in
     inl (ap Ok (is_found.1 ∙ sym only.1))
@@ -185,7 +185,7 @@ only_at bytes rest host request schemed parts (Err which) is_found wrong url spe
       | inr part ↦ absurd (no_fault host request which only.0 part)
     ]
 
-pub fault_at : (bytes rest host request : List ℕ) → bytes ≡ scheme ++ rest → Parts rest host request → (answer : Result Url UrlFault) → IfErr answer (IsFaultAt host request) → IfErr answer (λ which. (which ≡ fault.NoMemory) ⊎ Faults bytes which)
+pub fault_at : (bytes rest host request : List ℕ) → bytes ≡ scheme ++ rest → Parts rest host request → (answer : Result Url UrlFault) → IfErr answer (IsFaultAt host request) → IfErr answer (λ which. (which ≡ url_fault.NoMemory) ⊎ Faults bytes which)
 fault_at bytes rest host request schemed parts (Ok url) wrong = tt
 fault_at bytes rest host request schemed parts (Err which) wrong = elim wrong [
   | inl memory ↦ inl memory.0

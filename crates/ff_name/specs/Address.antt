@@ -7,7 +7,7 @@ use Rattle.ff_name.specs.declared.urls.TheConstants.{MOST_REQUEST_BYTES}
 use Rattle.ff_name.specs.declared.urls.Url.{Url}
 use Rattle.ff_name.specs.declared.urls.Url.TheVariants.{Blank, At}
 use Rattle.ff_name.specs.declared.urls.UrlFault.{UrlFault}
-use Rattle.ff_name.specs.declared.urls.UrlFault.TheVariants as fault
+use Rattle.ff_name.specs.declared.urls.UrlFault.TheVariants as url_fault
 
 abbrev pub blank : List ℕ
 blank = codes "about:blank"
@@ -48,9 +48,9 @@ pub record Parts (bytes host request : List ℕ) : Type 0 where
 
 -- the first thing that is wrong with a host and a request text, in the order of the faults
 pub data PartFaults (host request : List ℕ) : UrlFault → Type 0 where
-  no_domain : ¬ IsDomain host → PartFaults host request fault.Domain
-  wrong_byte : IsDomain host → ¬ IsTrue (list_all stands_in_request request) → PartFaults host request fault.Uri
-  too_long : IsDomain host → IsTrue (list_all stands_in_request request) → MOST_REQUEST_BYTES < length request → PartFaults host request fault.Long
+  no_domain : ¬ IsDomain host → PartFaults host request url_fault.Domain
+  wrong_byte : IsDomain host → ¬ IsTrue (list_all stands_in_request request) → PartFaults host request url_fault.Uri
+  too_long : IsDomain host → IsTrue (list_all stands_in_request request) → MOST_REQUEST_BYTES < length request → PartFaults host request url_fault.Long
 
 -- nothing is wrong with them
 pub record ArePassed (host request : List ℕ) : Type 0 where
@@ -65,5 +65,5 @@ request_or_slash (b ∷ request) = b ∷ request
 
 -- the first thing that is wrong with bytes as an address
 pub data Faults (bytes : List ℕ) : UrlFault → Type 0 where
-  no_scheme : bytes ≢ blank → ((rest : List ℕ) → bytes ≢ scheme ++ rest) → Faults bytes fault.Scheme
+  no_scheme : bytes ≢ blank → ((rest : List ℕ) → bytes ≢ scheme ++ rest) → Faults bytes url_fault.Scheme
   in_parts : (rest host request : List ℕ) → bytes ≡ scheme ++ rest → Parts rest host request → {which : UrlFault} → PartFaults host request which → Faults bytes which

@@ -37,8 +37,10 @@ impl Model for Domain {
 impl Domain {
     /// The domain that these bytes spell, or `None` where they spell none.
     pub fn of(alloc: Global, bytes: &[u8]) -> Result<Option<Domain>, NoMemory>
-        ensures spelled { IfOk result (λ answer. MatchOption answer (¬ IsDomain bytes.now) (λ _. IsDomain bytes.now)) }
-        ensures value { IfOk result (λ answer. MatchOption answer (¬ IsDomain bytes.now) (λ domain. domain ≡ bytes.now)) }
+        ensures spelled { IfOk result (λ answer. MatchOption answer (¬ IsDomain bytes.now)
+            (λ _. IsDomain bytes.now)) }
+        ensures value { IfOk result (λ answer. MatchOption answer (¬ IsDomain bytes.now)
+            (λ domain. domain ≡ bytes.now)) }
     {
         if !is_domain(bytes) {
             return Ok(None);

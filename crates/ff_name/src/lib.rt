@@ -1,4 +1,6 @@
 //! The lowest values of the browser: texts, names, domains, addresses and levels.
+//!
+//! Floor: words. It knows not how they are written in a trace, and not who may see them.
 #![tactic(auto)]
 
 mod domains;

@@ -34,8 +34,10 @@ impl Name {
     /// The name that these bytes spell, or `None` where they spell none.
     #[tactic(auto, using(crate::proofs::Ascii::utf8))]
     pub fn of(alloc: Global, bytes: &[u8]) -> Result<Option<Name>, NoMemory>
-        ensures spelled { IfOk result (λ answer. MatchOption answer (¬ IsName bytes.now) (λ _. IsName bytes.now)) }
-        ensures value { IfOk result (λ answer. MatchOption answer (¬ IsName bytes.now) (λ name. name ≡ bytes.now)) }
+        ensures spelled { IfOk result (λ answer. MatchOption answer (¬ IsName bytes.now)
+            (λ _. IsName bytes.now)) }
+        ensures value { IfOk result (λ answer. MatchOption answer (¬ IsName bytes.now)
+            (λ name. name ≡ bytes.now)) }
     {
         if !is_name(bytes) {
             return Ok(None);

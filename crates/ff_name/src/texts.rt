@@ -47,8 +47,10 @@ impl Model for Text {
 impl Text {
     /// The text of these bytes, or `None` where they aren't UTF-8.
     pub fn of(alloc: Global, bytes: &[u8]) -> Result<Option<Text>, NoMemory>
-        ensures utf8 { IfOk result (λ answer. MatchOption answer (¬ IsUtf8 bytes.now) (λ _. IsUtf8 bytes.now)) }
-        ensures value { IfOk result (λ answer. MatchOption answer (¬ IsUtf8 bytes.now) (λ text. text ≡ bytes.now)) }
+        ensures utf8 { IfOk result (λ answer. MatchOption answer (¬ IsUtf8 bytes.now)
+            (λ _. IsUtf8 bytes.now)) }
+        ensures value { IfOk result (λ answer. MatchOption answer (¬ IsUtf8 bytes.now)
+            (λ text. text ≡ bytes.now)) }
     {
         match str::from_utf8(bytes) {
             Ok(_) => Ok(Some(Text::of_utf8(alloc, bytes)?)),

@@ -60,10 +60,13 @@ impl Url {
     pub fn read(alloc: Global, bytes: &[u8]) -> Result<Url, UrlFault>
         ensures found { IfOk result (Spells bytes.now) }
         ensures well_spelled { IfOk result IsWellSpelled }
-        ensures only { (url : Url) → Spells bytes.now url → Answers result (Ok url) (Err UrlFault.NoMemory) }
+        ensures only { (url : Url) → Spells bytes.now url
+            → Answers result (Ok url) (Err UrlFault.NoMemory) }
         // What is printed for an address is read back as that address.
-        ensures again { (url : Url) → IsWellSpelled url → bytes.now ≡ printed url → Answers result (Ok url) (Err UrlFault.NoMemory) }
-        ensures fault { IfErr result (λ fault. (fault ≡ UrlFault.NoMemory) ⊎ Faults bytes.now fault) }
+        ensures again { (url : Url) → IsWellSpelled url → bytes.now ≡ printed url
+            → Answers result (Ok url) (Err UrlFault.NoMemory) }
+        ensures fault { IfErr result (λ fault. (fault ≡ UrlFault.NoMemory)
+            ⊎ Faults bytes.now fault) }
         ensures exact { (fault : UrlFault) → Faults bytes.now fault → result ≡ Err fault }
     {
         if is_blank(bytes) {
@@ -108,14 +111,17 @@ fn is_blank(bytes: &[u8]) -> bool
 }
 
 fn strip_scheme(bytes: &[u8]) -> Option<&[u8]>
-    ensures { MatchOption result ((rest : List ℕ) → bytes.now ≢ address.scheme ++ rest) (λ rest. bytes.now ≡ address.scheme ++ rest.now) }
+    ensures { MatchOption result ((rest : List ℕ) → bytes.now ≢ address.scheme ++ rest)
+        (λ rest. bytes.now ≡ address.scheme ++ rest.now) }
 {
     bytes.strip_prefix(b"http://")
 }
 
 fn read_parts(alloc: Global, host: &[u8], request: &[u8]) -> Result<Url, UrlFault>
-    ensures found { IfOk result (λ url. ArePassed host.now request.now × (url ≡ Url.At host.now (request_or_slash request.now))) }
-    ensures fault { IfErr result (λ fault. ((fault ≡ UrlFault.NoMemory) × ArePassed host.now request.now) ⊎ PartFaults host.now request.now fault) }
+    ensures found { IfOk result (λ url. ArePassed host.now request.now
+        × (url ≡ Url.At host.now (request_or_slash request.now))) }
+    ensures fault { IfErr result (λ fault. ((fault ≡ UrlFault.NoMemory)
+        × ArePassed host.now request.now) ⊎ PartFaults host.now request.now fault) }
 {
     if let Err(fault) = check_parts(host, request) {
         return Err(fault);

@@ -6,5 +6,5 @@ pub mod Keyed
 pub mod Taken
 pub mod Recorded
 pub mod Climbing
-pub mod AskRows
-pub mod RowsOf
+pub mod AskLists
+pub mod ShrinkingLists

@@ -2,11 +2,11 @@
 ghost use Rattle.std.specs.Prelude.{◌≡◌, IfOk};
 ghost use Rattle.ff_net.specs.Asks.{is_to};
 
-use crate::rows::Rows;
+use crate::shrinking_list::ShrinkingList;
+use ff_contract::Steps;
 use ff_cow::Cell;
 use ff_machine::Pending;
 use ff_name::{Domain, NoMemory};
-use ff_steps::Steps;
 use std::marker::Model;
 use std::sync::ledger::Ledger;
 
@@ -55,7 +55,7 @@ impl<C: Ledger> Cell<C> for Ask {
 #[derive(Drop)]
 pub(crate) struct Asked {
     domain: Domain,
-    asks: Rows<Ask>,
+    asks: ShrinkingList<Ask>,
 }
 
 impl Model for Asked {
@@ -72,7 +72,7 @@ impl Model for Asked {
 }
 
 impl Asked {
-    pub(crate) fn of(domain: &Domain, asks: Rows<Ask>) -> Result<Asked, NoMemory>
+    pub(crate) fn of(domain: &Domain, asks: ShrinkingList<Ask>) -> Result<Asked, NoMemory>
         ensures { IfOk result (λ asked. asked ≡ (domain.now, asks)) }
     {
         Ok(Asked {
@@ -87,7 +87,7 @@ impl Asked {
         &self.domain
     }
 
-    pub(crate) fn asks(&self) -> &Rows<Ask>
+    pub(crate) fn asks(&self) -> &ShrinkingList<Ask>
         ensures { result.now ≡ self.now.1 }
     {
         &self.asks

@@ -10,13 +10,13 @@ ghost use Rattle.ff_records.specs.Restored.{Restores};
 
 use crate::ask::{Ask, Asked};
 use crate::requests::Requests;
-use crate::rows::Rows;
+use crate::shrinking_list::ShrinkingList;
+use ff_contract::Steps;
 use ff_machine::{Dst, Pending};
 use ff_name::{Domain, NoMemory};
 use ff_records::{AskRec, AskRecs};
 use ff_shared::OwnedList;
 use ff_spelling::{is_handler, is_request};
-use ff_steps::Steps;
 use std::alloc::{AllocError, Global};
 use std::collections::BTreeMap;
 use std::sync::ledger::Ledger;
@@ -36,8 +36,9 @@ impl Requests {
     }
 
     /// The requests that have these records, whose texts and functions they share. `None` exactly
-    /// where no valid requests have them: the domains aren't in order, a request text is not that of
-    /// an address, a callback is no well spelled function of one parameter, or there are too many.
+    /// where no valid requests have them: the domains aren't in order, a request text is not that
+    /// of an address, a callback is no well spelled function of one parameter, or there are too
+    /// many.
     pub fn restore<C: Ledger>(
         alloc: Global,
         recs: &AskRecs,
@@ -105,9 +106,10 @@ fn climb(recs: &[AskRec]) -> bool
 /// The requests of each domain, in the order of the domains.
 fn in_order(
     alloc: Global,
-    rows: &Rows<Asked>,
+    rows: &ShrinkingList<Asked>,
 ) -> Result<BTreeMap<Domain, OwnedList<Pending>>, NoMemory>
-    ensures { IfOk result (λ map. map.entries ≡ finmap.entries (finmap.from_entries {R = slice_cmp nat_cmp} rows.now)) }
+    ensures { IfOk result (λ map. map.entries
+        ≡ finmap.entries (finmap.from_entries {R = slice_cmp nat_cmp} rows.now)) }
 {
     let mut sorted = BTreeMap::new(alloc);
     let mut i = rows.len();
@@ -124,7 +126,7 @@ fn in_order(
 }
 
 /// Equal requests, which share their texts and functions.
-fn asks_again(alloc: Global, asks: &Rows<Ask>) -> Result<OwnedList<Pending>, NoMemory>
+fn asks_again(alloc: Global, asks: &ShrinkingList<Ask>) -> Result<OwnedList<Pending>, NoMemory>
     ensures { IfOk result (λ copies. copies ≡ asks.now) }
 {
     let mut copies = Vec::new(alloc);

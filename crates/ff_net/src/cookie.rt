@@ -6,11 +6,11 @@ ghost use Rattle.ff_net.specs.Entries.{AreApart};
 ghost use Rattle.ff_machine.specs.Net as net;
 ghost use Rattle.std.specs.FinMap as finmap;
 
-use crate::rows::Rows;
+use crate::shrinking_list::ShrinkingList;
+use ff_contract::Steps;
 use ff_cow::Cell;
 use ff_machine::{MOST_COOKIES, MOST_COOKIES_OF_DOMAIN, MOST_KEY_BYTES, MOST_VALUE_BYTES};
 use ff_name::{Domain, NoMemory, Text};
-use ff_steps::Steps;
 use ff_value::Pair;
 use std::marker::Model;
 use std::sync::ledger::Ledger;
@@ -29,7 +29,8 @@ impl Model for Cookie {
 
     ghost Value = { (List ℕ × List ℕ) × List ℕ };
 
-    ghost coded = { coded× (coded× (coded_list coded_ℕ) (coded_list coded_ℕ)) (coded_list coded_ℕ) };
+    ghost coded = { coded× (coded× (coded_list coded_ℕ) (coded_list coded_ℕ))
+        (coded_list coded_ℕ) };
 
     ghost view = { λ c. ((c.domain, c.key), c.value) };
 }
@@ -101,7 +102,7 @@ pub(crate) fn has_cookie_size(key: &Text, value: &Text) -> bool
 }
 
 /// How many of the cookies are the domain's.
-pub(crate) fn count_of(cookies: &Rows<Cookie>, domain: &Domain) -> u32
+pub(crate) fn count_of(cookies: &ShrinkingList<Cookie>, domain: &Domain) -> u32
     ensures { result ≡ count_by (is_of domain.now) cookies.now }
 {
     let mut count = 0;
@@ -114,7 +115,7 @@ pub(crate) fn count_of(cookies: &Rows<Cookie>, domain: &Domain) -> u32
 }
 
 /// The place of the domain's cookie with this key, or the number of cookies where there is none.
-pub(crate) fn place_of(cookies: &Rows<Cookie>, domain: &Domain, key: &[u8]) -> u32
+pub(crate) fn place_of(cookies: &ShrinkingList<Cookie>, domain: &Domain, key: &[u8]) -> u32
     ensures { result ≡ position_or_len (is_at domain.now key.now) cookies.now }
 {
     for i in 0..cookies.len() {
@@ -126,7 +127,7 @@ pub(crate) fn place_of(cookies: &Rows<Cookie>, domain: &Domain, key: &[u8]) -> u
 }
 
 /// Whether one cookie more of the domain is within the limits.
-pub(crate) fn has_room(cookies: &Rows<Cookie>, domain: &Domain) -> bool
+pub(crate) fn has_room(cookies: &ShrinkingList<Cookie>, domain: &Domain) -> bool
     requires { AreApart net.cookie_cmp cookies.now }
     ensures { result ≡ net.has_cookie_room (finmap.from_entries cookies.now) domain.now }
 {

@@ -2,17 +2,17 @@
 ghost use Rattle.std.specs.Prelude.{◌≡◌, IfOk, OnErr, OnOk};
 ghost use Rattle.std.specs.Option.{option_copied};
 ghost use Rattle.std.specs.FinMap as finmap;
-ghost use Rattle.ff_steps.specs.Rises.{RisesBy};
+ghost use Rattle.ff_contract.specs.Rises.{RisesBy};
 ghost use Rattle.ff_machine.specs.Alone.{IsJar};
 ghost use Rattle.ff_machine.specs.Net as net;
 ghost use Rattle.ff_operators.specs.Answers.{Answers};
 
 use crate::cookie::{Cookie, has_cookie_size, has_room, place_of};
 use crate::pairs::pairs_of;
-use crate::rows::Rows;
+use crate::shrinking_list::ShrinkingList;
+use ff_contract::Steps;
 use ff_name::{Domain, NoMemory, Text};
 use ff_operators::Fail;
-use ff_steps::Steps;
 use ff_value::{Fault, Pairs};
 use std::alloc::Global;
 use std::marker::Model;
@@ -22,7 +22,7 @@ use std::sync::ledger::Ledger;
 /// spelled, and within their sizes and numbers.
 pub struct Jar {
     pub(crate) alloc: Global,
-    pub(crate) cookies: Rows<Cookie>,
+    pub(crate) cookies: ShrinkingList<Cookie>,
 }
 
 // Written out, so that the proof of a caller sees one call and not a part for each field.
@@ -58,7 +58,7 @@ impl Jar {
     {
         Jar {
             alloc,
-            cookies: Rows::new(alloc),
+            cookies: ShrinkingList::new(alloc),
         }
     }
 
@@ -93,7 +93,8 @@ impl Jar {
         value: &Text,
         copies: &mut Steps<C>,
     ) -> Result<(), Fail>
-        ensures done { OnOk result (self.new ≡ net.cookie_put self.old domain.now key.now value.now) }
+        ensures done { OnOk result (self.new ≡ net.cookie_put self.old domain.now key.now
+            value.now) }
         ensures answer { Answers (net.cookie_fault self.old domain.now key.now value.now) result }
         ensures kept { OnErr result (self.new ≡ self.old) }
         ensures copies { RisesBy 16 copies.old copies.new }

@@ -7,7 +7,7 @@ ghost use Rattle.ff_net.specs.Cookies.{is_above};
 ghost use Rattle.ff_net.specs.Entries.{AreApart};
 
 use crate::cookie::Cookie;
-use crate::rows::Rows;
+use crate::shrinking_list::ShrinkingList;
 use ff_name::{Domain, NoMemory, Text};
 use ff_value::Pair;
 use std::alloc::Global;
@@ -15,11 +15,12 @@ use std::alloc::Global;
 /// The pairs of the domain's cookies, which share their bytes with the cookies.
 pub(crate) fn pairs_of(
     alloc: Global,
-    cookies: &Rows<Cookie>,
+    cookies: &ShrinkingList<Cookie>,
     domain: &Domain,
 ) -> Result<Vec<Pair>, NoMemory>
     requires { AreApart net.cookie_cmp cookies.now }
-    ensures { IfOk result (λ pairs. pairs.items ≡ net.pairs_of (finmap.from_entries cookies.now) domain.now) }
+    ensures { IfOk result (λ pairs. pairs.items
+        ≡ net.pairs_of (finmap.from_entries cookies.now) domain.now) }
 {
     let mut pairs = Vec::new(alloc);
     let mut i = cookies.len();
@@ -35,7 +36,8 @@ pub(crate) fn pairs_of(
 
 /// Puts a pair before the first one of a greater key.
 fn put_in_order(pairs: &mut Vec<Pair>, pair: Pair) -> Result<(), NoMemory>
-    ensures { OnOk result (pairs.new.items ≡ insert pairs.old.items (position_or_len (is_above pair.key) pairs.old.items) pair) }
+    ensures { OnOk result (pairs.new.items ≡ insert pairs.old.items
+        (position_or_len (is_above pair.key) pairs.old.items) pair) }
 {
     let place = place_for(pairs, &pair.key);
     pairs.insert(place, pair)?;

@@ -1,17 +1,17 @@
 //! The pending requests of one browser.
 ghost use Rattle.std.specs.Prelude.{◌≡◌, ◌*◌, IsTrue, IfOk, OnErr, OnOk, MatchOption, length, slice_get};
 ghost use Rattle.std.specs.FinMap as finmap;
-ghost use Rattle.ff_steps.specs.Rises.{RisesBy};
+ghost use Rattle.ff_contract.specs.Rises.{RisesBy};
 ghost use Rattle.ff_name.specs.Address.{IsRequest};
 ghost use Rattle.ff_machine.specs.Alone.{IsDst};
 ghost use Rattle.ff_machine.specs.Net as net;
 
 use crate::ask::Asked;
 use crate::asked::{count_to, put_ask, take_ask};
-use crate::rows::Rows;
+use crate::shrinking_list::ShrinkingList;
+use ff_contract::Steps;
 use ff_machine::{Dst, MOST_ASKS, MOST_ASKS_OF_DOMAIN, Pending};
 use ff_name::{Domain, NoMemory, Text};
-use ff_steps::Steps;
 use std::alloc::Global;
 use std::marker::Model;
 use std::sync::ledger::Ledger;
@@ -20,7 +20,7 @@ use std::sync::ledger::Ledger;
 /// requests, the oldest first. They are valid at every return: spelled, and within their numbers.
 pub struct Requests {
     pub(crate) alloc: Global,
-    pub(crate) rows: Rows<Asked>,
+    pub(crate) rows: ShrinkingList<Asked>,
     total: u32,
 }
 
@@ -58,7 +58,7 @@ impl Requests {
     {
         Requests {
             alloc,
-            rows: Rows::new(alloc),
+            rows: ShrinkingList::new(alloc),
             total: 0,
         }
     }
@@ -93,7 +93,8 @@ impl Requests {
         requires uri { IsRequest uri.now }
         requires dst { IsDst dst }
         ensures kept { OnErr result (self.new ≡ self.old) }
-        ensures done { OnOk result (self.new ≡ net.with_ask self.old domain.now (record { uri = uri.now; dst = dst })) }
+        ensures done { OnOk result (self.new ≡ net.with_ask self.old domain.now
+            (record { uri = uri.now; dst = dst })) }
         ensures copies { RisesBy 33 copies.old copies.new }
     {
         let _known = domain.as_bytes();
@@ -115,10 +116,13 @@ impl Requests {
         k: u32,
         copies: &mut Steps<C>,
     ) -> Result<Option<Pending>, NoMemory>
-        ensures value { IfOk result (λ answer. answer ≡ slice_get (net.asked self.old domain.now) k) }
+        ensures value { IfOk result (λ answer. answer
+            ≡ slice_get (net.asked self.old domain.now) k) }
         ensures kept { OnErr result (self.new ≡ self.old) }
-        ensures done { IfOk result (λ answer. MatchOption answer (self.new ≡ self.old) (λ _. self.new ≡ net.answered self.old domain.now k)) }
-        ensures copies { RisesBy (17 * length (net.asked self.old domain.now)) copies.old copies.new }
+        ensures done { IfOk result (λ answer. MatchOption answer (self.new ≡ self.old)
+            (λ _. self.new ≡ net.answered self.old domain.now k)) }
+        ensures copies { RisesBy (17 * length (net.asked self.old domain.now)) copies.old
+            copies.new }
     {
         if k >= self.len(domain) {
             return Ok(None);

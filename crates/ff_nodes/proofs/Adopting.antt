@@ -1,4 +1,5 @@
--- The parents that lists of children give, one child after another; and where records have no valid nodes.
+-- The parents that lists of children give, one child after another; and where records have no valid
+-- nodes.
 use Rattle.std.proofs.Common.{◌≡◌, ◌≢◌, ℕ, suc, ◌+◌, ◌<◌, ◌≤◌, ◌⊎◌, inl, inr, ⊎_elim, ◌==◌, Bool, true, false, cond, Option, Some, None, IsSome, is_some, List, [], ◌∷◌, All, count_by, take, length, get_or, set, refl, sym, ap, subst, ◌∙◌, arith, length-set}
 use Rattle.std.proofs.Math.ListN.{get_or-map}
 use Rattle.std.proofs.lemmas.Bool.{cases_lt, eqb-true, eq-eqb}

@@ -42,7 +42,8 @@ pub record IsChild (recs : List NodeRec) (parents : List (Option NodeId)) (p c :
   pub no_page : page_of (rec_at recs c).shape ≡ None
   pub is : parent_at parents c.0 ≡ Some p
 
--- the parents that the lists before a number give: each child has its own, and stands once in its list
+-- the parents that the lists before a number give: each child has its own, and stands once in its
+-- list
 pub record AreParents (recs : List NodeRec) (lists : ℕ) (parents : List (Option NodeId)) : Type 0 where
   pub count : length parents ≡ length recs
   pub sound : (k : ℕ) (p : NodeId) → parent_at parents k ≡ Some p → (p.0 < lists) × (count_by (λ c. c.0 == k) (kids recs p) ≡ 1)

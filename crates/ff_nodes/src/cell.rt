@@ -3,8 +3,8 @@ ghost use Rattle.std.specs.Prelude.{◌≡◌};
 
 use crate::marks::Marks;
 use crate::node::Node;
+use ff_contract::Steps;
 use ff_cow::Cell;
-use ff_steps::Steps;
 use ff_value::NoMemory;
 use std::sync::ledger::Ledger;
 

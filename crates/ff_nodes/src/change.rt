@@ -1,14 +1,14 @@
 //! Changes of one node.
 ghost use Rattle.std.specs.Prelude.{◌≡◌, ◌<◌, length, OnOk};
-ghost use Rattle.ff_steps.specs.Rises.{RisesBy};
+ghost use Rattle.ff_contract.specs.Rises.{RisesBy};
 ghost use Rattle.ff_machine.specs.Nodes as nodes;
 ghost use Rattle.ff_operators.specs.Answers.{Answers, OnFault};
 ghost use Rattle.ff_value.specs.Spelled.{IsWellSpelledCode};
 
 use crate::edits::{NewHandlers, NewText, Started};
 use crate::nodes::Nodes;
+use ff_contract::Steps;
 use ff_operators::Fail;
-use ff_steps::Steps;
 use ff_value::{Code, Fault, MOST_HANDLERS, NoMemory, NodeId, Text};
 use std::sync::ledger::Ledger;
 

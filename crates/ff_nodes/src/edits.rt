@@ -42,7 +42,8 @@ impl NewText {
 }
 
 impl Edit<Node> for NewText {
-    ghost edited = { λ change node. record node { shape = shapes.with_text node.shape change.text } };
+    ghost edited = { λ change node. record node
+        { shape = shapes.with_text node.shape change.text } };
 
     fn edit(self, node: &mut Node) {
         let NewText { text } = self;

@@ -1,7 +1,7 @@
 //! One tree under another.
 ghost use Rattle.std.specs.Prelude.{◌≡◌, ◌<◌, ◌≤◌, ℕ, None, pos, length, nat_abs, IfOk, IfSome, OnOk, slice_set};
 ghost use Rattle.std.specs.List as lists;
-ghost use Rattle.ff_steps.specs.Rises.{RisesBy};
+ghost use Rattle.ff_contract.specs.Rises.{RisesBy};
 ghost use Rattle.ff_machine.specs.declared.limits.TheConstants.{MOST_TREE_DEPTH};
 ghost use Rattle.ff_machine.specs.Nodes as nodes;
 ghost use Rattle.ff_operators.specs.Answers.{Answers, OnFault};
@@ -11,10 +11,10 @@ use crate::cell::NodeCell;
 use crate::node::Node;
 use crate::nodes::Nodes;
 use crate::raising::raise_above;
+use ff_contract::Steps;
 use ff_cow::CowVec;
 use ff_machine::MOST_TREE_DEPTH;
 use ff_operators::Fail;
-use ff_steps::Steps;
 use ff_value::{Fault, Ids, NoMemory, NodeId};
 use std::alloc::{AllocError, Global};
 use std::mem;
@@ -144,7 +144,8 @@ fn with_parent(node: &Node, parent: NodeId) -> Result<Node, NoMemory>
 /// The node with a child more, at a place among its children or after them.
 fn with_child(node: &Node, place: usize, child: NodeId, alloc: Global) -> Result<Node, NoMemory>
     requires { place ≤ length node.now.children }
-    ensures { IfOk result (λ over. over ≡ record node.now { children = lists.insert node.now.children place child }) }
+    ensures { IfOk result (λ over. over ≡ record node.now
+        { children = lists.insert node.now.children place child }) }
 {
     let others = node.children().as_slice();
     let mut children = Vec::with_capacity(alloc, others.len() + 1)?;
@@ -166,7 +167,8 @@ fn write_node<C: Ledger>(
     copies: &mut Steps<C>,
 ) -> Result<(), NoMemory>
     requires { n.0 < length cells.old }
-    ensures done { OnOk result (cells.new ≡ slice_set cells.old n.0 (record { node = node; marks = (cell_at cells.old n).marks })) }
+    ensures done { OnOk result (cells.new ≡ slice_set cells.old n.0
+        (record { node = node; marks = (cell_at cells.old n).marks })) }
     ensures copies { RisesBy 16 copies.old copies.new }
 {
     let marks = match cells.get(n.0) {

@@ -1,7 +1,7 @@
 //! Documents, laid as new nodes behind the ones that there are. Room for all of a document is
 //! counted before anything is laid; a division is written twice, at first without its children.
 ghost use Rattle.std.specs.Prelude.{◌≡◌, ◌*◌, [], None, Some, length, map, IfOk, OnOk};
-ghost use Rattle.ff_steps.specs.Rises.{RisesBy};
+ghost use Rattle.ff_contract.specs.Rises.{RisesBy};
 ghost use Rattle.ff_machine.specs.Documents as documents;
 ghost use Rattle.ff_machine.specs.Documents.{laid, laid_page, size_of, numbers, lay_all, handler_code};
 ghost use Rattle.ff_tree.specs.declared.tree.Doc.TheViews.{out-Doc};
@@ -11,9 +11,9 @@ ghost use Rattle.ff_nodes.specs.Marked.{IsOwn};
 use crate::cell::NodeCell;
 use crate::marks::Marks;
 use crate::node::Node;
+use ff_contract::Steps;
 use ff_cow::CowVec;
 use ff_machine::Shape;
-use ff_steps::Steps;
 use ff_value::{ActId, Code, Codes, Doc, Handler, Ids, Names, NoMemory, NodeId, PageId};
 use std::alloc::{AllocError, Global};
 use std::sync::ledger::Ledger;
@@ -28,7 +28,8 @@ pub(crate) fn lay_doc<C: Ledger>(
     cells: &mut CowVec<NodeCell>,
     copies: &mut Steps<C>,
 ) -> Result<(), NoMemory>
-    ensures new { OnOk result (AreNew cells.old cells.new ((laid env doc.now).nodes (length cells.old) under)) }
+    ensures new { OnOk result (AreNew cells.old cells.new
+        ((laid env doc.now).nodes (length cells.old) under)) }
     ensures copies { RisesBy (31 * (laid env doc.now).size) copies.old copies.new }
 {
     let shape = shape_of(doc)?;
@@ -50,7 +51,8 @@ pub(crate) fn lay_page<C: Ledger>(
     cells: &mut CowVec<NodeCell>,
     copies: &mut Steps<C>,
 ) -> Result<(), NoMemory>
-    ensures new { OnOk result (AreNew cells.old cells.new ((laid_page page env docs.now).nodes (length cells.old) None)) }
+    ensures new { OnOk result (AreNew cells.old cells.new
+        ((laid_page page env docs.now).nodes (length cells.old) None)) }
     ensures copies { RisesBy (31 * (laid_page page env docs.now).size) copies.old copies.new }
 {
     let shape = Shape::Page(page);
@@ -69,8 +71,10 @@ fn lay_over<C: Ledger>(
     cells: &mut CowVec<NodeCell>,
     copies: &mut Steps<C>,
 ) -> Result<(), NoMemory>
-    ensures new { OnOk result (AreNew cells.old cells.new ((documents.lay_over shape.now (map (laid env) docs.now)).nodes (length cells.old) under)) }
-    ensures copies { RisesBy (31 * (documents.lay_over shape.now (map (laid env) docs.now)).size) copies.old copies.new }
+    ensures new { OnOk result (AreNew cells.old cells.new
+        ((documents.lay_over shape.now (map (laid env) docs.now)).nodes (length cells.old) under)) }
+    ensures copies { RisesBy (31 * (documents.lay_over shape.now (map (laid env) docs.now)).size)
+        copies.old copies.new }
 {
     let n = NodeId(cells.len());
     lay_alone(shape, under, alloc, cells, copies)?;
@@ -93,8 +97,10 @@ fn lay_each<C: Ledger>(
     cells: &mut CowVec<NodeCell>,
     copies: &mut Steps<C>,
 ) -> Result<Ids, NoMemory>
-    ensures new { OnOk result (AreNew cells.old cells.new (lay_all (map (laid env) docs.now) (length cells.old) (Some under))) }
-    ensures numbers { IfOk result (λ ids. ids ≡ numbers (map (laid env) docs.now) (length cells.old)) }
+    ensures new { OnOk result (AreNew cells.old cells.new
+        (lay_all (map (laid env) docs.now) (length cells.old) (Some under))) }
+    ensures numbers { IfOk result (λ ids. ids
+        ≡ numbers (map (laid env) docs.now) (length cells.old)) }
     ensures copies { RisesBy (31 * size_of (map (laid env) docs.now)) copies.old copies.new }
 {
     let mut ids = Vec::new(alloc);
@@ -142,7 +148,8 @@ fn lay_alone<C: Ledger>(
     cells: &mut CowVec<NodeCell>,
     copies: &mut Steps<C>,
 ) -> Result<(), NoMemory>
-    ensures new { OnOk result (AreNew cells.old cells.new ((documents.lay_leaf shape.now []).nodes (length cells.old) under)) }
+    ensures new { OnOk result (AreNew cells.old cells.new
+        ((documents.lay_leaf shape.now []).nodes (length cells.old) under)) }
     ensures copies { RisesBy 15 copies.old copies.new }
 {
     lay_leaf(shape.copy()?, no_codes(alloc)?, under, alloc, cells, copies)
@@ -157,7 +164,8 @@ fn lay_leaf<C: Ledger>(
     cells: &mut CowVec<NodeCell>,
     copies: &mut Steps<C>,
 ) -> Result<(), NoMemory>
-    ensures new { OnOk result (AreNew cells.old cells.new ((documents.lay_leaf shape handlers).nodes (length cells.old) under)) }
+    ensures new { OnOk result (AreNew cells.old cells.new
+        ((documents.lay_leaf shape handlers).nodes (length cells.old) under)) }
     ensures copies { RisesBy 15 copies.old copies.new }
 {
     let children = Ids::from_vec(alloc, Vec::new(alloc))?;

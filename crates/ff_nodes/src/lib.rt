@@ -1,5 +1,7 @@
 //! Node trees by number.
 //!
+//! Floor: one browser. It knows of no levels.
+//!
 //! [`Nodes`] is seen as the list of the nodes by their numbers. What makes such a store valid
 //! (children and parents agree, a node stands once, no chain of parents is too long, each kind has
 //! the parts that are its own) is the type's own invariant. The nodes are held as cells of a list
@@ -29,4 +31,8 @@ mod restoring;
 mod room;
 mod search;
 
+pub use ff_machine::{Kind, Shape as NodeShape};
+pub use ff_name::NoMemory;
+pub use ff_operators::Fail as NodeFail;
+pub use ff_records::{NodeRec, NodeRecs};
 pub use nodes::Nodes;

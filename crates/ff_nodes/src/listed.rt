@@ -53,7 +53,9 @@ impl Nodes {
     #[cycle(shown)]
     fn put_shown_part(&self, n: NodeId, parts: &mut Vec<ShownPart>) -> Result<(), NoMemory>
         requires { n.0 < length self.now }
-        ensures { OnOk result (parts.new.items ≡ parts.old.items ++ shapes.shown_as (nodes.node_at self.now n).shape (nodes.shown self.now n)) }
+        ensures { OnOk result (parts.new.items
+            ≡ parts.old.items ++ shapes.shown_as (nodes.node_at self.now n).shape
+            (nodes.shown self.now n)) }
     {
         let part = match self.at(n).shape() {
             Shape::Text(_, text) => ShownPart::Text(text.copy()?),

@@ -1,7 +1,7 @@
 //! Trees that are made of documents.
 ghost use Rattle.std.specs.Prelude.{◌≡◌, ◌*◌, ◌≤◌, map, IfOk, OnOk};
 ghost use Rattle.std.specs.List.{AllByRecursion};
-ghost use Rattle.ff_steps.specs.Rises.{RisesBy};
+ghost use Rattle.ff_contract.specs.Rises.{RisesBy};
 ghost use Rattle.ff_name.specs.declared.limits.TheConstants.{MOST_DEPTH};
 ghost use Rattle.ff_tree.specs.Spelled.{IsSpelledDoc, IsWellSpelledDoc, doc_depth, most};
 ghost use Rattle.ff_machine.specs.Documents.{laid, laid_page, with_tree};
@@ -12,9 +12,9 @@ use crate::laying::{lay_doc, lay_page};
 use crate::nodes::Nodes;
 use crate::raising::raise_from;
 use crate::room::{room_after, room_after_page};
+use ff_contract::Steps;
 use ff_machine::MOST_NODES;
 use ff_operators::Fail;
-use ff_steps::Steps;
 use ff_value::{ActId, Doc, Docs, Fault, NodeId, PageId};
 use std::sync::ledger::Ledger;
 
@@ -60,7 +60,8 @@ impl Nodes {
         requires shallow { most (map doc_depth docs.now) ≤ MOST_DEPTH }
         ensures done { OnOk result (self.new ≡ with_tree self.old (laid_page page env docs.now)) }
         ensures number { IfOk result (λ n. n ≡ nodes.next_node self.old) }
-        ensures answer { Answers (nodes.room_fault self.old (laid_page page env docs.now).size) result }
+        ensures answer { Answers (nodes.room_fault self.old (laid_page page env docs.now).size)
+            result }
         ensures kept { OnFault result (self.new ≡ self.old) }
         ensures copies { RisesBy (47 * (laid_page page env docs.now).size) copies.old copies.new }
     {

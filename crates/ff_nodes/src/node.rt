@@ -29,12 +29,22 @@ impl Model for Node {
 
     ghost coded = { coded_node };
 
-    ghost view = { λ n. record { shape = n.shape; handlers = n.handlers; children = n.children; parent = n.parent } };
+    ghost view = { λ n. record {
+      shape = n.shape;
+      handlers = n.handlers;
+      children = n.children;
+      parent = n.parent;
+    } };
 }
 
 impl Node {
     pub(crate) fn of(shape: Shape, handlers: Codes, children: Ids, parent: Option<NodeId>) -> Node
-        ensures { result ≡ record { shape = shape; handlers = handlers; children = children; parent = parent } }
+        ensures { result ≡ record {
+          shape = shape;
+          handlers = handlers;
+          children = children;
+          parent = parent;
+        } }
     {
         Node {
             shape,

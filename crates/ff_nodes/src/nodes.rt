@@ -1,6 +1,6 @@
 //! The nodes of one browser.
 ghost use Rattle.std.specs.Prelude.{◌≡◌, ◌<◌, ◌≤◌, [], length, IfOk, OnOk, OnErr};
-ghost use Rattle.ff_steps.specs.Rises.{RisesBy};
+ghost use Rattle.ff_contract.specs.Rises.{RisesBy};
 ghost use Rattle.ff_machine.specs.declared.limits.TheConstants.{MOST_NODES};
 ghost use Rattle.ff_machine.specs.Alone.{AreNodes, IsNode};
 ghost use Rattle.ff_machine.specs.Nodes as nodes;
@@ -9,8 +9,8 @@ ghost use Rattle.ff_machine.specs.Shapes as shapes;
 use crate::cell::NodeCell;
 use crate::edits::OfNode;
 use crate::node::Node;
+use ff_contract::Steps;
 use ff_cow::{CowVec, Edit};
-use ff_steps::Steps;
 use ff_value::{NoMemory, NodeId};
 use std::alloc::{AllocError, Global};
 use std::marker::Model;
@@ -102,11 +102,16 @@ impl Nodes {
     ) -> Result<(), NoMemory>
         requires lives { n.0 < length self.old }
         requires valid { IsNode (E.edited edit (nodes.node_at self.old n)) }
-        requires children { (E.edited edit (nodes.node_at self.old n)).children ≡ nodes.children self.old n }
-        requires parent { (E.edited edit (nodes.node_at self.old n)).parent ≡ nodes.parent self.old n }
-        requires kind { shapes.kind_of (E.edited edit (nodes.node_at self.old n)).shape ≡ shapes.kind_of (nodes.node_at self.old n).shape }
-        requires name { shapes.name_of (E.edited edit (nodes.node_at self.old n)).shape ≡ shapes.name_of (nodes.node_at self.old n).shape }
-        ensures done { OnOk result (self.new ≡ nodes.set_node self.old n (E.edited edit (nodes.node_at self.old n))) }
+        requires children { (E.edited edit (nodes.node_at self.old n)).children
+            ≡ nodes.children self.old n }
+        requires parent { (E.edited edit (nodes.node_at self.old n)).parent
+            ≡ nodes.parent self.old n }
+        requires kind { shapes.kind_of (E.edited edit (nodes.node_at self.old n)).shape
+            ≡ shapes.kind_of (nodes.node_at self.old n).shape }
+        requires name { shapes.name_of (E.edited edit (nodes.node_at self.old n)).shape
+            ≡ shapes.name_of (nodes.node_at self.old n).shape }
+        ensures done { OnOk result (self.new ≡ nodes.set_node self.old n
+            (E.edited edit (nodes.node_at self.old n))) }
         ensures kept { OnErr result (self.new ≡ self.old) }
         ensures copies { RisesBy 16 copies.old copies.new }
     {

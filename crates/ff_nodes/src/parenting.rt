@@ -19,7 +19,8 @@ pub(crate) fn parents_of(
     recs: &[NodeRec],
 ) -> Result<Option<Vec<Option<NodeId>>>, NoMemory>
     requires { length recs.now ≤ MOST_NODES }
-    ensures { IfOk result (λ found. MatchOption found (NoNodes recs.now) (λ parents. AreParents recs.now (length recs.now) parents.items)) }
+    ensures { IfOk result (λ found. MatchOption found (NoNodes recs.now)
+        (λ parents. AreParents recs.now (length recs.now) parents.items)) }
 {
     let mut parents = no_parents(alloc, recs)?;
     if !adopt_all(&mut parents, recs) {
@@ -92,8 +93,11 @@ pub(crate) fn depths_of(
     alloc: Global,
     parents: &[Option<NodeId>],
 ) -> Result<Option<Vec<u32>>, NoMemory>
-    requires lives { (k : ℕ) (p : NodeId) → parent_at parents.now k ≡ Some p → p.0 < length parents.now }
-    ensures { IfOk result (λ found. MatchOption found ((n : NodeId) × (MOST_TREE_DEPTH < depth (bare parents.now) n)) (λ depths. HaveDepths parents.now (length parents.now) depths.items)) }
+    requires lives { (k : ℕ) (p : NodeId) → parent_at parents.now k ≡ Some p
+        → p.0 < length parents.now }
+    ensures { IfOk result (λ found. MatchOption found
+        ((n : NodeId) × (MOST_TREE_DEPTH < depth (bare parents.now) n))
+        (λ depths. HaveDepths parents.now (length parents.now) depths.items)) }
 {
     let mut depths = Vec::new(alloc);
     for n in 0..parents.len() {
@@ -108,8 +112,10 @@ pub(crate) fn depths_of(
 /// How many nodes stand above a node, where they are no more than may be.
 fn depth_of(parents: &[Option<NodeId>], n: usize) -> Option<u32>
     requires there { n < length parents.now }
-    requires lives { (k : ℕ) (p : NodeId) → parent_at parents.now k ≡ Some p → p.0 < length parents.now }
-    ensures { MatchOption result (MOST_TREE_DEPTH < depth (bare parents.now) (record { 0 = n })) (λ d. (d ≡ depth (bare parents.now) (record { 0 = n })) × (d ≤ MOST_TREE_DEPTH)) }
+    requires lives { (k : ℕ) (p : NodeId) → parent_at parents.now k ≡ Some p
+        → p.0 < length parents.now }
+    ensures { MatchOption result (MOST_TREE_DEPTH < depth (bare parents.now) (record { 0 = n }))
+        (λ d. (d ≡ depth (bare parents.now) (record { 0 = n })) × (d ≤ MOST_TREE_DEPTH)) }
 {
     let mut at = n;
     for depth in 0..MOST_TREE_DEPTH + 1 {

@@ -1,6 +1,6 @@
 //! Marks, raised to the nodes above.
 ghost use Rattle.std.specs.Prelude.{◌≡◌, ◌+◌, ◌*◌, ◌<◌, ◌≤◌, length, OnOk};
-ghost use Rattle.ff_steps.specs.Rises.{RisesBy};
+ghost use Rattle.ff_contract.specs.Rises.{RisesBy};
 ghost use Rattle.ff_machine.specs.Alone.{AreTrees};
 ghost use Rattle.ff_machine.specs.Nodes.{depth};
 ghost use Rattle.ff_nodes.specs.Cells as views;
@@ -9,8 +9,8 @@ ghost use Rattle.ff_nodes.specs.Raised.{AreMarkedBut, AreMarkedUpTo, ArePast, Is
 
 use crate::cell::NodeCell;
 use crate::marks::Marks;
+use ff_contract::Steps;
 use ff_cow::CowVec;
-use ff_steps::Steps;
 use ff_value::{NoMemory, NodeId};
 use std::alloc::AllocError;
 use std::sync::ledger::Ledger;

@@ -38,7 +38,8 @@ pub(crate) fn room_after_all(docs: &[Doc], room: u32) -> Option<u32>
 
 /// The same after those of a page with the documents.
 pub(crate) fn room_after_page(docs: &[Doc], room: u32) -> Option<u32>
-    ensures { (page : PageId) → (env : ActId) → result ≡ room_left room (laid_page page env docs.now).size }
+    ensures { (page : PageId) → (env : ActId)
+        → result ≡ room_left room (laid_page page env docs.now).size }
 {
     room_after_all(docs, room.checked_sub(1)?)
 }

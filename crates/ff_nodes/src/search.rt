@@ -45,7 +45,8 @@ impl Nodes {
     fn nth_from(&self, root: NodeId, kind: Kind, k: u32) -> Result<NodeId, u32>
         requires { root.0 < length self.now }
         ensures found { IfOk result (λ m. nodes.nth self.now root kind k ≡ Some m) }
-        ensures passed { IfErr result (λ left. left + length (nodes.of_word self.now root (kind_word kind)) ≡ k) }
+        ensures passed { IfErr result (λ left. left
+            + length (nodes.of_word self.now root (kind_word kind)) ≡ k) }
     {
         if self.lacks_kind(root, kind) {
             return Err(k);

@@ -2,6 +2,8 @@
 //! begins with `== `. Each value that is read or made is compared with its copy, and the table ends
 //! with an error where the two aren't equal.
 //!
+//! Floor: beside. Nothing of the browser stands on it.
+//!
 //! | Heading | What is printed |
 //! |---|---|
 //! | `calls` | each line, and below it what a call of the notation makes of it |

@@ -36,14 +36,16 @@ pub fn read_num(bytes: &[u8]) -> Option<i64>
 
 /// The bytes after the minus that stands first.
 fn strip_minus(bytes: &[u8]) -> Option<&[u8]>
-    ensures { MatchOption result ((rest : List ℕ) → bytes.now ≢ 45 ∷ rest) (λ rest. bytes.now ≡ 45 ∷ rest.now) }
+    ensures { MatchOption result ((rest : List ℕ) → bytes.now ≢ 45 ∷ rest)
+        (λ rest. bytes.now ≡ 45 ∷ rest.now) }
 {
     bytes.strip_prefix(b"-")
 }
 
 /// The negative number whose size these bytes spell.
 fn read_below_zero(digits: &[u8]) -> Option<i64>
-    ensures spelled { (n : ℕ) → n < 2 ^ 63 → (result ≡ Some (negsuc n)) ↔ (digits.now ≡ nat_text (suc n)) }
+    ensures spelled { (n : ℕ) → n < 2 ^ 63 → (result ≡ Some (negsuc n))
+        ↔ (digits.now ≡ nat_text (suc n)) }
     ensures negative { (n : ℕ) → result ≢ Some (pos n) }
 {
     let past_one = read_nat(digits)?.checked_sub(1)?;

@@ -5,6 +5,7 @@ use ff_value::{Fault, NoMemory, Val};
 /// What an operator gave.
 #[derive(Debug, Drop)]
 pub struct Applied {
+    /// The result.
     pub value: Val,
     /// The mass after it, in bytes: what was made counts.
     pub mass: u64,
@@ -22,7 +23,9 @@ impl Applied {
 /// Why a call on values or stores failed: by a fault of the script, or for want of memory.
 #[derive(Clone, Copy, Debug, PartialEq, Eq)]
 pub enum Fail {
+    /// The operands give no result.
     Fault(Fault),
+    /// There is no memory for the result.
     NoMemory,
 }
 

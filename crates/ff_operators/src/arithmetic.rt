@@ -75,7 +75,8 @@ fn remainder(a: i64, b: i64, mass: u64) -> Result<Applied, Fail>
 
 /// The number, which is `None` where 64 bits don't hold it.
 pub(crate) fn number(n: Option<i64>, mass: u64) -> Result<Applied, Fail>
-    ensures { (z : ℤ) → SomeIff n (FitsSigned w64 z) z → Gives (pure.num_or_overflow mass z) result }
+    ensures { (z : ℤ) → SomeIff n (FitsSigned w64 z) z
+        → Gives (pure.num_or_overflow mass z) result }
 {
     match n {
         Some(n) => Ok(Applied::free(Val::Num(n), mass)),

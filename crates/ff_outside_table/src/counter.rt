@@ -1,7 +1,7 @@
 //! The counter of steps, of which a program holds no byte.
 ghost use Rattle.std.specs.Prelude.{◌≡◌, ◌<◌};
 
-use ff_steps::Steps;
+use ff_contract::Steps;
 use std::io;
 use std::marker::Brand;
 use std::sync::ledger::{Blank, Ledger};

@@ -3,8 +3,8 @@
 ghost use Rattle.std.specs.Prelude.{◌≡◌, ◌<◌};
 
 use super::given::text_of;
+use ff_contract::Steps;
 use ff_cow::{Cell, CowVec, Edit, MOST_CELLS, NoMemory, PushFail};
-use ff_steps::Steps;
 use std::alloc::{AllocError, Global};
 use std::io;
 use std::marker::{Brand, Model};

@@ -2,8 +2,8 @@
 ghost use Rattle.std.specs.Prelude.{◌≡◌, ◌<◌};
 
 use super::given::{long_port, port_of, text_of};
+use ff_contract::Steps;
 use ff_io::{Failed, MemPort, Port};
-use ff_steps::Steps;
 use ff_stream::{End, Reader, Taker, stream};
 use std::alloc::{AllocError, Global};
 use std::io;
@@ -61,7 +61,7 @@ impl Taker for Growing {
 
     ghost entry = { λ taker start bytes byte. bytes ++ byte ∷ 10 ∷ [] };
 
-    ghost turns = { λ taker start bytes byte. 1 };
+    ghost turns_due = { λ taker start bytes byte. 1 };
 
     ghost is_at = { λ taker start state bytes. state.items ≡ bytes };
 
@@ -74,13 +74,13 @@ impl Taker for Growing {
         item: &u8,
         text: &mut Vec<u8>,
         _copies: &mut Steps<C>,
-        steps: &mut Steps<L>,
+        turns: &mut Steps<L>,
     ) -> Result<(), AllocError> {
         text.extend_from_slice(state)?;
         text.push(*item)?;
         text.push(b'\n')?;
         state.push(*item)?;
-        steps.tick();
+        turns.tick();
         Ok(())
     }
 }
@@ -104,7 +104,13 @@ impl Port for Noting {
 
     ghost write_faults = { λ noting. noting.port.write_faults };
 
-    ghost told = { λ noting. record { log = None; rest = None; read_faults = noting.port.read_faults; write_faults = noting.port.write_faults } };
+    ghost told = { λ noting. record {
+      log = None;
+      rest = None;
+      read_faults =
+          noting.port.read_faults;
+      write_faults = noting.port.write_faults;
+    } };
 
     ghost tells = { λ noting. refl };
 
@@ -134,7 +140,7 @@ fn go<C: Ledger, L: Ledger, P: Port>(
     requires some { 0 < turns.parts }
 {
     let mut copies = Steps::<C>::new(copies);
-    let mut steps = Steps::<L>::new(turns);
+    let mut counted = Steps::<L>::new(turns);
     let mut taken = Vec::new(alloc);
     let end = stream(
         alloc,
@@ -143,7 +149,7 @@ fn go<C: Ledger, L: Ledger, P: Port>(
         &mut taken,
         port,
         &mut copies,
-        &mut steps,
+        &mut counted,
     );
     (end, taken)
 }

@@ -1,6 +1,8 @@
 //! Prints what the crates of the outside answer: the counter of steps, lists that forks share,
 //! ports, lines, sinks and shelves, those in memory and those of the system, and the loop over the
 //! lines of a trace. Its input has two lines, and its folder has the file `shelf.txt`.
+//!
+//! Floor: beside. Nothing of the browser stands on it.
 #![tactic(auto)]
 
 mod counter;

@@ -23,7 +23,8 @@ fn is_key(bytes: &[u8]) -> bool
 /// Tests how each key is spelled.
 pub(crate) fn check_keys(keys: &[Key]) -> Result<(), PolicyFault>
     ensures done { OnOk result (AreSpelled keys.now) }
-    ensures fault { IfErr result (λ fault. fault ≢ PolicyFault.NoMemory → IsKeyFault keys.now fault) }
+    ensures fault { IfErr result (λ fault. fault ≢ PolicyFault.NoMemory
+        → IsKeyFault keys.now fault) }
 {
     for one in keys {
         if !is_key(one.key.as_bytes()) {

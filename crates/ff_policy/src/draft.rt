@@ -28,14 +28,23 @@ impl Model for Draft {
 
     ghost Value = { Assignment };
 
-    ghost view = { λ s. record { order = s.lattice; ui = s.ui.0; other = s.other.0; domains = s.domains.items; kinds = s.kinds; fuel = s.fuel } };
+    ghost view = { λ s. record {
+      order = s.lattice;
+      ui = s.ui.0;
+      other = s.other.0;
+      domains =
+          s.domains.items;
+      kinds = s.kinds;
+      fuel = s.fuel;
+    } };
 }
 
 impl Draft {
     /// Tests how each key is spelled.
     pub(crate) fn check_keys(&self) -> Result<(), PolicyFault>
         ensures done { OnOk result (AreSpelled self.now.domains) }
-        ensures fault { IfErr result (λ fault. fault ≢ PolicyFault.NoMemory → IsKeyFault self.now.domains fault) }
+        ensures fault { IfErr result (λ fault. fault ≢ PolicyFault.NoMemory
+            → IsKeyFault self.now.domains fault) }
     {
         check_keys(&self.domains)
     }

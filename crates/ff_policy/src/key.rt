@@ -25,7 +25,8 @@ impl Model for Key {
 /// The level of a domain: that of its own key, else of the longest key that covers it, else the
 /// other one.
 pub(crate) fn level_of(keys: &[Key], domain: &[u8], other: Level) -> Level
-    ensures { result.0 ≡ level_or (find (λ k. bytes_eq k.key domain.now) keys.now) (level_or (longest domain.now keys.now) other.0) }
+    ensures { result.0 ≡ level_or (find (λ k. bytes_eq k.key domain.now) keys.now)
+        (level_or (longest domain.now keys.now) other.0) }
 {
     match own_key(keys, domain) {
         Some(one) => one.level,

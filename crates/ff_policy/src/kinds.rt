@@ -43,7 +43,11 @@ impl Model for KindLevels {
 
     ghost view = { λ s. record { presence = s.presence.0; content = s.content.0 } };
 
-    ghost inverse = { λ levels. record { presence = record { 0 = levels.presence }; content = record { 0 = levels.content } } };
+    ghost inverse = { λ levels. record {
+      presence = record { 0 = levels.presence };
+      content = record
+          { 0 = levels.content };
+    } };
 }
 
 impl KindLevels {
@@ -75,7 +79,15 @@ impl Model for Kinds {
 
     ghost Value = { spec.Kinds };
 
-    ghost view = { λ s. record { opens = s.opens; goes = s.goes; links = s.links; closes = s.closes; types = s.types; clicks = s.clicks; replies = s.replies } };
+    ghost view = { λ s. record {
+      opens = s.opens;
+      goes = s.goes;
+      links = s.links;
+      closes = s.closes;
+      types = s.types;
+      clicks = s.clicks;
+      replies = s.replies;
+    } };
 }
 
 impl Kinds {

@@ -48,7 +48,8 @@ fn numbered(number: Option<u64>) -> Option<Version>
 #[tactic(auto, unfolding(crate::specs::Members::known))]
 pub(crate) fn check_known(alloc: Global, version: Version, value: &Value) -> Result<(), PolicyFault>
     ensures done { OnOk result (known version (view value.now) ≡ Ok tt) }
-    ensures fault { IfErr result (λ fault. fault ≢ PolicyFault.NoMemory → known version (view value.now) ≡ Err fault) }
+    ensures fault { IfErr result (λ fault. fault ≢ PolicyFault.NoMemory
+        → known version (view value.now) ≡ Err fault) }
 {
     match unknown_field(alloc, version, value)? {
         None => Ok(()),
@@ -72,7 +73,8 @@ fn unknown_in_kinds(
     version: Version,
     value: &Value,
 ) -> Result<Option<Text>, NoMemory>
-    ensures { IfOk result (λ found. found ≡ option_map spec.in_kinds (option_or (other_kind version (view value.now)) (unknown_side version (view value.now)))) }
+    ensures { IfOk result (λ found. found ≡ option_map spec.in_kinds
+        (option_or (other_kind version (view value.now)) (unknown_side version (view value.now)))) }
 {
     match other_kind(version, value) {
         Some(kind) => Ok(Some(joined(alloc, "kinds.", kind)?)),
@@ -82,7 +84,8 @@ fn unknown_in_kinds(
 
 /// The first other member of a kind, behind `kinds.`, the kind's word and a dot.
 fn unknown_side(alloc: Global, version: Version, value: &Value) -> Result<Option<Text>, NoMemory>
-    ensures { IfOk result (λ found. found ≡ option_map spec.in_kinds (unknown_side version (view value.now))) }
+    ensures { IfOk result (λ found. found ≡ option_map spec.in_kinds
+        (unknown_side version (view value.now))) }
 {
     match value.get("kinds") {
         None => Ok(None),
@@ -91,7 +94,8 @@ fn unknown_side(alloc: Global, version: Version, value: &Value) -> Result<Option
 }
 
 fn first_side(alloc: Global, version: Version, kinds: &Value) -> Result<Option<Text>, NoMemory>
-    ensures { IfOk result (λ found. found ≡ option_map spec.in_kinds (first_side version (view kinds.now))) }
+    ensures { IfOk result (λ found. found ≡ option_map spec.in_kinds
+        (first_side version (view kinds.now))) }
 {
     match version {
         Version::One => Ok(None),
@@ -103,7 +107,8 @@ fn first_side(alloc: Global, version: Version, kinds: &Value) -> Result<Option<T
 }
 
 fn side_place(alloc: Global, kinds: &Value, kind: Kind) -> Result<Option<Text>, NoMemory>
-    ensures { IfOk result (λ found. found ≡ option_map spec.in_kinds (side_place (view kinds.now) kind)) }
+    ensures { IfOk result (λ found. found ≡ option_map spec.in_kinds
+        (side_place (view kinds.now) kind)) }
 {
     match other_side(kinds, kind) {
         None => Ok(None),
@@ -146,7 +151,8 @@ fn other_side_of(kind: &Value) -> Option<&str>
 
 #[tactic(auto, using(crate::proofs::Keys::search_start, crate::proofs::Keys::search_step, crate::proofs::Keys::search_found, crate::proofs::Keys::search_none))]
 fn first_no_side(sides: &Map<String, Value>) -> Option<&str>
-    ensures { option_map (λ name. name.now) result ≡ find (λ key. not (is_among side_names key)) (keys_of (members_view sides.now.entries)) }
+    ensures { option_map (λ name. name.now) result
+        ≡ find (λ key. not (is_among side_names key)) (keys_of (members_view sides.now.entries)) }
 {
     for key in sides.keys() {
         if !is_side(key.as_str()) {
@@ -175,7 +181,9 @@ fn other_member(value: &Value) -> Option<&str>
 
 #[tactic(auto, using(crate::proofs::Keys::search_start, crate::proofs::Keys::search_step, crate::proofs::Keys::search_found, crate::proofs::Keys::search_none))]
 fn first_no_member(members: &Map<String, Value>) -> Option<&str>
-    ensures { option_map (λ name. name.now) result ≡ find (λ key. not (is_among member_names key)) (keys_of (members_view members.now.entries)) }
+    ensures { option_map (λ name. name.now) result
+        ≡ find (λ key. not (is_among member_names key))
+        (keys_of (members_view members.now.entries)) }
 {
     for key in members.keys() {
         if !is_member(key.as_str()) {
@@ -196,7 +204,8 @@ fn other_kind(version: Version, value: &Value) -> Option<&str>
 }
 
 fn other_kind_of(version: Version, kinds: &Value) -> Option<&str>
-    ensures { option_map (λ name. name.now) result ≡ first_other (kind_names version) (view kinds.now) }
+    ensures { option_map (λ name. name.now) result
+        ≡ first_other (kind_names version) (view kinds.now) }
 {
     match kinds.as_object() {
         None => None,
@@ -206,7 +215,9 @@ fn other_kind_of(version: Version, kinds: &Value) -> Option<&str>
 
 #[tactic(auto, using(crate::proofs::Keys::search_start, crate::proofs::Keys::search_step, crate::proofs::Keys::search_found, crate::proofs::Keys::search_none))]
 fn first_no_kind(version: Version, kinds: &Map<String, Value>) -> Option<&str>
-    ensures { option_map (λ name. name.now) result ≡ find (λ key. not (is_among (kind_names version) key)) (keys_of (members_view kinds.now.entries)) }
+    ensures { option_map (λ name. name.now) result
+        ≡ find (λ key. not (is_among (kind_names version) key))
+        (keys_of (members_view kinds.now.entries)) }
 {
     for key in kinds.keys() {
         if !is_kind(version, key.as_str()) {

@@ -1,5 +1,14 @@
 //! Policies: which levels there are, which two levels each kind of input has, and which level each
 //! domain and the user interface has.
+//!
+//! Floor: who may know. It knows not what a browser does with an input.
+//!
+//! ```text
+//! let policy = Policy::read(alloc, bytes)?;
+//! let lattice = policy.lattice();
+//! let from = policy.presence(&input); // the levels from which on it is known that the input came
+//! let known = policy.content(&input); // and those that know what it says
+//! ```
 #![tactic(auto)]
 
 mod checks;

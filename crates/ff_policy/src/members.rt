@@ -20,7 +20,8 @@ use std::alloc::Global;
 
 /// The JSON value that the bytes are.
 pub(crate) fn value_of(alloc: Global, bytes: &[u8]) -> Result<Value, PolicyFault>
-    ensures found { IfOk result (λ value. (length bytes.now ≤ MOST_POLICY_BYTES) × IsValueOf bytes.now (view value)) }
+    ensures found { IfOk result (λ value. (length bytes.now ≤ MOST_POLICY_BYTES)
+        × IsValueOf bytes.now (view value)) }
     ensures fault { IfErr result (λ fault. fault ≢ PolicyFault.NoMemory → IsFault bytes.now fault) }
 {
     if bytes.len() > MOST_POLICY_BYTES {
@@ -37,7 +38,8 @@ pub(crate) fn value_of(alloc: Global, bytes: &[u8]) -> Result<Value, PolicyFault
 #[tactic(auto, unfolding(crate::specs::Members::plan_in))]
 pub(crate) fn plan_in(alloc: Global, value: &Value) -> Result<Plan, PolicyFault>
     ensures found { IfOk result (λ plan. spec.plan_in (view value.now) ≡ Ok plan) }
-    ensures fault { IfErr result (λ fault. fault ≢ PolicyFault.NoMemory → spec.plan_in (view value.now) ≡ Err fault) }
+    ensures fault { IfErr result (λ fault. fault ≢ PolicyFault.NoMemory
+        → spec.plan_in (view value.now) ≡ Err fault) }
 {
     match version_in(value) {
         None => Err(PolicyFault::BadVersion),
@@ -48,7 +50,8 @@ pub(crate) fn plan_in(alloc: Global, value: &Value) -> Result<Plan, PolicyFault>
 /// What a value of this version says.
 fn plan_of(alloc: Global, version: Version, value: &Value) -> Result<Plan, PolicyFault>
     ensures found { IfOk result (λ plan. spec.plan_of version (view value.now) ≡ Ok plan) }
-    ensures fault { IfErr result (λ fault. fault ≢ PolicyFault.NoMemory → spec.plan_of version (view value.now) ≡ Err fault) }
+    ensures fault { IfErr result (λ fault. fault ≢ PolicyFault.NoMemory
+        → spec.plan_of version (view value.now) ≡ Err fault) }
 {
     check_known(alloc, version, value)?;
     shaped(alloc, version, value)
@@ -67,7 +70,8 @@ pub(crate) fn joined(alloc: Global, head: &str, tail: &str) -> Result<Text, NoMe
 #[tactic(auto, unfolding(crate::specs::Members::shaped))]
 fn shaped(alloc: Global, version: Version, value: &Value) -> Result<Plan, PolicyFault>
     ensures found { IfOk result (λ plan. shaped version (view value.now) ≡ Ok plan) }
-    ensures fault { IfErr result (λ fault. fault ≢ PolicyFault.NoMemory → shaped version (view value.now) ≡ Err fault) }
+    ensures fault { IfErr result (λ fault. fault ≢ PolicyFault.NoMemory
+        → shaped version (view value.now) ≡ Err fault) }
 {
     let levels = levels_in(alloc, value)?;
     let below = below_in(alloc, value)?;
@@ -90,7 +94,8 @@ fn shaped(alloc: Global, version: Version, value: &Value) -> Result<Plan, Policy
 /// What was found as the member of this name, or the fault that it has another shape.
 fn shape_of<T: Drop>(alloc: Global, name: &str, found: Option<T>) -> Result<T, PolicyFault>
     ensures found { IfOk result (λ x. found ≡ Some x) }
-    ensures fault { IfErr result (λ fault. fault ≢ PolicyFault.NoMemory → (found ≡ None) × (fault ≡ PolicyFault.BadShape name.now)) }
+    ensures fault { IfErr result (λ fault. fault ≢ PolicyFault.NoMemory → (found ≡ None)
+        × (fault ≡ PolicyFault.BadShape name.now)) }
 {
     match found {
         Some(found) => Ok(found),
@@ -100,8 +105,10 @@ fn shape_of<T: Drop>(alloc: Global, name: &str, found: Option<T>) -> Result<T, P
 
 /// The names of the levels.
 fn levels_in(alloc: Global, value: &Value) -> Result<Vec<Text>, PolicyFault>
-    ensures found { IfOk result (λ levels. required spec.texts (codes "levels") (view value.now) ≡ Ok levels.items) }
-    ensures fault { IfErr result (λ fault. fault ≢ PolicyFault.NoMemory → required spec.texts (codes "levels") (view value.now) ≡ Err fault) }
+    ensures found { IfOk result (λ levels. required spec.texts (codes "levels") (view value.now)
+        ≡ Ok levels.items) }
+    ensures fault { IfErr result (λ fault. fault ≢ PolicyFault.NoMemory
+        → required spec.texts (codes "levels") (view value.now) ≡ Err fault) }
 {
     let levels = match value.get("levels") {
         None => None,
@@ -112,8 +119,10 @@ fn levels_in(alloc: Global, value: &Value) -> Result<Vec<Text>, PolicyFault>
 
 /// The pairs of levels.
 fn below_in(alloc: Global, value: &Value) -> Result<Vec<Pair>, PolicyFault>
-    ensures found { IfOk result (λ below. optional [] spec.pairs (codes "below") (view value.now) ≡ Ok below.items) }
-    ensures fault { IfErr result (λ fault. fault ≢ PolicyFault.NoMemory → optional [] spec.pairs (codes "below") (view value.now) ≡ Err fault) }
+    ensures found { IfOk result (λ below. optional [] spec.pairs (codes "below") (view value.now)
+        ≡ Ok below.items) }
+    ensures fault { IfErr result (λ fault. fault ≢ PolicyFault.NoMemory
+        → optional [] spec.pairs (codes "below") (view value.now) ≡ Err fault) }
 {
     let below = match value.get("below") {
         None => Some(Vec::new(alloc)),
@@ -125,7 +134,8 @@ fn below_in(alloc: Global, value: &Value) -> Result<Vec<Pair>, PolicyFault>
 /// The text of the member of this name.
 fn text_in(alloc: Global, value: &Value, name: &str) -> Result<Text, PolicyFault>
     ensures found { IfOk result (λ text. required as_str name.now (view value.now) ≡ Ok text) }
-    ensures fault { IfErr result (λ fault. fault ≢ PolicyFault.NoMemory → required as_str name.now (view value.now) ≡ Err fault) }
+    ensures fault { IfErr result (λ fault. fault ≢ PolicyFault.NoMemory
+        → required as_str name.now (view value.now) ≡ Err fault) }
 {
     match value.get(name).and_then(Value::as_str) {
         Some(text) => Ok(Text::of_str(alloc, text)?),
@@ -135,9 +145,11 @@ fn text_in(alloc: Global, value: &Value, name: &str) -> Result<Text, PolicyFault
 
 /// The keys for domains, each with its text.
 fn domains_in(alloc: Global, value: &Value) -> Result<Vec<Named>, PolicyFault>
-    ensures found { IfOk result (λ named. optional [] spec.named (codes "domains") (view value.now) ≡ Ok named.items) }
+    ensures found { IfOk result (λ named. optional [] spec.named (codes "domains") (view value.now)
+        ≡ Ok named.items) }
     ensures rising { IfOk result (λ named. AreRising named.items) }
-    ensures fault { IfErr result (λ fault. fault ≢ PolicyFault.NoMemory → optional [] spec.named (codes "domains") (view value.now) ≡ Err fault) }
+    ensures fault { IfErr result (λ fault. fault ≢ PolicyFault.NoMemory
+        → optional [] spec.named (codes "domains") (view value.now) ≡ Err fault) }
 {
     let found = match value.get("domains") {
         None => Some(Vec::new(alloc)),
@@ -148,8 +160,10 @@ fn domains_in(alloc: Global, value: &Value) -> Result<Vec<Named>, PolicyFault>
 
 /// The kinds, each with the names of its levels.
 fn kinds_in(alloc: Global, version: Version, value: &Value) -> Result<Vec<NamedKind>, PolicyFault>
-    ensures found { IfOk result (λ kinds. optional [] (spec.kinds version) (codes "kinds") (view value.now) ≡ Ok kinds.items) }
-    ensures fault { IfErr result (λ fault. fault ≢ PolicyFault.NoMemory → optional [] (spec.kinds version) (codes "kinds") (view value.now) ≡ Err fault) }
+    ensures found { IfOk result (λ kinds. optional [] (spec.kinds version) (codes "kinds")
+        (view value.now) ≡ Ok kinds.items) }
+    ensures fault { IfErr result (λ fault. fault ≢ PolicyFault.NoMemory
+        → optional [] (spec.kinds version) (codes "kinds") (view value.now) ≡ Err fault) }
 {
     let found = match value.get("kinds") {
         None => Some(Vec::new(alloc)),
@@ -160,8 +174,10 @@ fn kinds_in(alloc: Global, version: Version, value: &Value) -> Result<Vec<NamedK
 
 /// The fuel.
 fn fuel_in(alloc: Global, value: &Value) -> Result<u64, PolicyFault>
-    ensures found { IfOk result (λ fuel. optional USUAL_FUEL spec.whole (codes "fuel") (view value.now) ≡ Ok fuel) }
-    ensures fault { IfErr result (λ fault. fault ≢ PolicyFault.NoMemory → optional USUAL_FUEL spec.whole (codes "fuel") (view value.now) ≡ Err fault) }
+    ensures found { IfOk result (λ fuel. optional USUAL_FUEL spec.whole (codes "fuel")
+        (view value.now) ≡ Ok fuel) }
+    ensures fault { IfErr result (λ fault. fault ≢ PolicyFault.NoMemory
+        → optional USUAL_FUEL spec.whole (codes "fuel") (view value.now) ≡ Err fault) }
 {
     let fuel = match value.get("fuel") {
         None => Some(USUAL_FUEL),

@@ -24,8 +24,10 @@ fn level_at(
     tail: &str,
     name: &Text,
 ) -> Result<Level, PolicyFault>
-    ensures found { IfOk result (λ l. spec.level_at lattice.now (head.now ++ tail.now) name.now ≡ Ok l.0) }
-    ensures fault { IfErr result (λ fault. fault ≢ PolicyFault.NoMemory → spec.level_at lattice.now (head.now ++ tail.now) name.now ≡ Err fault) }
+    ensures found { IfOk result (λ l. spec.level_at lattice.now (head.now ++ tail.now) name.now
+        ≡ Ok l.0) }
+    ensures fault { IfErr result (λ fault. fault ≢ PolicyFault.NoMemory
+        → spec.level_at lattice.now (head.now ++ tail.now) name.now ≡ Err fault) }
 {
     match lattice.by_name(name.as_bytes()) {
         Some(level) => Ok(level),
@@ -36,7 +38,8 @@ fn level_at(
 /// The keys with their levels.
 fn keys_named(alloc: Global, lattice: &Lattice, domains: &[Named]) -> Result<Vec<Key>, PolicyFault>
     ensures found { IfOk result (λ keys. spec.keys_named lattice.now domains.now ≡ Ok keys.items) }
-    ensures fault { IfErr result (λ fault. fault ≢ PolicyFault.NoMemory → spec.keys_named lattice.now domains.now ≡ Err fault) }
+    ensures fault { IfErr result (λ fault. fault ≢ PolicyFault.NoMemory
+        → spec.keys_named lattice.now domains.now ≡ Err fault) }
 {
     let mut keys = Vec::new(alloc);
     for one in domains {
@@ -52,7 +55,8 @@ fn keys_named(alloc: Global, lattice: &Lattice, domains: &[Named]) -> Result<Vec
 /// The one that is named for a kind.
 #[tactic(auto, using(crate::proofs::Seeking::seek_start, crate::proofs::Seeking::seek_step, crate::proofs::Seeking::seek_found, crate::proofs::Seeking::seek_none))]
 fn named_kind<'n>(kinds: &'n [NamedKind], kind: &[u8]) -> Option<&'n NamedKind>
-    ensures { option_map (λ one. one.now) result ≡ find (λ one. bytes_eq one.key kind.now) kinds.now }
+    ensures { option_map (λ one. one.now) result
+        ≡ find (λ one. bytes_eq one.key kind.now) kinds.now }
 {
     for one in kinds {
         if one.key.as_bytes() == kind {
@@ -69,8 +73,10 @@ fn kind_named(
     kinds: &[NamedKind],
     kind: Kind,
 ) -> Result<KindLevels, PolicyFault>
-    ensures found { IfOk result (λ levels. spec.kind_named lattice.now kinds.now (word_of kind) ≡ Ok levels) }
-    ensures fault { IfErr result (λ fault. fault ≢ PolicyFault.NoMemory → spec.kind_named lattice.now kinds.now (word_of kind) ≡ Err fault) }
+    ensures found { IfOk result (λ levels. spec.kind_named lattice.now kinds.now (word_of kind)
+        ≡ Ok levels) }
+    ensures fault { IfErr result (λ fault. fault ≢ PolicyFault.NoMemory
+        → spec.kind_named lattice.now kinds.now (word_of kind) ≡ Err fault) }
 {
     let word = kind.word();
     levels_or_bottom(alloc, lattice, word, named_kind(kinds, word.as_bytes()))
@@ -83,8 +89,11 @@ fn levels_or_bottom(
     word: &str,
     named: Option<&NamedKind>,
 ) -> Result<KindLevels, PolicyFault>
-    ensures found { IfOk result (λ levels. spec.levels_or_bottom lattice.now word.now (option_map (λ one. one.now) named.entry) ≡ Ok levels) }
-    ensures fault { IfErr result (λ fault. fault ≢ PolicyFault.NoMemory → spec.levels_or_bottom lattice.now word.now (option_map (λ one. one.now) named.entry) ≡ Err fault) }
+    ensures found { IfOk result (λ levels. spec.levels_or_bottom lattice.now word.now
+        (option_map (λ one. one.now) named.entry) ≡ Ok levels) }
+    ensures fault { IfErr result (λ fault. fault ≢ PolicyFault.NoMemory
+        → spec.levels_or_bottom lattice.now word.now (option_map (λ one. one.now) named.entry)
+        ≡ Err fault) }
 {
     match named {
         None => Ok(KindLevels::both(lattice.bottom())),
@@ -99,7 +108,8 @@ fn levels_or_bottom(
 #[tactic(auto, unfolding(crate::specs::Naming::kinds_named))]
 fn kinds_named(alloc: Global, lattice: &Lattice, kinds: &[NamedKind]) -> Result<Kinds, PolicyFault>
     ensures found { IfOk result (λ levels. kinds_named lattice.now kinds.now ≡ Ok levels) }
-    ensures fault { IfErr result (λ fault. fault ≢ PolicyFault.NoMemory → kinds_named lattice.now kinds.now ≡ Err fault) }
+    ensures fault { IfErr result (λ fault. fault ≢ PolicyFault.NoMemory
+        → kinds_named lattice.now kinds.now ≡ Err fault) }
 {
     let opens = kind_named(alloc, lattice, kinds, Kind::Open)?;
     let goes = kind_named(alloc, lattice, kinds, Kind::Go)?;
@@ -124,7 +134,8 @@ fn kinds_named(alloc: Global, lattice: &Lattice, kinds: &[NamedKind]) -> Result<
 pub(crate) fn assigned(alloc: Global, lattice: Lattice, plan: &Plan) -> Result<Draft, PolicyFault>
     ensures found { IfOk result (λ draft. spec.assigned lattice plan.now ≡ Ok draft) }
     ensures rising { IfOk result (λ _. AreRising plan.now.domains) }
-    ensures fault { IfErr result (λ fault. fault ≢ PolicyFault.NoMemory → spec.assigned lattice plan.now ≡ Err fault) }
+    ensures fault { IfErr result (λ fault. fault ≢ PolicyFault.NoMemory
+        → spec.assigned lattice plan.now ≡ Err fault) }
 {
     let ui = level_at(alloc, &lattice, "ui", "", &plan.ui)?;
     let other = level_at(alloc, &lattice, "domain", "", &plan.other)?;

@@ -34,7 +34,12 @@ impl Model for NamedKind {
 
     ghost view = { λ s. record { key = s.key; presence = s.presence; content = s.content } };
 
-    ghost inverse = { λ named. record { key = named.key; presence = named.presence; content = named.content } };
+    ghost inverse = { λ named. record {
+      key = named.key;
+      presence = named.presence;
+      content =
+          named.content;
+    } };
 }
 
 /// What the members of a policy say: the names of its levels at each place, and its fuel.
@@ -55,7 +60,16 @@ impl Model for Plan {
 
     ghost Value = { spec.Plan };
 
-    ghost view = { λ s. record { levels = s.levels.items; below = s.below.items; ui = s.ui; other = s.other; domains = s.domains.items; kinds = s.kinds.items; fuel = s.fuel } };
+    ghost view = { λ s. record {
+      levels = s.levels.items;
+      below = s.below.items;
+      ui = s.ui;
+      other =
+          s.other;
+      domains = s.domains.items;
+      kinds = s.kinds.items;
+      fuel = s.fuel;
+    } };
 
     ghost invariant = { λ s. AreRising s.domains.items };
 }

@@ -53,15 +53,30 @@ impl Model for Policy {
 
     ghost Value = { Assignment };
 
-    ghost view = { λ s. record { order = s.lattice; ui = s.ui.0; other = s.other.0; domains = s.domains.items; kinds = s.kinds; fuel = s.fuel } };
+    ghost view = { λ s. record {
+      order = s.lattice;
+      ui = s.ui.0;
+      other = s.other.0;
+      domains =
+          s.domains.items;
+      kinds = s.kinds;
+      fuel = s.fuel;
+    } };
 
-    ghost invariant = { λ s. IsAssignment (record { order = s.lattice; ui = s.ui.0; other = s.other.0; domains = s.domains.items; kinds = s.kinds; fuel = s.fuel }) };
+    ghost invariant = { λ s. IsAssignment (record {
+      order = s.lattice;
+      ui = s.ui.0;
+      other = s.other.0;
+      domains = s.domains.items;
+      kinds =
+          s.kinds;
+      fuel = s.fuel;
+    }) };
 }
 
 impl Policy {
     /// The levels `L` and `H` with `L` below `H`. The user interface is at `H`, every domain and
-    /// every kind of input at `L`, and an input has a fuel of 10,000. Its one refusal is want of
-    /// memory.
+    /// every kind of input at `L`, and an input has a fuel of 10,000.
     pub fn builtin(alloc: Global) -> Result<Policy, NoMemory>
         ensures { IfOk result (λ policy. policy ≡ builtin) }
     {
@@ -77,24 +92,29 @@ impl Policy {
     }
 
     /// The policy that these bytes give as JSON. Its refusals, in their order: over 65,536 bytes;
-    /// no JSON; no object of version 1 or 2; another member, another kind of input, or another member
-    /// of a kind; a member that is missing or has another shape; levels that are no lattice; a name
-    /// that is no level's; a key that is neither a domain nor a dot followed by one; a fuel of 0 or
-    /// over 1,000,000; a kind whose presence isn't at or below its content. Want of memory may come
-    /// in place of any of these.
+    /// no JSON; no object of version 1 or 2; another member, another kind of input, or another
+    /// member of a kind; a member that is missing or has another shape; levels that are no lattice;
+    /// a name that is no level's; a key that is neither a domain nor a dot followed by one; a fuel
+    /// of 0 or over 1,000,000; a kind whose presence isn't at or below its content. Want of memory
+    /// may come in place of any of these.
     pub fn read(alloc: Global, bytes: &[u8]) -> Result<Policy, PolicyFault>
         ensures found { IfOk result (IsPolicyOf bytes.now) }
-        ensures fault { IfErr result (λ fault. fault ≢ PolicyFault.NoMemory → IsFault bytes.now fault) }
-        ensures only { (policy : Assignment) → IsPolicyOf bytes.now policy → Answers result (Ok policy) (Err PolicyFault.NoMemory) }
-        ensures exact { (fault : PolicyFault) → IsFault bytes.now fault → Answers result (Err fault) (Err PolicyFault.NoMemory) }
+        ensures fault { IfErr result (λ fault. fault ≢ PolicyFault.NoMemory
+            → IsFault bytes.now fault) }
+        ensures only { (policy : Assignment) → IsPolicyOf bytes.now policy
+            → Answers result (Ok policy) (Err PolicyFault.NoMemory) }
+        ensures exact { (fault : PolicyFault) → IsFault bytes.now fault
+            → Answers result (Err fault) (Err PolicyFault.NoMemory) }
     {
         Policy::first_read(alloc, bytes)
     }
 
-    /// The policy or the first fault.
+    /// The policy or the first fault. It stands apart for the prover alone: `Policy::read` says
+    /// more of its answer.
     fn first_read(alloc: Global, bytes: &[u8]) -> Result<Policy, PolicyFault>
         ensures found { IfOk result (IsPolicyOf bytes.now) }
-        ensures fault { IfErr result (λ fault. fault ≢ PolicyFault.NoMemory → IsFault bytes.now fault) }
+        ensures fault { IfErr result (λ fault. fault ≢ PolicyFault.NoMemory
+            → IsFault bytes.now fault) }
     {
         let value = value_of(alloc, bytes)?;
         Policy::of_value(alloc, &value)
@@ -103,7 +123,8 @@ impl Policy {
     /// The policy that a JSON value says.
     fn of_value(alloc: Global, value: &Value) -> Result<Policy, PolicyFault>
         ensures found { IfOk result (λ policy. Says (view value.now) (Ok policy)) }
-        ensures fault { IfErr result (λ fault. fault ≢ PolicyFault.NoMemory → Says (view value.now) (Err fault)) }
+        ensures fault { IfErr result (λ fault. fault ≢ PolicyFault.NoMemory
+            → Says (view value.now) (Err fault)) }
     {
         let plan = plan_in(alloc, value)?;
         Policy::of_plan(alloc, &plan)
@@ -112,7 +133,8 @@ impl Policy {
     /// The policy of a plan.
     fn of_plan(alloc: Global, plan: &Plan) -> Result<Policy, PolicyFault>
         ensures found { IfOk result (λ policy. Orders plan.now (Ok policy)) }
-        ensures fault { IfErr result (λ fault. fault ≢ PolicyFault.NoMemory → Orders plan.now (Err fault)) }
+        ensures fault { IfErr result (λ fault. fault ≢ PolicyFault.NoMemory
+            → Orders plan.now (Err fault)) }
     {
         let lattice = lattice_of(alloc, plan)?;
         Policy::of_names(alloc, lattice, plan)
@@ -122,7 +144,8 @@ impl Policy {
     fn of_names(alloc: Global, lattice: Lattice, plan: &Plan) -> Result<Policy, PolicyFault>
         requires { IsOrder lattice }
         ensures found { IfOk result (λ policy. Names lattice plan.now (Ok policy)) }
-        ensures fault { IfErr result (λ fault. fault ≢ PolicyFault.NoMemory → Names lattice plan.now (Err fault)) }
+        ensures fault { IfErr result (λ fault. fault ≢ PolicyFault.NoMemory
+            → Names lattice plan.now (Err fault)) }
     {
         let draft = assigned(alloc, lattice, plan)?;
         Policy::of_draft(alloc, draft)
@@ -132,7 +155,8 @@ impl Policy {
     fn of_draft(alloc: Global, draft: Draft) -> Result<Policy, PolicyFault>
         requires { IsDraft draft }
         ensures found { IfOk result (λ policy. Checks draft (Ok policy)) }
-        ensures fault { IfErr result (λ fault. fault ≢ PolicyFault.NoMemory → Checks draft (Err fault)) }
+        ensures fault { IfErr result (λ fault. fault ≢ PolicyFault.NoMemory
+            → Checks draft (Err fault)) }
     {
         draft.check_keys()?;
         if !draft.has_fuel() {
@@ -204,8 +228,8 @@ impl Policy {
         self.raised(input, self.kinds.of(input.act.kind()).presence)
     }
 
-    /// The level from which on it is known what the input says: the content of its kind, joined with
-    /// its tag, and for a reply with its domain's level.
+    /// The level from which on it is known what the input says: the content of its kind, joined
+    /// with its tag, and for a reply with its domain's level.
     #[tactic(auto, unfolding(crate::specs::Assignment::content))]
     pub fn content(&self, input: &Input) -> Level
         requires { IsTag self.now.order input.now.tag }
@@ -219,7 +243,8 @@ impl Policy {
     fn raised(&self, input: &Input, level: Level) -> Level
         requires tag { IsTag self.now.order input.now.tag }
         requires level { level.0 < size self.now.order }
-        ensures value { result.0 ≡ with_tag self.now.order input.now.tag (act_level self.now input.now.act level.0) }
+        ensures value { result.0 ≡ with_tag self.now.order input.now.tag
+            (act_level self.now input.now.act level.0) }
         ensures within { result.0 < size self.now.order }
     {
         let level = self.act_level(&input.act, level);
@@ -267,7 +292,8 @@ impl Policy {
 /// The lattice of a plan's levels.
 fn lattice_of(alloc: Global, plan: &Plan) -> Result<Lattice, PolicyFault>
     ensures found { IfOk result (IsLatticeOf plan.now.levels plan.now.below) }
-    ensures fault { IfErr result (λ fault. fault ≢ PolicyFault.NoMemory → IsLevelsFault plan.now fault) }
+    ensures fault { IfErr result (λ fault. fault ≢ PolicyFault.NoMemory
+        → IsLevelsFault plan.now fault) }
 {
     match Lattice::build(alloc, &plan.levels, &plan.below) {
         Ok(lattice) => Ok(lattice),
@@ -277,7 +303,8 @@ fn lattice_of(alloc: Global, plan: &Plan) -> Result<Lattice, PolicyFault>
 
 /// The fault of levels as that of a policy.
 fn of_levels(fault: LatticeFault) -> PolicyFault
-    ensures { result ≢ PolicyFault.NoMemory → (fault ≢ LatticeFault.NoMemory) × (result ≡ PolicyFault.Levels fault) }
+    ensures { result ≢ PolicyFault.NoMemory → (fault ≢ LatticeFault.NoMemory)
+        × (result ≡ PolicyFault.Levels fault) }
 {
     match &fault {
         LatticeFault::NoMemory => PolicyFault::NoMemory,

@@ -24,16 +24,18 @@ use std::alloc::Global;
 
 impl Policy {
     /// Appends the policy as compact JSON of version 2, with all its members: `below` has each pair
-    /// of different levels of which the first is at or below the second, in the order of the levels,
-    /// and `kinds` has all seven kinds, each an object of its content and its presence. Its one
-    /// refusal is want of memory; what was appended before it is a front of the text.
+    /// of different levels of which the first is at or below the second, in the order of the
+    /// levels, and `kinds` has all seven kinds, each an object of its content and its presence. Its
+    /// one refusal is want of memory; what was appended before it is a front of the text.
     #[tactic(auto, using(ff_contract::proofs::Sequence::front_none))]
     pub fn print(&self, alloc: Global, out: &mut Vec<u8>) -> Result<(), NoMemory>
         ensures appends { Appends result out.old.items out.new.items (printed self.now) }
         ensures utf8 { OnOk result (IsUtf8 (printed self.now)) }
-        ensures again { OnOk result (length (printed self.now) ≤ MOST_POLICY_BYTES → IsPolicyOf (printed self.now) self.now) }
+        ensures again { OnOk result (length (printed self.now) ≤ MOST_POLICY_BYTES
+            → IsPolicyOf (printed self.now) self.now) }
         // A newline behind the text changes nothing.
-        ensures line { OnOk result (length (printed self.now ++ codes "\n") ≤ MOST_POLICY_BYTES → IsPolicyOf (printed self.now ++ codes "\n") self.now) }
+        ensures line { OnOk result (length (printed self.now ++ codes "\n") ≤ MOST_POLICY_BYTES
+            → IsPolicyOf (printed self.now ++ codes "\n") self.now) }
     {
         let text = self.text(alloc)?;
         out.extend_from_slice(text.as_slice())?;
@@ -44,8 +46,10 @@ impl Policy {
     fn text(&self, alloc: Global) -> Result<Vec<u8>, NoMemory>
         ensures text { IfOk result (λ text. text.items ≡ printed self.now) }
         ensures utf8 { OnOk result (IsUtf8 (printed self.now)) }
-        ensures again { OnOk result (length (printed self.now) ≤ MOST_POLICY_BYTES → IsPolicyOf (printed self.now) self.now) }
-        ensures line { OnOk result (length (printed self.now ++ codes "\n") ≤ MOST_POLICY_BYTES → IsPolicyOf (printed self.now ++ codes "\n") self.now) }
+        ensures again { OnOk result (length (printed self.now) ≤ MOST_POLICY_BYTES
+            → IsPolicyOf (printed self.now) self.now) }
+        ensures line { OnOk result (length (printed self.now ++ codes "\n") ≤ MOST_POLICY_BYTES
+            → IsPolicyOf (printed self.now ++ codes "\n") self.now) }
     {
         let value = self.to_value(alloc)?;
         Ok(value.to_vec(alloc)?)
@@ -114,7 +118,8 @@ fn add_pairs(
     pairs: &mut Vec<Value>,
 ) -> Result<(), NoMemory>
     requires { low.0 < size lattice.now }
-    ensures { OnOk result (map view pairs.new.items ≡ map view pairs.old.items ++ map pair_data (pairs_from lattice.now low.0)) }
+    ensures { OnOk result (map view pairs.new.items
+        ≡ map view pairs.old.items ++ map pair_data (pairs_from lattice.now low.0)) }
 {
     for high in 0..lattice.size() {
         add_pair(alloc, lattice, low, Level(high), pairs)?;
@@ -132,7 +137,8 @@ fn add_pair(
 ) -> Result<(), NoMemory>
     requires low { low.0 < size lattice.now }
     requires high { high.0 < size lattice.now }
-    ensures { OnOk result (map view pairs.new.items ≡ map view pairs.old.items ++ map pair_data (pair_if lattice.now low.0 high.0)) }
+    ensures { OnOk result (map view pairs.new.items
+        ≡ map view pairs.old.items ++ map pair_data (pair_if lattice.now low.0 high.0)) }
 {
     if !is_under(lattice, low, high) {
         return Ok(());
@@ -155,7 +161,8 @@ fn is_under(lattice: &Lattice, low: Level, high: Level) -> bool
 fn pair_value(alloc: Global, lattice: &Lattice, low: Level, high: Level) -> Result<Value, NoMemory>
     requires low { low.0 < size lattice.now }
     requires high { high.0 < size lattice.now }
-    ensures { IfOk result (λ value. view value ≡ strings (name lattice.now low.0 ∷ name lattice.now high.0 ∷ [])) }
+    ensures { IfOk result (λ value. view value
+        ≡ strings (name lattice.now low.0 ∷ name lattice.now high.0 ∷ [])) }
 {
     let low = name_value(alloc, lattice, low)?;
     let high = name_value(alloc, lattice, high)?;
@@ -182,7 +189,9 @@ fn put_key(
     members: &mut Map<String, Value>,
 ) -> Result<(), NoMemory>
     requires { one.now.level < size lattice.now }
-    ensures { OnOk result (members_view members.new.entries ≡ put one.now.key (string (name lattice.now one.now.level)) (members_view members.old.entries)) }
+    ensures { OnOk result (members_view members.new.entries
+        ≡ put one.now.key (string (name lattice.now one.now.level))
+        (members_view members.old.entries)) }
 {
     let level = name_value(alloc, lattice, one.level)?;
     serde_json::put(members, alloc, one.key.as_str(), level)
@@ -213,7 +222,9 @@ fn put_kind(
     members: &mut Map<String, Value>,
 ) -> Result<(), NoMemory>
     requires { IsWithin (size lattice.now) levels }
-    ensures { OnOk result (members_view members.new.entries ≡ put (word_of kind) (spec.kind_data lattice.now levels) (members_view members.old.entries)) }
+    ensures { OnOk result (members_view members.new.entries
+        ≡ put (word_of kind) (spec.kind_data lattice.now levels)
+        (members_view members.old.entries)) }
 {
     let value = kind_value(alloc, lattice, levels)?;
     serde_json::put(members, alloc, kind.word(), value)

@@ -15,7 +15,8 @@ use std::alloc::Global;
 
 /// The texts of an array of strings.
 pub(crate) fn texts(alloc: Global, value: &Value) -> Result<Option<Vec<Text>>, NoMemory>
-    ensures { IfOk result (λ found. option_map (λ texts. texts.items) found ≡ spec.texts (view value.now)) }
+    ensures { IfOk result (λ found. option_map (λ texts. texts.items) found
+        ≡ spec.texts (view value.now)) }
 {
     match value.as_array() {
         None => Ok(None),
@@ -24,7 +25,8 @@ pub(crate) fn texts(alloc: Global, value: &Value) -> Result<Option<Vec<Text>>, N
 }
 
 fn texts_of(alloc: Global, items: &[Value]) -> Result<Option<Vec<Text>>, NoMemory>
-    ensures { IfOk result (λ found. option_map (λ texts. texts.items) found ≡ spec.texts_of (items_view items.now)) }
+    ensures { IfOk result (λ found. option_map (λ texts. texts.items) found
+        ≡ spec.texts_of (items_view items.now)) }
 {
     let mut texts = Vec::new(alloc);
     for item in items {
@@ -38,7 +40,8 @@ fn texts_of(alloc: Global, items: &[Value]) -> Result<Option<Vec<Text>>, NoMemor
 
 /// The pairs of an array of arrays of two strings.
 pub(crate) fn pairs(alloc: Global, value: &Value) -> Result<Option<Vec<Pair>>, NoMemory>
-    ensures { IfOk result (λ found. option_map (λ pairs. pairs.items) found ≡ spec.pairs (view value.now)) }
+    ensures { IfOk result (λ found. option_map (λ pairs. pairs.items) found
+        ≡ spec.pairs (view value.now)) }
 {
     match value.as_array() {
         None => Ok(None),
@@ -47,7 +50,8 @@ pub(crate) fn pairs(alloc: Global, value: &Value) -> Result<Option<Vec<Pair>>, N
 }
 
 fn pairs_of(alloc: Global, items: &[Value]) -> Result<Option<Vec<Pair>>, NoMemory>
-    ensures { IfOk result (λ found. option_map (λ pairs. pairs.items) found ≡ spec.pairs_of (items_view items.now)) }
+    ensures { IfOk result (λ found. option_map (λ pairs. pairs.items) found
+        ≡ spec.pairs_of (items_view items.now)) }
 {
     let mut pairs = Vec::new(alloc);
     for item in items {
@@ -61,7 +65,8 @@ fn pairs_of(alloc: Global, items: &[Value]) -> Result<Option<Vec<Pair>>, NoMemor
 
 /// The pair of an array of two strings.
 fn pair_of(alloc: Global, value: &Value) -> Result<Option<Pair>, NoMemory>
-    ensures { IfOk result (λ found. found ≡ option_and_then spec.pair_of (spec.texts (view value.now))) }
+    ensures { IfOk result (λ found. found ≡ option_and_then spec.pair_of
+        (spec.texts (view value.now))) }
 {
     match texts(alloc, value)? {
         None => Ok(None),
@@ -83,8 +88,10 @@ fn pair_from(texts: &[Text]) -> Result<Option<Pair>, NoMemory>
 
 /// The keys of an object of strings, each with its string.
 pub(crate) fn named(alloc: Global, value: &Value) -> Result<Option<Vec<Named>>, NoMemory>
-    ensures found { IfOk result (λ found. option_map (λ named. named.items) found ≡ spec.named (view value.now)) }
-    ensures rising { IfOk result (λ found. MatchOption found (Unit {0}) (λ named. AreRising named.items)) }
+    ensures found { IfOk result (λ found. option_map (λ named. named.items) found
+        ≡ spec.named (view value.now)) }
+    ensures rising { IfOk result (λ found. MatchOption found (Unit {0})
+        (λ named. AreRising named.items)) }
 {
     match value.as_object() {
         None => Ok(None),
@@ -93,8 +100,10 @@ pub(crate) fn named(alloc: Global, value: &Value) -> Result<Option<Vec<Named>>, 
 }
 
 fn named_of(alloc: Global, members: &Map<String, Value>) -> Result<Option<Vec<Named>>, NoMemory>
-    ensures found { IfOk result (λ found. option_map (λ named. named.items) found ≡ spec.named_of (members_view members.now.entries)) }
-    ensures rising { IfOk result (λ found. MatchOption found (Unit {0}) (λ named. AreRising named.items)) }
+    ensures found { IfOk result (λ found. option_map (λ named. named.items) found
+        ≡ spec.named_of (members_view members.now.entries)) }
+    ensures rising { IfOk result (λ found. MatchOption found (Unit {0})
+        (λ named. AreRising named.items)) }
 {
     let mut named = Vec::new(alloc);
     for (key, value) in members.iter() {
@@ -115,7 +124,8 @@ pub(crate) fn kinds(
     version: Version,
     value: &Value,
 ) -> Result<Option<Vec<NamedKind>>, NoMemory>
-    ensures { IfOk result (λ found. option_map (λ kinds. kinds.items) found ≡ spec.kinds version (view value.now)) }
+    ensures { IfOk result (λ found. option_map (λ kinds. kinds.items) found
+        ≡ spec.kinds version (view value.now)) }
 {
     match value.as_object() {
         None => Ok(None),
@@ -128,7 +138,8 @@ fn kinds_of(
     version: Version,
     members: &Map<String, Value>,
 ) -> Result<Option<Vec<NamedKind>>, NoMemory>
-    ensures { IfOk result (λ found. option_map (λ kinds. kinds.items) found ≡ spec.kinds_of version (members_view members.now.entries)) }
+    ensures { IfOk result (λ found. option_map (λ kinds. kinds.items) found
+        ≡ spec.kinds_of version (members_view members.now.entries)) }
 {
     let mut kinds = Vec::new(alloc);
     for (key, value) in members.iter() {
@@ -181,7 +192,8 @@ fn named_kind(
     presence: &str,
     content: &str,
 ) -> Result<NamedKind, NoMemory>
-    ensures { IfOk result (λ kind. kind ≡ record { key = key.now; presence = presence.now; content = content.now }) }
+    ensures { IfOk result (λ kind. kind ≡ record
+        { key = key.now; presence = presence.now; content = content.now }) }
 {
     Ok(NamedKind {
         key: Text::of_str(alloc, key)?,

@@ -6,9 +6,9 @@ use Rattle.std.proofs.lemmas.List.Elements.{All-contains, All-push, All-head, Al
 use Rattle.ff_machine.specs.State.{State}
 use Rattle.ff_machine.specs.Valid.{IsState}
 use Rattle.ff_machine.proofs.Empty.{empty_state}
-use Rattle.ff_reactive.specs.Worlds.{leader}
-use Rattle.ff_classes.specs.Classes.{tops}
-use Rattle.ff_classes.proofs.Leaders.{tops_below, tops_more, tops_same, tops_less, tops_grow}
+use Rattle.ff_confinement.specs.Worlds.{leader}
+use Rattle.ff_pool.specs.Classes.{tops}
+use Rattle.ff_pool.proofs.Leaders.{tops_below, tops_more, tops_same, tops_less, tops_grow}
 use Rattle.ff_pool.specs.Heads.{Head, head_at, new_head}
 use Rattle.ff_pool.specs.Restored.{IsReady, IsFresh, HaveBrowsers}
 

@@ -2,7 +2,7 @@
 use Rattle.std.proofs.Common.{◌≡◌, ◌≢◌, ℕ, ◌+◌, ◌<◌, ◌≤◌, List, length, get_or, set, sym, ap, ◌∙◌, arith, ◌⊎◌, inl, inr, length-set, get_or-set_same, get_or-set_other}
 use Rattle.std.proofs.lemmas.Bool.{cases_lt}
 use Rattle.std.proofs.lemmas.List.{get_or_default}
-use Rattle.ff_reactive.specs.Worlds.{leader, AreLeaders}
+use Rattle.ff_confinement.specs.Worlds.{leader, AreLeaders}
 use Rattle.ff_pool.specs.Heads.{Head, new_head}
 
 -- the levels below l that lead now have the heads of those that led them, and old leaders theirs

@@ -11,20 +11,20 @@ use Rattle.ff_machine.specs.State.{State}
 use Rattle.ff_machine.specs.Valid.{IsState}
 use Rattle.ff_machine.specs.Machine.{reactor}
 use Rattle.ff_reactor.proofs.Keeping.{keeps, fuelled}
-use Rattle.ff_reactive.specs.Worlds.{Copy, leader, offer, each, copy_at, step_copy, offered, emptied, has_work, step_turns, new_leader, split, new_world, world_arrive, world_turn, world_take, Ends, IsCopy, AreOffers}
-use Rattle.ff_reactive.proofs.Below.{length-each, get_or-each, each_agree}
-use Rattle.ff_reactive.specs.Runs.{Handled}
-use Rattle.ff_reactive.proofs.Finishing.{ends_by_fuel}
-use Rattle.ff_reactive.proofs.Turns.{settle_quiet}
-use Rattle.ff_reactive.proofs.Classes.{together_parts, new_leader_within, new_leader_together, new_leader_itself, leader-split, length-split}
-use Rattle.ff_reactive.proofs.Worlds.{new_world_ok, arrive_ok, turn_ok, take_ok}
+use Rattle.ff_confinement.specs.Worlds.{Copy, leader, offer, each, copy_at, step_copy, offered, emptied, has_work, step_turns, new_leader, split, new_world, world_arrive, world_turn, world_take, Ends, IsCopy, AreOffers}
+use Rattle.ff_confinement.proofs.Below.{length-each, get_or-each, each_agree}
+use Rattle.ff_confinement.specs.Runs.{Handled}
+use Rattle.ff_confinement.proofs.Finishing.{ends_by_fuel}
+use Rattle.ff_confinement.proofs.Turns.{settle_quiet}
+use Rattle.ff_confinement.proofs.Classes.{together_parts, new_leader_within, new_leader_together, new_leader_itself, leader-split, length-split}
+use Rattle.ff_confinement.proofs.Worlds.{new_world_ok, arrive_ok, turn_ok, take_ok}
 use Rattle.ff_value.specs.Same.{same_input}
 use Rattle.ff_pool.specs.Heads.{Head, HasArrived, new_head, head_at, outputs_at, step_of, step_head, offer_head, head_turns, head_works, given, gathered_copy, gathered_copies, gathered, IsWorldOf, IsKept}
 use Rattle.ff_pool.specs.Pooled.{Pooled, copy_of, seen}
-use Rattle.ff_classes.specs.Classes.{tops, AreLed}
+use Rattle.ff_pool.specs.Classes.{tops, AreLed}
 use Rattle.ff_pool.specs.Restored.{pool_recs, HaveBrowsers, IsFresh, IsResting}
-use Rattle.ff_classes.proofs.Leaders.{tops_less, tops_lead}
-use Rattle.ff_classes.proofs.Parting.{same_input_decides}
+use Rattle.ff_pool.proofs.Leaders.{tops_less, tops_lead}
+use Rattle.ff_pool.proofs.Parting.{same_input_decides}
 
 -- a browser ends each input in one turn more than it brings fuel
 pub ends : (fuel : ℕ) → Ends (reactor fuel) (fuel + 1) IsWellSpelledInput (IsState fuel)

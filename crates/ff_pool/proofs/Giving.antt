@@ -3,8 +3,8 @@ use Rattle.std.proofs.Common.{◌≡◌, ℕ, suc, ◌<◌, ◌≤◌, Bool, tru
 use Rattle.std.proofs.lemmas.Bool.{eqb-true}
 use Rattle.std.proofs.lemmas.List.{get_or_default}
 use Rattle.ff_value.specs.declared.output.Out.{Out}
-use Rattle.ff_reactive.specs.Worlds.{leader}
-use Rattle.ff_reactive.proofs.Below.{each_is}
+use Rattle.ff_confinement.specs.Worlds.{leader}
+use Rattle.ff_confinement.proofs.Below.{each_is}
 use Rattle.ff_pool.specs.Heads.{outputs_at, given}
 
 -- the levels below k have got the outputs, where they are of the class

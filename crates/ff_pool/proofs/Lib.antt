@@ -9,3 +9,7 @@ pub mod Onward
 pub mod Slicing
 pub mod Playing
 pub mod AtRest
+pub mod Members
+pub mod Parting
+pub mod Leaders
+pub mod Waiting

@@ -1,7 +1,7 @@
 -- Classes get their offers, level by level.
 use Rattle.std.proofs.Common.{◌≡◌, ℕ, ◌<◌, ◌≤◌, Option, List, length, get_or}
 use Rattle.ff_value.specs.declared.input.Input.{Input}
-use Rattle.ff_reactive.specs.Worlds.{leader, offer}
+use Rattle.ff_confinement.specs.Worlds.{leader, offer}
 use Rattle.ff_pool.specs.Heads.{Head, offer_head}
 
 -- the leaders below l have their offers

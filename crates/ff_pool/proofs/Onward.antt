@@ -1,8 +1,8 @@
 -- Steps on the way to rest.
 use Rattle.std.proofs.Common.{◌≡◌, ℕ, ◌+◌, ◌<◌, ◌≤◌, true, false, length, refl, sym, ap, subst, ◌∙◌, arith}
 use Rattle.ff_machine.specs.Machine.{reactor}
-use Rattle.ff_reactive.specs.Worlds.{leader}
-use Rattle.ff_reactive.proofs.Worlds.{leaders-turn, turn_ok, drain-turn, left-turn, steps-turn, rests_by_leaders, drain_rest, left_at_rest}
+use Rattle.ff_confinement.specs.Worlds.{leader}
+use Rattle.ff_confinement.proofs.Worlds.{leaders-turn, turn_ok, drain-turn, left-turn, steps-turn, rests_by_leaders, drain_rest, left_at_rest}
 use Rattle.ff_pool.specs.Pooled as pooled
 use Rattle.ff_pool.specs.Pooled.{Pooled, size, has_work, drained, turned, left, IsPool}
 use Rattle.ff_pool.specs.Draining.{IsOnward, steps_left}

@@ -3,14 +3,14 @@ use Rattle.std.proofs.Common.{◌≡◌, ℕ, ◌+◌, false, List, All, sym, ap
 use Rattle.std.proofs.lemmas.List.Elements.{All-map}
 use Rattle.ff_value.specs.Spelled.{IsWellSpelledInput}
 use Rattle.ff_machine.specs.Machine.{reactor}
-use Rattle.ff_reactive.specs.Worlds.{EventOk, IsPlayed}
-use Rattle.ff_reactive.proofs.Worlds.{levels-new}
-use Rattle.ff_reactive.proofs.Schedules.{every_schedule}
+use Rattle.ff_confinement.specs.Worlds.{EventOk, IsPlayed}
+use Rattle.ff_confinement.proofs.Worlds.{levels-new}
+use Rattle.ff_confinement.proofs.Schedules.{every_schedule}
 use Rattle.ff_value.specs.Same.{same_input}
 use Rattle.ff_pool.specs.Pooled.{Pooled, size, played, new_pool}
 use Rattle.ff_pool.specs.Events.{event_of, events_of, IsEvent}
 use Rattle.ff_pool.specs.declared.event.Event.{Event}
-use Rattle.ff_classes.proofs.Parting.{same_input_decides}
+use Rattle.ff_pool.proofs.Parting.{same_input_decides}
 use Rattle.ff_pool.proofs.Gathering.{ends}
 
 pub schedule : (p q : Pooled) (es : List Event) → q ≡ played p (events_of es) → (p.spent ≡ false → All (IsEvent (size p)) es)

@@ -3,12 +3,12 @@ use Rattle.std.proofs.Common.{◌≡◌, ℕ, ◌<◌, Bool, false, Option, List
 use Rattle.ff_value.specs.Spelled.{IsWellSpelledInput}
 use Rattle.ff_value.specs.declared.input.Input.{Input}
 use Rattle.ff_value.specs.declared.output.Out.{Out}
-use Rattle.ff_reactive.specs.Worlds.{leader, split}
-use Rattle.ff_reactive.proofs.Classes.{length-split}
+use Rattle.ff_confinement.specs.Worlds.{leader, split}
+use Rattle.ff_confinement.proofs.Classes.{length-split}
 use Rattle.ff_value.specs.Same.{same_input}
 use Rattle.ff_pool.specs.Heads.{Head, HasArrived, new_head, head_at, step_of, step_head, head_turns, head_works, given, IsKept}
 use Rattle.ff_pool.specs.Pooled.{Pooled, seen, size, copy_of, has_work, step_turns, arrived, turned, AreOffersTo}
-use Rattle.ff_classes.proofs.Parting.{same_input_decides}
+use Rattle.ff_pool.proofs.Parting.{same_input_decides}
 use Rattle.ff_pool.proofs.Gathering.{head_default, spelled_at, work_at, turns_at, state_at, gathered-turn, kept-turn, gathered-arrive, kept-arrive}
 
 -- what is known where a call has opened a pool that isn't spent

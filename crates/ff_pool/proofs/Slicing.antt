@@ -7,8 +7,8 @@ use Rattle.ff_value.specs.Spelled.{IsWellSpelledInput}
 use Rattle.ff_value.specs.declared.input.Input.{Input}
 use Rattle.ff_value.specs.declared.output.Out.{Out}
 use Rattle.ff_machine.specs.Machine.{reactor}
-use Rattle.ff_reactive.specs.Worlds.{leader, taken, turned_once}
-use Rattle.ff_reactive.proofs.Below.{each_agree, get_or-each}
+use Rattle.ff_confinement.specs.Worlds.{leader, taken, turned_once}
+use Rattle.ff_confinement.proofs.Below.{each_agree, get_or-each}
 use Rattle.ff_pool.specs.Draining.{IsOnward, steps_left}
 use Rattle.ff_pool.specs.Heads.{Head, IsClassStepped, IsKept, IsStepped, MayCount, given, head_at, head_turns, head_works, new_head, outputs_at, step_head, step_of}
 use Rattle.ff_pool.specs.Pooled as pooled

@@ -1,7 +1,7 @@
 -- A pool on its way to rest.
 use Rattle.std.specs.Prelude.{◌≡◌, ◌+◌, ℕ, false}
 use Rattle.ff_machine.specs.Machine.{reactor}
-use Rattle.ff_reactive.specs.Worlds.{world_steps}
+use Rattle.ff_confinement.specs.Worlds.{world_steps}
 use Rattle.ff_pool.specs.Pooled.{Pooled, size, drained, left, IsPool}
 
 -- the steps that are left: turns, and inputs that are taken

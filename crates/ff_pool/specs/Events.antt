@@ -2,11 +2,11 @@
 use Rattle.std.specs.Prelude.{ℕ, ◌+◌, List, [], ◌∷◌, map}
 use Rattle.ff_value.specs.Spelled.{IsWellSpelledInput}
 use Rattle.ff_value.specs.declared.input.Input.{Input}
-use Rattle.ff_reactive.specs.Worlds as worlds
-use Rattle.ff_reactive.specs.Worlds.{EventOk}
-use Rattle.ff_reactive.specs.Worlds.Event.{arrive, turn}
+use Rattle.ff_confinement.specs.Worlds as worlds
+use Rattle.ff_confinement.specs.Worlds.{EventOk}
+use Rattle.ff_confinement.specs.Worlds.Event.{arrive, turn}
 use Rattle.ff_machine.specs.Machine.{reactor}
-use Rattle.ff_reactive.specs.Worlds.{play_event}
+use Rattle.ff_confinement.specs.Worlds.{play_event}
 use Rattle.ff_value.specs.Same.{same_input}
 use Rattle.ff_pool.specs.Pooled.{Pooled, step_turns}
 use Rattle.ff_pool.specs.declared.event.Event.{Event}

@@ -14,7 +14,7 @@ use Rattle.ff_machine.specs.State.{State, empty}
 use Rattle.ff_machine.specs.Valid.{IsState}
 use Rattle.ff_machine.specs.Machine.{reactor}
 use Rattle.ff_machine.specs.Codes.{coded_state}
-use Rattle.ff_reactive.specs.Worlds.{Copy, World, IsWorld, each, leader, offer, split, stepped, works, step_turns}
+use Rattle.ff_confinement.specs.Worlds.{Copy, World, IsWorld, each, leader, offer, split, stepped, works, step_turns}
 
 -- the copy of a class: the state of its browser, and the inputs that wait
 pub record Head : Type 0 where

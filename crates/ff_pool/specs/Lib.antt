@@ -3,3 +3,4 @@ pub mod Pooled
 pub mod Draining
 pub mod Events
 pub mod Restored
+pub mod Classes

@@ -9,8 +9,8 @@ use Rattle.ff_value.specs.contracts.output.Out as out
 use Rattle.ff_machine.specs.State.{State}
 use Rattle.ff_machine.specs.Machine.{reactor}
 use Rattle.ff_machine.specs.Codes.{coded_state}
-use Rattle.ff_reactive.specs.Worlds as worlds
-use Rattle.ff_reactive.specs.Worlds.{Copy, World, Event, new_world, world_arrive, world_turn, world_take, world_drain, world_left, play_events, AreOffers}
+use Rattle.ff_confinement.specs.Worlds as worlds
+use Rattle.ff_confinement.specs.Worlds.{Copy, World, Event, new_world, world_arrive, world_turn, world_take, world_drain, world_left, play_events, AreOffers}
 use Rattle.ff_value.specs.Same.{same_input}
 use Rattle.ff_pool.specs.Heads.{Head, gathered, IsWorldOf}
 

@@ -2,7 +2,7 @@
 use Rattle.std.specs.Prelude.{◌≡◌, ◌<◌, ℕ, true, false, List, [], length, map, All}
 use Rattle.ff_machine.specs.State.{State}
 use Rattle.ff_machine.specs.Valid.{IsState}
-use Rattle.ff_classes.specs.Classes.{tops, classes_of}
+use Rattle.ff_pool.specs.Classes.{tops, classes_of}
 use Rattle.ff_pool.specs.Heads.{Head, head_at}
 use Rattle.ff_pool.specs.Pooled.{Pooled, copy_of, size, IsPool}
 

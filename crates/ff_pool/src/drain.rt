@@ -1,13 +1,13 @@
 //! Draining: class after class makes steps until no level has work.
 ghost use Rattle.std.specs.Prelude.{◌≡◌, ◌+◌, ◌<◌, ◌≤◌, ℕ, true, false, None, IfSome, OnOk, OnErr};
-ghost use Rattle.ff_reactive.specs.Worlds.{leader};
+ghost use Rattle.ff_confinement.specs.Worlds.{leader};
 ghost use Rattle.ff_pool.specs.Pooled as pooled;
 ghost use Rattle.ff_pool.specs.Pooled.{size, drained, left};
 
 use crate::pool::Pool;
+use ff_contract::Steps;
 use ff_name::Level;
 use ff_reactor::{NoMemory, Reactor};
-use ff_steps::Steps;
 use std::alloc::AllocError;
 use std::sync::ledger::Ledger;
 
@@ -24,7 +24,8 @@ impl<B: Reactor> Pool<B> {
         requires { 0 < slice }
         ensures unspent { OnOk result (self.old.spent ≡ false) }
         ensures done { OnOk result (self.new ≡ drained self.old) }
-        ensures rests { OnOk result ((l : ℕ) → l < size self.new → pooled.has_work self.new l ≡ false) }
+        ensures rests { OnOk result ((l : ℕ) → l < size self.new
+            → pooled.has_work self.new l ≡ false) }
         ensures spent { OnErr result (self.new.spent ≡ true) }
         ensures levels { size self.new ≡ size self.old }
         ensures count { OnOk result (turns.new ≡ turns.old + left self.old) }
@@ -48,8 +49,10 @@ impl<B: Reactor> Pool<B> {
     fn next_work(&self, from: u8) -> Option<Level>
         requires unspent { self.now.spent ≡ false }
         requires from { from ≤ size self.now }
-        ensures found { IfSome result (λ l. (l.0 < size self.now) × (pooled.has_work self.now l.0 ≡ true)) }
-        ensures none { result ≡ None → (l : ℕ) → l < size self.now → leader self.now.world.leaders l ≡ l → pooled.has_work self.now l ≡ false }
+        ensures found { IfSome result (λ l. (l.0 < size self.now)
+            × (pooled.has_work self.now l.0 ≡ true)) }
+        ensures none { result ≡ None → (l : ℕ) → l < size self.now
+            → leader self.now.world.leaders l ≡ l → pooled.has_work self.now l ≡ false }
     {
         match self.first_work(from, self.size()) {
             Some(l) => Some(l),
@@ -61,8 +64,10 @@ impl<B: Reactor> Pool<B> {
     fn first_work(&self, from: u8, to: u8) -> Option<Level>
         requires unspent { self.now.spent ≡ false }
         requires to { to ≤ size self.now }
-        ensures found { IfSome result (λ l. (l.0 < size self.now) × (pooled.has_work self.now l.0 ≡ true)) }
-        ensures none { result ≡ None → (l : ℕ) → from ≤ l → l < to → leader self.now.world.leaders l ≡ l → pooled.has_work self.now l ≡ false }
+        ensures found { IfSome result (λ l. (l.0 < size self.now)
+            × (pooled.has_work self.now l.0 ≡ true)) }
+        ensures none { result ≡ None → (l : ℕ) → from ≤ l → l < to
+            → leader self.now.world.leaders l ≡ l → pooled.has_work self.now l ≡ false }
     {
         for number in from..to {
             let l = Level(number);

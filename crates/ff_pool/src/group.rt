@@ -5,9 +5,9 @@ ghost use Rattle.ff_machine.specs.Valid.{IsState};
 ghost use Rattle.ff_reactor.specs.declared.reactor.TheConstants.{MOST_BUDGET};
 ghost use Rattle.ff_pool.specs.Heads.{IsStepped, MayCount, new_head, step_of, step_head, offer_head, head_works, head_turns};
 
-use ff_classes::Inbox;
+use crate::inbox::Inbox;
+use ff_contract::Steps;
 use ff_reactor::{NoMemory, Reactor};
-use ff_steps::Steps;
 use ff_value::{Input, Out};
 use std::alloc::Global;
 use std::marker::Model;
@@ -56,7 +56,7 @@ impl<B: Reactor> Group<B> {
         }
     }
 
-    /// An equal group, and neither changes with the other. Its one refusal is want of memory.
+    /// An equal group, and neither changes with the other.
     pub(crate) fn fork<C: Ledger>(&self, copies: &mut Steps<C>) -> Result<Group<B>, NoMemory>
         ensures equal { IfOk result (λ group. group ≡ self.now) }
         ensures copies { copies.new ≡ copies.old }
@@ -99,12 +99,14 @@ impl<B: Reactor> Group<B> {
     ) -> Result<(), NoMemory>
         requires { All IsWellSpelledInput self.old.inbox }
         ensures done { OnOk result (self.new ≡ step_head self.old) }
-        ensures outputs { OnOk result (outs.new.items ≡ outs.old.items ++ (step_of self.old).outputs) }
+        ensures outputs { OnOk result (outs.new.items
+            ≡ outs.old.items ++ (step_of self.old).outputs) }
         ensures count { OnOk result (turns.new ≡ turns.old + head_turns self.old) }
         ensures most { turns.new ≤ turns.old + head_turns self.old }
         ensures turns_later { turns.old ≤ turns.new }
         ensures later { copies.old ≤ copies.new }
-        ensures copies { self.old.state.quiet ≡ false → copies.new ≤ copies.old + B.turning self.old.state }
+        ensures copies { self.old.state.quiet ≡ false
+            → copies.new ≤ copies.old + B.turning self.old.state }
     {
         if !self.browser.quiet() {
             return self.browser.turn(outs, copies, turns);
@@ -124,7 +126,8 @@ impl<B: Reactor> Group<B> {
         turns: &mut Steps<L>,
     ) -> Result<(), NoMemory>
         requires { All IsWellSpelledInput self.old.inbox }
-        ensures done { OnOk result (IsStepped self.old outs.old.items turns.old self.new outs.new.items turns.new) }
+        ensures done { OnOk result (IsStepped self.old outs.old.items turns.old self.new
+            outs.new.items turns.new) }
         ensures most { OnErr result (MayCount self.old outs.old.items turns.old turns.new) }
         ensures turns_later { turns.old ≤ turns.new }
         ensures later { copies.old ≤ copies.new }

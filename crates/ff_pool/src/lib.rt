@@ -1,6 +1,16 @@
 //! A pool of browsers: one copy for each level, where levels that were offered the same so far are
 //! one copy.
 //!
+//! Floor: copies. It knows not how a trace is written.
+//!
+//! ```text
+//! let mut pool = Pool::<Browser>::new(alloc, policy.lattice().size(), policy.fuel())?;
+//! let seen = offers(alloc, &policy, &input)?; // of ff_route: what each level sees of it
+//! pool.arrive(&seen, &mut copies)?;
+//! pool.drain(1_000, &mut copies, &mut turns)?;
+//! let outputs = pool.take(Level(0))?;
+//! ```
+//!
 //! A [`Pool`] is seen as a world of copies: each level has a state, an inbox of inputs that wait,
 //! the outputs that nobody took, and its class, the levels that are one copy with it. What one
 //! copy of a class does, all of them do, so it is done once. Offers that differ part a class, at
@@ -21,9 +31,13 @@
 //! there is no memory.
 #![tactic(auto)]
 
+mod classes;
 mod drain;
 mod event;
 mod group;
+mod inbox;
+mod leading;
+mod outs;
 mod play;
 mod pool;
 mod restoring;

@@ -1,14 +1,14 @@
 //! Playing a list of events.
 ghost use Rattle.std.specs.Prelude.{◌≡◌, ◌+◌, ◌≤◌, ℕ, true, false, All, OnOk, OnErr};
 ghost use Rattle.ff_machine.specs.Machine.{reactor};
-ghost use Rattle.ff_reactive.specs.Worlds.{IsPlayed};
+ghost use Rattle.ff_confinement.specs.Worlds.{IsPlayed};
 ghost use Rattle.ff_pool.specs.Pooled.{size, played, new_pool};
 ghost use Rattle.ff_pool.specs.Events.{events_of, played_one, turns_of_event, turns_of_events, IsEvent};
 
 use crate::event::Event;
 use crate::pool::Pool;
+use ff_contract::Steps;
 use ff_reactor::{NoMemory, Reactor};
-use ff_steps::Steps;
 use std::alloc::AllocError;
 use std::sync::ledger::Ledger;
 
@@ -28,7 +28,8 @@ impl<B: Reactor> Pool<B> {
         requires { self.old.spent ≡ false → All (IsEvent (size self.old)) events.now }
         ensures unspent { OnOk result (self.old.spent ≡ false) }
         ensures done { OnOk result (self.new ≡ played self.old (events_of events.now)) }
-        ensures schedule { OnOk result ((n fuel : ℕ) → self.old ≡ new_pool n fuel → IsPlayed (reactor fuel) (fuel + 1) self.new.world (events_of events.now)) }
+        ensures schedule { OnOk result ((n fuel : ℕ) → self.old ≡ new_pool n fuel
+            → IsPlayed (reactor fuel) (fuel + 1) self.new.world (events_of events.now)) }
         ensures spent { OnErr result (self.new.spent ≡ true) }
         ensures levels { size self.new ≡ size self.old }
         ensures count { OnOk result (turns.new ≡ turns.old + turns_of_events self.old events.now) }

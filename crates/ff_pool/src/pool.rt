@@ -2,24 +2,26 @@
 ghost use Rattle.std.specs.Prelude.{◌≡◌, ◌+◌, ◌<◌, ◌≤◌, ◌↔◌, true, false, not, All, IsTrue, IfOk, OnOk, OnErr, map};
 ghost use Rattle.ff_reactor.specs.declared.reactor.TheConstants.{MOST_BUDGET};
 ghost use Rattle.ff_lattice.specs.declared.names.TheConstants.{MOST_LEVELS};
-ghost use Rattle.ff_reactive.specs.Worlds.{leader};
+ghost use Rattle.ff_confinement.specs.Worlds.{leader};
 ghost use Rattle.ff_pool.specs.Draining.{IsOnward, steps_left};
-ghost use Rattle.ff_classes.specs.Classes.{class_of};
+ghost use Rattle.ff_pool.specs.Classes.{class_of};
 ghost use Rattle.ff_pool.specs.Pooled as pooled;
 ghost use Rattle.ff_pool.specs.Pooled.{size, copy_of, new_pool, arrived, turned, taken, step_turns, left, AreOffersTo, IsPool};
 ghost use Rattle.ff_pool.specs.Restored.{pool_recs, IsReady, IsResting};
 ghost use Rattle.ff_records.specs.Restored.{Restores};
 
+use crate::classes::class_of;
 use crate::group::Group;
+use crate::leading::leaders_of;
+use crate::outs::Outs;
 use crate::restoring::{Browsers, led_heads, no_outs};
 use crate::steps::{
     arrive_heads, browser_of, forked_heads, forked_outs, has_work, step_class, steps_class,
 };
-use ff_classes::{Outs, class_of, leaders_of};
+use ff_contract::Steps;
 use ff_lattice::LevelSet;
 use ff_name::Level;
 use ff_reactor::{NoMemory, Reactor};
-use ff_steps::Steps;
 use ff_value::{Offers, Out};
 use std::alloc::{AllocError, Global};
 use std::marker::Model;
@@ -64,12 +66,13 @@ impl<B: Reactor> Model for Pool<B> {
 
     ghost view = { λ p. seen p.fuel p.spent p.heads.items p.puts.items p.leaders.items };
 
-    ghost invariant = { λ p. p.spent ≡ false → IsKept p.fuel p.heads.items p.puts.items p.leaders.items };
+    ghost invariant = { λ p. p.spent ≡ false
+        → IsKept p.fuel p.heads.items p.puts.items p.leaders.items };
 }
 
 impl<B: Reactor> Pool<B> {
     /// A pool of `n` levels, from 1 to `MOST_LEVELS`, all in one class, to whose browsers each
-    /// input brings so much fuel, from 1 to `MOST_BUDGET`. Its one refusal is want of memory.
+    /// input brings so much fuel, from 1 to `MOST_BUDGET`.
     #[tactic(auto, using(crate::proofs::Making::made_more))]
     pub fn new(alloc: Global, n: u8, fuel: u32) -> Result<Pool<B>, NoMemory>
         requires some { 1 ≤ n }
@@ -111,7 +114,8 @@ impl<B: Reactor> Pool<B> {
         requires fuel_some { 1 ≤ fuel }
         requires fuel_most { fuel ≤ MOST_BUDGET }
         requires ready { All (λ browser. IsReady fuel (B.state browser)) browsers }
-        ensures { IfOk result (Restores (IsResting n fuel) pool_recs (record { classes = classes.now; browsers = map B.state browsers })) }
+        ensures { IfOk result (Restores (IsResting n fuel) pool_recs
+            (record { classes = classes.now; browsers = map B.state browsers })) }
     {
         if classes.len() != browsers.len() {
             return Ok(None);
@@ -251,7 +255,8 @@ impl<B: Reactor> Pool<B> {
         ensures most { turns.new ≤ turns.old + step_turns self.old l.0 }
         ensures turns_later { turns.old ≤ turns.new }
         ensures later { copies.old ≤ copies.new }
-        ensures copies { (copy_of self.old l.0).state.quiet ≡ false → copies.new ≤ copies.old + B.turning (copy_of self.old l.0).state }
+        ensures copies { (copy_of self.old l.0).state.quiet ≡ false
+            → copies.new ≤ copies.old + B.turning (copy_of self.old l.0).state }
     {
         if self.spent {
             return Err(AllocError);

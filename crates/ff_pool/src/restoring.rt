@@ -1,12 +1,12 @@
 //! The heads and the outputs of a pool at rest.
 ghost use Rattle.std.specs.Prelude.{◌≡◌, ◌≤◌, [], All, IfOk, length, map};
 ghost use Rattle.ff_reactor.specs.declared.reactor.TheConstants.{MOST_BUDGET};
-ghost use Rattle.ff_classes.specs.Classes.{tops};
+ghost use Rattle.ff_pool.specs.Classes.{tops};
 ghost use Rattle.ff_pool.specs.Restored.{IsReady, HaveBrowsers};
-ghost use Rattle.ff_reactive.specs.Worlds.{each};
+ghost use Rattle.ff_confinement.specs.Worlds.{each};
 
 use crate::group::Group;
-use ff_classes::Outs;
+use crate::outs::Outs;
 use ff_reactor::{NoMemory, Reactor};
 use ff_shared::OwnedList;
 use std::alloc::Global;
@@ -15,7 +15,7 @@ use std::alloc::Global;
 pub type Browsers<B> = OwnedList<B>;
 
 /// The heads of the levels: those that lead get these browsers in their order, and the others new
-/// ones. Its one refusal is want of memory.
+/// ones.
 pub(crate) fn led_heads<B: Reactor>(
     alloc: Global,
     fuel: u32,
@@ -26,7 +26,8 @@ pub(crate) fn led_heads<B: Reactor>(
     requires fuel_most { fuel ≤ MOST_BUDGET }
     requires ready { All (λ browser. IsReady fuel (B.state browser)) browsers }
     requires count { length (tops leaders.now) ≡ length browsers }
-    ensures { IfOk result (λ heads. HaveBrowsers fuel leaders.now (map B.state browsers) heads.items) }
+    ensures { IfOk result (λ heads. HaveBrowsers fuel leaders.now (map B.state browsers)
+        heads.items) }
 {
     let mut browsers = browsers.into_vec();
     let mut heads = Vec::new(alloc);
@@ -40,7 +41,7 @@ pub(crate) fn led_heads<B: Reactor>(
     Ok(heads)
 }
 
-/// No outputs of any level. Its one refusal is want of memory.
+/// No outputs of any level.
 #[tactic(auto, using(crate::proofs::Making::made_more))]
 pub(crate) fn no_outs(alloc: Global, n: u8) -> Result<Vec<Outs>, NoMemory>
     ensures { IfOk result (λ puts. puts.items ≡ each (λ l. []) n) }

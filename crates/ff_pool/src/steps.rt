@@ -2,14 +2,15 @@
 ghost use Rattle.std.specs.Prelude.{◌≡◌, ◌+◌, ◌<◌, ◌≤◌, ℕ, [], false, length, slice_index_or, slice_set, All, IfOk, OnOk, OnErr};
 ghost use Rattle.std.specs.Option.{option_copied};
 ghost use Rattle.ff_value.specs.Spelled.{IsWellSpelledInput};
-ghost use Rattle.ff_reactive.specs.Worlds.{leader, offer, split, AreLeaders};
+ghost use Rattle.ff_confinement.specs.Worlds.{leader, offer, split, AreLeaders};
 ghost use Rattle.ff_value.specs.Same.{same_input};
 ghost use Rattle.ff_pool.specs.Heads.{Head, HasArrived, HasForked, IsClassStepped, MayCount, step_of, step_head, offer_head, head_works, head_turns, given};
 
+use crate::classes::{split, stay};
 use crate::group::Group;
-use ff_classes::{Outs, split, stay};
+use crate::outs::Outs;
+use ff_contract::Steps;
 use ff_reactor::{NoMemory, Reactor};
-use ff_steps::Steps;
 use ff_value::{Input, Offers, Out};
 use std::alloc::Global;
 use std::sync::ledger::Ledger;
@@ -28,14 +29,23 @@ pub(crate) fn step_class<B: Reactor, C: Ledger, L: Ledger>(
     requires level { l < length leaders.now }
     requires led { leader leaders.now l < length heads.old }
     requires count { length puts.old ≡ length leaders.now }
-    requires spelled { (d : Head) → All IsWellSpelledInput (slice_index_or heads.old (leader leaders.now l) d).inbox }
-    ensures done { OnOk result ((d : Head) → heads.new ≡ slice_set heads.old (leader leaders.now l) (step_head (slice_index_or heads.old (leader leaders.now l) d))) }
-    ensures outputs { OnOk result ((d : Head) → puts.new ≡ given puts.old leaders.now (leader leaders.now l) (step_of (slice_index_or heads.old (leader leaders.now l) d)).outputs) }
-    ensures count { OnOk result ((d : Head) → turns.new ≡ turns.old + head_turns (slice_index_or heads.old (leader leaders.now l) d)) }
-    ensures most { (d : Head) → turns.new ≤ turns.old + head_turns (slice_index_or heads.old (leader leaders.now l) d) }
+    requires spelled { (d : Head) → All IsWellSpelledInput
+        (slice_index_or heads.old (leader leaders.now l) d).inbox }
+    ensures done { OnOk result ((d : Head) → heads.new
+        ≡ slice_set heads.old (leader leaders.now l)
+        (step_head (slice_index_or heads.old (leader leaders.now l) d))) }
+    ensures outputs { OnOk result ((d : Head)
+        → puts.new ≡ given puts.old leaders.now (leader leaders.now l)
+        (step_of (slice_index_or heads.old (leader leaders.now l) d)).outputs) }
+    ensures count { OnOk result ((d : Head)
+        → turns.new ≡ turns.old + head_turns (slice_index_or heads.old (leader leaders.now l) d)) }
+    ensures most { (d : Head) → turns.new ≤ turns.old
+        + head_turns (slice_index_or heads.old (leader leaders.now l) d) }
     ensures turns_later { turns.old ≤ turns.new }
     ensures later { copies.old ≤ copies.new }
-    ensures copies { (d : Head) → (slice_index_or heads.old (leader leaders.now l) d).state.quiet ≡ false → copies.new ≤ copies.old + B.turning (slice_index_or heads.old (leader leaders.now l) d).state }
+    ensures copies { (d : Head) → (slice_index_or heads.old (leader leaders.now l) d).state.quiet
+        ≡ false → copies.new ≤ copies.old + B.turning
+        (slice_index_or heads.old (leader leaders.now l) d).state }
 {
     let top = leaders[l];
     let mut outs = Vec::new(alloc);
@@ -57,9 +67,12 @@ pub(crate) fn steps_class<B: Reactor, C: Ledger, L: Ledger>(
     requires level { l < length leaders.now }
     requires led { leader leaders.now l < length heads.old }
     requires count { length puts.old ≡ length leaders.now }
-    requires spelled { (d : Head) → All IsWellSpelledInput (slice_index_or heads.old (leader leaders.now l) d).inbox }
-    ensures done { OnOk result (IsClassStepped heads.old puts.old leaders.now l turns.old heads.new puts.new turns.new) }
-    ensures most { OnErr result ((d : Head) → MayCount (slice_index_or heads.old (leader leaders.now l) d) [] turns.old turns.new) }
+    requires spelled { (d : Head) → All IsWellSpelledInput
+        (slice_index_or heads.old (leader leaders.now l) d).inbox }
+    ensures done { OnOk result (IsClassStepped heads.old puts.old leaders.now l turns.old heads.new
+        puts.new turns.new) }
+    ensures most { OnErr result ((d : Head)
+        → MayCount (slice_index_or heads.old (leader leaders.now l) d) [] turns.old turns.new) }
     ensures turns_later { turns.old ≤ turns.new }
     ensures later { copies.old ≤ copies.new }
 {
@@ -107,7 +120,8 @@ pub(crate) fn browser_of<'a, B: Reactor>(
 ) -> &'a B
     requires level { l < length leaders.now }
     requires led { leader leaders.now l < length heads.now }
-    ensures { (d : Head) → B.state result.now ≡ (slice_index_or heads.now (leader leaders.now l) d).state }
+    ensures { (d : Head) → B.state result.now
+        ≡ (slice_index_or heads.now (leader leaders.now l) d).state }
 {
     heads[leaders[l]].browser()
 }
@@ -124,17 +138,19 @@ pub(crate) fn arrive_heads<B: Reactor, C: Ledger>(
     requires heads { length heads.old ≡ length leaders.old.items }
     requires count { length offers.now ≡ length leaders.old.items }
     requires led { AreLeaders leaders.old.items }
-    ensures leaders { OnOk result (leaders.new.items ≡ split same_input leaders.old.items offers.now) }
+    ensures leaders { OnOk result (leaders.new.items
+        ≡ split same_input leaders.old.items offers.now) }
     ensures levels { length leaders.new.items ≡ length leaders.old.items }
-    ensures arrived { OnOk result ((d : Head) → HasArrived leaders.old.items offers.now heads.old heads.new d) }
+    ensures arrived { OnOk result ((d : Head)
+        → HasArrived leaders.old.items offers.now heads.old heads.new d) }
     ensures copies { copies.new ≡ copies.old }
 {
     part_heads(alloc, heads, leaders, offers, copies)?;
     offer_heads(heads, leaders.as_slice(), offers)
 }
 
-/// Classes whose levels are offered different things part, and new leaders get forks of the browsers
-/// that led them. Where none parts, this takes no memory.
+/// Classes whose levels are offered different things part, and new leaders get forks of the
+/// browsers that led them. Where none parts, this takes no memory.
 fn part_heads<B: Reactor, C: Ledger>(
     alloc: Global,
     heads: &mut [Group<B>],
@@ -145,9 +161,11 @@ fn part_heads<B: Reactor, C: Ledger>(
     requires heads { length heads.old ≡ length leaders.old.items }
     requires count { length offers.now ≡ length leaders.old.items }
     requires led { AreLeaders leaders.old.items }
-    ensures leaders { OnOk result (leaders.new.items ≡ split same_input leaders.old.items offers.now) }
+    ensures leaders { OnOk result (leaders.new.items
+        ≡ split same_input leaders.old.items offers.now) }
     ensures levels { length leaders.new.items ≡ length leaders.old.items }
-    ensures forked { OnOk result (HasForked leaders.old.items leaders.new.items heads.old heads.new) }
+    ensures forked { OnOk result (HasForked leaders.old.items leaders.new.items heads.old
+        heads.new) }
     ensures copies { copies.new ≡ copies.old }
 {
     if stay(leaders.as_slice(), offers) {
@@ -190,7 +208,8 @@ fn fork_head<B: Reactor, C: Ledger>(
 ) -> Result<(), NoMemory>
     requires from { from < length heads.old }
     requires to { to < length heads.old }
-    ensures forked { OnOk result ((d : Head) → heads.new ≡ slice_set heads.old to (slice_index_or heads.old from d)) }
+    ensures forked { OnOk result ((d : Head)
+        → heads.new ≡ slice_set heads.old to (slice_index_or heads.old from d)) }
     ensures copies { copies.new ≡ copies.old }
 {
     let fork = heads[from].fork(copies)?;
@@ -206,7 +225,9 @@ fn offer_heads<B: Reactor>(
 ) -> Result<(), NoMemory>
     requires heads { length heads.old ≡ length leaders.now }
     requires count { length offers.now ≡ length leaders.now }
-    ensures { OnOk result ((l : ℕ) (d : Head) → l < length leaders.now → leader leaders.now l ≡ l → slice_index_or heads.new l d ≡ offer_head (slice_index_or heads.old l d) (offer offers.now l)) }
+    ensures { OnOk result ((l : ℕ) (d : Head) → l < length leaders.now → leader leaders.now l ≡ l
+        → slice_index_or heads.new l d ≡ offer_head (slice_index_or heads.old l d)
+        (offer offers.now l)) }
 {
     for l in 0..leaders.len() {
         if leaders[l] == l {
@@ -226,7 +247,7 @@ fn offer_head<B: Reactor>(head: &mut Group<B>, offer: Option<&Input>) -> Result<
     }
 }
 
-/// Forks of all these groups. Its one refusal is want of memory.
+/// Forks of all these groups.
 pub(crate) fn forked_heads<B: Reactor, C: Ledger>(
     alloc: Global,
     heads: &[Group<B>],
@@ -242,7 +263,7 @@ pub(crate) fn forked_heads<B: Reactor, C: Ledger>(
     Ok(forks)
 }
 
-/// The outputs of all levels once more. Its one refusal is want of memory.
+/// The outputs of all levels once more.
 pub(crate) fn forked_outs(alloc: Global, puts: &[Outs]) -> Result<Vec<Outs>, NoMemory>
     ensures { IfOk result (λ forks. forks.items ≡ puts.now) }
 {

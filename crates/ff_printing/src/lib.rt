@@ -1,4 +1,6 @@
 //! Documents, expressions, responses and what the user is shown, printed in the notation.
+//!
+//! Floor: notation. It knows not what a machine makes of what is read.
 #![tactic(auto)]
 
 mod law;

@@ -29,7 +29,8 @@ pub fn print_doc(doc: &Doc, out: &mut Vec<u8>) -> Result<(), NoMemory>
 pub fn print_expr(expr: &Expr, out: &mut Vec<u8>) -> Result<(), NoMemory>
     ensures appends { Appends result out.old.items out.new.items (spelled (expr_item expr.now)) }
     // What is printed is read back.
-    ensures again { IsWellSpelledExpr expr.now → ReadsBackExpr (spelled (expr_item expr.now)) expr.now }
+    ensures again { IsWellSpelledExpr expr.now
+        → ReadsBackExpr (spelled (expr_item expr.now)) expr.now }
 {
     let mut printer = Printer::after(out)?;
     print_tree::print_expr(expr, &mut printer);
@@ -40,7 +41,8 @@ pub fn print_expr(expr: &Expr, out: &mut Vec<u8>) -> Result<(), NoMemory>
 pub fn print_resp(resp: &Resp, out: &mut Vec<u8>) -> Result<(), NoMemory>
     ensures appends { Appends result out.old.items out.new.items (spelled (resp_item resp.now)) }
     // What is printed is read back.
-    ensures again { IsWellSpelledResp resp.now → ReadsBackResp (spelled (resp_item resp.now)) resp.now }
+    ensures again { IsWellSpelledResp resp.now
+        → ReadsBackResp (spelled (resp_item resp.now)) resp.now }
 {
     let mut printer = Printer::after(out)?;
     print_reply::print_resp(resp, &mut printer);
@@ -52,7 +54,8 @@ pub fn print_resp(resp: &Resp, out: &mut Vec<u8>) -> Result<(), NoMemory>
 pub fn print_shown(shown: &Shown, out: &mut Vec<u8>) -> Result<(), NoMemory>
     ensures appends { Appends result out.old.items out.new.items (spelled (shown_item shown.now)) }
     // It stands in one line.
-    ensures one_line { AllByRecursion IsSpelledShownPart shown.now → All (λ b. b ≢ 10) (spelled (shown_item shown.now)) }
+    ensures one_line { AllByRecursion IsSpelledShownPart shown.now
+        → All (λ b. b ≢ 10) (spelled (shown_item shown.now)) }
 {
     let mut printer = Printer::after(out)?;
     print_shown_part::print_page(shown.as_slice(), &mut printer);

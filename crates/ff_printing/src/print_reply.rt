@@ -26,7 +26,9 @@ pub(crate) fn print_resp(resp: &Resp, out: &mut Printer)
 }
 
 fn print_page(cookies: &[CookieOp], docs: &[Doc], out: &mut Printer)
-    ensures { Prints out.old out.new (spelled (parens (word (resp_word resp_head.Page) ∷ cookies_item cookies.now ∷ map doc_item docs.now))) }
+    ensures { Prints out.old out.new (spelled
+        (parens (word (resp_word resp_head.Page) ∷ cookies_item cookies.now
+        ∷ map doc_item docs.now))) }
 {
     out.open(RespHead::Page);
     print_cookies(cookies, out);
@@ -35,7 +37,9 @@ fn print_page(cookies: &[CookieOp], docs: &[Doc], out: &mut Printer)
 }
 
 fn print_script(cookies: &[CookieOp], body: &Expr, out: &mut Printer)
-    ensures { Prints out.old out.new (spelled (parens (word (resp_word resp_head.Script) ∷ cookies_item cookies.now ∷ expr_item body.now ∷ []))) }
+    ensures { Prints out.old out.new (spelled
+        (parens (word (resp_word resp_head.Script) ∷ cookies_item cookies.now ∷ expr_item body.now
+        ∷ []))) }
 {
     out.open(RespHead::Script);
     print_cookies(cookies, out);
@@ -44,7 +48,9 @@ fn print_script(cookies: &[CookieOp], body: &Expr, out: &mut Printer)
 }
 
 fn print_data(cookies: &[CookieOp], text: &Text, out: &mut Printer)
-    ensures { Prints out.old out.new (spelled (parens (word (resp_word resp_head.Data) ∷ cookies_item cookies.now ∷ string text.now ∷ []))) }
+    ensures { Prints out.old out.new (spelled
+        (parens (word (resp_word resp_head.Data) ∷ cookies_item cookies.now ∷ string text.now
+        ∷ []))) }
 {
     out.open(RespHead::Data);
     print_cookies(cookies, out);
@@ -93,7 +99,8 @@ fn print_entry(entry: &CookieOp, out: &mut Printer)
 }
 
 fn print_put(key: &Text, value: &Text, out: &mut Printer)
-    ensures { Prints out.old out.new (spelled (parens (word (cookie_word cookie_head.Put) ∷ string key.now ∷ string value.now ∷ []))) }
+    ensures { Prints out.old out.new (spelled
+        (parens (word (cookie_word cookie_head.Put) ∷ string key.now ∷ string value.now ∷ []))) }
 {
     out.open(CookieHead::Put);
     out.string(key);

@@ -35,7 +35,8 @@ fn print_shown_part(part: &ShownPart, out: &mut Printer)
 /// Appends a list of what the user is shown of some nodes.
 #[cycle(shown_part)]
 fn print_list(head: &[u8], parts: &[ShownPart], out: &mut Printer)
-    ensures { Prints out.old out.new (spelled (parens (word head.now ∷ map shown_part_item parts.now))) }
+    ensures { Prints out.old out.new (spelled
+        (parens (word head.now ∷ map shown_part_item parts.now))) }
 {
     out.open_list(head);
     print_parts(parts, out);
@@ -54,7 +55,8 @@ fn print_parts(parts: &[ShownPart], out: &mut Printer)
 }
 
 fn print_link(url: &Url, label: &Text, out: &mut Printer)
-    ensures { Prints out.old out.new (spelled (parens (word (doc_word doc_head.Link) ∷ address url.now ∷ string label.now ∷ []))) }
+    ensures { Prints out.old out.new (spelled
+        (parens (word (doc_word doc_head.Link) ∷ address url.now ∷ string label.now ∷ []))) }
 {
     out.open(DocHead::Link);
     out.address(url);

@@ -55,7 +55,8 @@ pub(crate) fn print_expr(expr: &Expr, out: &mut Printer)
 /// Appends a list of a variable and an expression.
 #[cycle(print)]
 fn print_binding(head: ExprHead, name: &Name, body: &Expr, out: &mut Printer)
-    ensures { Prints out.old out.new (spelled (parens (word (expr_word head) ∷ word name.now ∷ expr_item body.now ∷ []))) }
+    ensures { Prints out.old out.new (spelled
+        (parens (word (expr_word head) ∷ word name.now ∷ expr_item body.now ∷ []))) }
 {
     out.open(head);
     out.name(name);
@@ -84,7 +85,8 @@ fn print_last(last: &Expr, out: &mut Printer)
 /// Appends a list of expressions.
 #[cycle(print)]
 fn print_list(head: ExprHead, parts: &[Expr], out: &mut Printer)
-    ensures { Prints out.old out.new (spelled (parens (word (expr_word head) ∷ map expr_item parts.now))) }
+    ensures { Prints out.old out.new (spelled
+        (parens (word (expr_word head) ∷ map expr_item parts.now))) }
 {
     out.open(head);
     print_parts(parts, out);
@@ -94,7 +96,9 @@ fn print_list(head: ExprHead, parts: &[Expr], out: &mut Printer)
 /// Appends a function: its parameters and its body.
 #[cycle(print)]
 fn print_function(params: &[Name], body: &Expr, out: &mut Printer)
-    ensures { Prints out.old out.new (spelled (parens (word (expr_word expr_head.Make) ∷ parens (map word params.now) ∷ expr_item body.now ∷ []))) }
+    ensures { Prints out.old out.new (spelled
+        (parens (word (expr_word expr_head.Make) ∷ parens (map word params.now) ∷ expr_item body.now
+        ∷ []))) }
 {
     out.open(ExprHead::Make);
     print_params(params, out);
@@ -104,7 +108,8 @@ fn print_function(params: &[Name], body: &Expr, out: &mut Printer)
 
 #[cycle(print)]
 fn print_new(doc: &Doc, out: &mut Printer)
-    ensures { Prints out.old out.new (spelled (parens (word (expr_word expr_head.Tree) ∷ doc_item doc.now ∷ []))) }
+    ensures { Prints out.old out.new (spelled
+        (parens (word (expr_word expr_head.Tree) ∷ doc_item doc.now ∷ []))) }
 {
     out.open(ExprHead::Tree);
     print_child(doc, out);
@@ -141,7 +146,9 @@ fn print_handler(handler: &Handler, out: &mut Printer)
 /// Appends a function of one parameter.
 #[cycle(print)]
 fn print_with_parameter(param: &Name, body: &Expr, out: &mut Printer)
-    ensures { Prints out.old out.new (spelled (parens (word (handler_word handler_head.Make) ∷ parens (word param.now ∷ []) ∷ expr_item body.now ∷ []))) }
+    ensures { Prints out.old out.new (spelled
+        (parens (word (handler_word handler_head.Make) ∷ parens (word param.now ∷ [])
+        ∷ expr_item body.now ∷ []))) }
 {
     out.open(HandlerHead::Make);
     out.parameter(param);
@@ -183,7 +190,9 @@ pub(crate) fn print_doc(doc: &Doc, out: &mut Printer)
 /// Appends a text box or a button: its name, its text and its handlers.
 #[cycle(print)]
 fn print_field(head: DocHead, name: &Name, text: &Text, handlers: &[Handler], out: &mut Printer)
-    ensures { Prints out.old out.new (spelled (parens (word (doc_word head) ∷ word name.now ∷ string text.now ∷ map handler_item handlers.now))) }
+    ensures { Prints out.old out.new (spelled
+        (parens (word (doc_word head) ∷ word name.now ∷ string text.now
+        ∷ map handler_item handlers.now))) }
 {
     out.open(head);
     out.name(name);
@@ -194,7 +203,8 @@ fn print_field(head: DocHead, name: &Name, text: &Text, handlers: &[Handler], ou
 
 #[cycle(print)]
 fn print_script(name: &Name, body: &Expr, out: &mut Printer)
-    ensures { Prints out.old out.new (spelled (parens (word (doc_word doc_head.Script) ∷ word name.now ∷ expr_item body.now ∷ []))) }
+    ensures { Prints out.old out.new (spelled
+        (parens (word (doc_word doc_head.Script) ∷ word name.now ∷ expr_item body.now ∷ []))) }
 {
     out.open(DocHead::Script);
     out.name(name);
@@ -204,7 +214,8 @@ fn print_script(name: &Name, body: &Expr, out: &mut Printer)
 
 #[cycle(print)]
 fn print_div(name: &Name, parts: &[Doc], out: &mut Printer)
-    ensures { Prints out.old out.new (spelled (parens (word (doc_word doc_head.Div) ∷ word name.now ∷ map doc_item parts.now))) }
+    ensures { Prints out.old out.new (spelled
+        (parens (word (doc_word doc_head.Div) ∷ word name.now ∷ map doc_item parts.now))) }
 {
     out.open(DocHead::Div);
     out.name(name);
@@ -232,7 +243,8 @@ pub(crate) fn print_docs(docs: &[Doc], out: &mut Printer)
 }
 
 fn print_text(name: &Name, text: &Text, out: &mut Printer)
-    ensures { Prints out.old out.new (spelled (parens (word (doc_word doc_head.Text) ∷ word name.now ∷ string text.now ∷ []))) }
+    ensures { Prints out.old out.new (spelled
+        (parens (word (doc_word doc_head.Text) ∷ word name.now ∷ string text.now ∷ []))) }
 {
     out.open(DocHead::Text);
     out.name(name);
@@ -241,7 +253,9 @@ fn print_text(name: &Name, text: &Text, out: &mut Printer)
 }
 
 fn print_link(name: &Name, url: &Url, label: &Text, out: &mut Printer)
-    ensures { Prints out.old out.new (spelled (parens (word (doc_word doc_head.Link) ∷ word name.now ∷ address url.now ∷ string label.now ∷ []))) }
+    ensures { Prints out.old out.new (spelled
+        (parens (word (doc_word doc_head.Link) ∷ word name.now ∷ address url.now ∷ string label.now
+        ∷ []))) }
 {
     out.open(DocHead::Link);
     out.name(name);
@@ -251,7 +265,8 @@ fn print_link(name: &Name, url: &Url, label: &Text, out: &mut Printer)
 }
 
 fn print_src(name: &Name, url: &Url, out: &mut Printer)
-    ensures { Prints out.old out.new (spelled (parens (word (doc_word doc_head.Src) ∷ word name.now ∷ address url.now ∷ []))) }
+    ensures { Prints out.old out.new (spelled
+        (parens (word (doc_word doc_head.Src) ∷ word name.now ∷ address url.now ∷ []))) }
 {
     out.open(DocHead::Src);
     out.name(name);

@@ -26,7 +26,8 @@ pub struct Printer {
 impl Printer {
     /// A printer that goes on after the bytes of a vector, which it takes out of it.
     pub fn after(out: &mut Vec<u8>) -> Result<Printer, NoMemory>
-        ensures done { IfOk result (λ printer. (printer.failed ≡ false) × (printer.bytes.items ≡ out.old.items)) }
+        ensures done { IfOk result (λ printer. (printer.failed ≡ false)
+            × (printer.bytes.items ≡ out.old.items)) }
         ensures kept { OnErr result (out.new.items ≡ out.old.items) }
     {
         match mem::try_take(out) {
@@ -107,7 +108,8 @@ impl Printer {
 
     /// Appends a list of a word and a string.
     pub(crate) fn labelled<H: Worded>(&mut self, head: H, text: &Text)
-        ensures { Prints self.old self.new (spelled (parens (word (H.word_of head) ∷ string text.now ∷ []))) }
+        ensures { Prints self.old self.new (spelled
+            (parens (word (H.word_of head) ∷ string text.now ∷ []))) }
     {
         self.open(head);
         self.string(text);

@@ -1,10 +1,10 @@
--- What a browser reaches is valid, what it puts can be printed, and its turns spend the fuel that an
--- input brings.
+-- What a browser reaches is valid, what it puts can be printed, and its turns spend the fuel that
+-- an input brings.
 use Rattle.std.proofs.Common.{◌≡◌, ◌≤◌, ◌+◌, List, All, ℕ, true, refl}
 use Rattle.std.proofs.lemmas.List.Elements.{All-weaker}
-use Rattle.ff_reactive.specs.Turns.{KeepsOk, IsFuelled}
-use Rattle.ff_reactive.proofs.Finishing.{ends_by_fuel}
-use Rattle.ff_reactive.proofs.Turns.{machine_handle_ok, settle_turns}
+use Rattle.ff_confinement.specs.Turns.{KeepsOk, IsFuelled}
+use Rattle.ff_confinement.proofs.Finishing.{ends_by_fuel}
+use Rattle.ff_confinement.proofs.Turns.{machine_handle_ok, settle_turns}
 use Rattle.ff_value.specs.Spelled.{IsWellSpelledInput, IsWellSpelledOut}
 use Rattle.ff_value.specs.declared.input.Input.{Input}
 use Rattle.ff_value.specs.declared.output.Out.{Out}

@@ -7,10 +7,10 @@ ghost use Rattle.ff_machine.specs.Turns.{next_work};
 ghost use Rattle.ff_machine.specs.Windows.{is_live};
 ghost use Rattle.ff_machine.specs.Valid.{IsState};
 ghost use Rattle.ff_machine.specs.Machine.{reactor};
-ghost use Rattle.ff_steps.specs.Rises.{RisesBy};
+ghost use Rattle.ff_contract.specs.Rises.{RisesBy};
 
+use ff_contract::Steps;
 use ff_name::NoMemory;
-use ff_steps::Steps;
 use ff_value::{Input, Out};
 use std::alloc::Global;
 use std::sync::ledger::Ledger;
@@ -34,8 +34,7 @@ pub trait Reactor: Drop {
         requires few { fuel ≤ MOST_BUDGET }
         ensures { state result ≡ empty fuel };
 
-    /// An equal one, and neither changes with the other: no cell is copied. Its one refusal is want
-    /// of memory.
+    /// An equal one, and neither changes with the other: no cell is copied.
     fn fork<C: Ledger>(&self, copies: &mut Steps<C>) -> Result<Self, NoMemory>
         ensures equal { IfOk result (λ fork. state fork ≡ state self.now) }
         ensures copies { copies.new ≡ copies.old };
@@ -56,9 +55,11 @@ pub trait Reactor: Drop {
     ) -> Result<(), NoMemory>
         requires quiet { IsTrue (state self.old).quiet }
         requires input { IsWellSpelledInput input.now }
-        ensures done { OnOk result (state self.new ≡ ((reactor (state self.old).budget).begin (state self.old) input.now).after) }
+        ensures done { OnOk result (state self.new
+            ≡ ((reactor (state self.old).budget).begin (state self.old) input.now).after) }
         ensures busy { OnOk result ((state self.new).quiet ≡ false) }
-        ensures outputs { Appends result outs.old.items outs.new.items ((reactor (state self.old).budget).begin (state self.old) input.now).outputs }
+        ensures outputs { Appends result outs.old.items outs.new.items
+            ((reactor (state self.old).budget).begin (state self.old) input.now).outputs }
         ensures emptied { OnErr result (state self.new ≡ empty (state self.old).budget) }
         ensures budget { (state self.new).budget ≡ (state self.old).budget }
         ensures valid { IsState (state self.old).budget (state self.new) }
@@ -75,8 +76,10 @@ pub trait Reactor: Drop {
         turns: &mut Steps<L>,
     ) -> Result<(), NoMemory>
         requires { (state self.old).quiet ≡ false }
-        ensures done { OnOk result (state self.new ≡ ((reactor (state self.old).budget).turn (state self.old)).after) }
-        ensures outputs { Appends result outs.old.items outs.new.items ((reactor (state self.old).budget).turn (state self.old)).outputs }
+        ensures done { OnOk result (state self.new
+            ≡ ((reactor (state self.old).budget).turn (state self.old)).after) }
+        ensures outputs { Appends result outs.old.items outs.new.items
+            ((reactor (state self.old).budget).turn (state self.old)).outputs }
         ensures emptied { OnErr result (state self.new ≡ empty (state self.old).budget) }
         ensures budget { (state self.new).budget ≡ (state self.old).budget }
         ensures valid { IsState (state self.old).budget (state self.new) }

@@ -20,7 +20,7 @@ use Rattle.ff_number.specs.Numbers.{read_num}
 use Rattle.ff_forms.specs.Words.{is_literal, is_variable, looks_like_number}
 use Rattle.ff_forms.specs.Heads.{doc_word, expr_word, handler_word, resp_word, cookie_word, doc_heads, expr_heads, handler_heads, resp_heads, cookie_heads}
 use Rattle.ff_name.specs.Words.{with_word}
-use Rattle.ff_forms.specs.Grammar as sort
+use Rattle.ff_forms.specs.Grammar as grammar
 use Rattle.ff_forms.specs.Grammar.{Sort, Value, Placed, Form, Further, further, Making, may_have, and_then, reading, each_as, parts_as, form_as, list_as, word_as, string_as, parts_in_list_as, parameters_as, one_parameter_as, number_as, name_as_expression, word_as_expression, doc_form, expr_form, resp_form, cookie_form, handler_form}
 use Rattle.ff_forms.specs.Faults as first
 use Rattle.ff_forms.specs.Faults.{word_may_be, string_may_be, list_may_be, misplaced, has_forms, HasForm, of_documents, of_expressions, of_handlers, of_responses, of_cookies, Reached, the_first, a_later, the_first_further, a_later_further, FirstFault}
@@ -40,52 +40,52 @@ fails false isnt = refl
 -- words
 
 pub word_wrong : (which : Sort) (at : ℕ) (word : List ℕ) → word_may_be which ≡ false → word_as at word which ≡ Err (misplaced which at)
-word_wrong sort.a_name at word off = cc
-word_wrong sort.a_variable at word off = cc
-word_wrong sort.a_parameter at word off = cc
-word_wrong sort.an_address at word off = cc
-word_wrong sort.an_expression at word off = cc
-word_wrong sort.a_head at word off = cc
-word_wrong sort.a_string at word off = refl
-word_wrong sort.a_document at word off = refl
-word_wrong sort.a_handler at word off = refl
-word_wrong sort.a_response at word off = refl
-word_wrong sort.a_cookie at word off = refl
-word_wrong sort.cookies at word off = refl
-word_wrong sort.parameters at word off = refl
-word_wrong sort.one_parameter at word off = refl
+word_wrong grammar.a_name at word off = cc
+word_wrong grammar.a_variable at word off = cc
+word_wrong grammar.a_parameter at word off = cc
+word_wrong grammar.an_address at word off = cc
+word_wrong grammar.an_expression at word off = cc
+word_wrong grammar.a_head at word off = cc
+word_wrong grammar.a_string at word off = refl
+word_wrong grammar.a_document at word off = refl
+word_wrong grammar.a_handler at word off = refl
+word_wrong grammar.a_response at word off = refl
+word_wrong grammar.a_cookie at word off = refl
+word_wrong grammar.cookies at word off = refl
+word_wrong grammar.parameters at word off = refl
+word_wrong grammar.one_parameter at word off = refl
 
 pub string_wrong : (which : Sort) (at : ℕ) (text : List ℕ) → string_may_be which ≡ false → string_as at text which ≡ Err (misplaced which at)
-string_wrong sort.a_string at text off = cc
-string_wrong sort.an_expression at text off = cc
-string_wrong sort.a_name at text off = refl
-string_wrong sort.a_variable at text off = refl
-string_wrong sort.a_parameter at text off = refl
-string_wrong sort.an_address at text off = refl
-string_wrong sort.a_head at text off = refl
-string_wrong sort.a_document at text off = refl
-string_wrong sort.a_handler at text off = refl
-string_wrong sort.a_response at text off = refl
-string_wrong sort.a_cookie at text off = refl
-string_wrong sort.cookies at text off = refl
-string_wrong sort.parameters at text off = refl
-string_wrong sort.one_parameter at text off = refl
+string_wrong grammar.a_string at text off = cc
+string_wrong grammar.an_expression at text off = cc
+string_wrong grammar.a_name at text off = refl
+string_wrong grammar.a_variable at text off = refl
+string_wrong grammar.a_parameter at text off = refl
+string_wrong grammar.an_address at text off = refl
+string_wrong grammar.a_head at text off = refl
+string_wrong grammar.a_document at text off = refl
+string_wrong grammar.a_handler at text off = refl
+string_wrong grammar.a_response at text off = refl
+string_wrong grammar.a_cookie at text off = refl
+string_wrong grammar.cookies at text off = refl
+string_wrong grammar.parameters at text off = refl
+string_wrong grammar.one_parameter at text off = refl
 
 pub list_wrong : (which : Sort) (at : ℕ) (parts : List Sexp) → list_may_be which ≡ false → parts_in_list_as at (map reading parts) which ≡ Err (misplaced which at)
-list_wrong sort.an_expression at parts off = cc
-list_wrong sort.a_document at parts off = cc
-list_wrong sort.a_handler at parts off = cc
-list_wrong sort.a_response at parts off = cc
-list_wrong sort.a_cookie at parts off = cc
-list_wrong sort.cookies at parts off = cc
-list_wrong sort.parameters at parts off = cc
-list_wrong sort.one_parameter at parts off = cc
-list_wrong sort.a_name at parts off = refl
-list_wrong sort.a_variable at parts off = refl
-list_wrong sort.a_parameter at parts off = refl
-list_wrong sort.an_address at parts off = refl
-list_wrong sort.a_string at parts off = refl
-list_wrong sort.a_head at parts off = refl
+list_wrong grammar.an_expression at parts off = cc
+list_wrong grammar.a_document at parts off = cc
+list_wrong grammar.a_handler at parts off = cc
+list_wrong grammar.a_response at parts off = cc
+list_wrong grammar.a_cookie at parts off = cc
+list_wrong grammar.cookies at parts off = cc
+list_wrong grammar.parameters at parts off = cc
+list_wrong grammar.one_parameter at parts off = cc
+list_wrong grammar.a_name at parts off = refl
+list_wrong grammar.a_variable at parts off = refl
+list_wrong grammar.a_parameter at parts off = refl
+list_wrong grammar.an_address at parts off = refl
+list_wrong grammar.a_string at parts off = refl
+list_wrong grammar.a_head at parts off = refl
 
 -- a literal is a name and no number
 literal_word : (word : List ℕ) → is_literal word ≡ true → (is_name word ≡ true) × (looks_like_number word ≡ false)
@@ -128,7 +128,7 @@ no_address_word at word other = ap (λ (o : Option Url). ok_or o (fault.Url at))
 
 -- lists that begin with no word of a form
 
-first_refused : {H X : Type 0} (word_at : H → List ℕ) (heads : List H) (form_at : H → Form X) (at : ℕ) (item : Sexp) (parts : List Sexp) (found : SyntaxFault) → reading item sort.a_head ≡ Err found
+first_refused : {H X : Type 0} (word_at : H → List ℕ) (heads : List H) (form_at : H → Form X) (at : ℕ) (item : Sexp) (parts : List Sexp) (found : SyntaxFault) → reading item grammar.a_head ≡ Err found
     → list_as word_at heads form_at at (map reading (item ∷ parts)) ≡ Err found
 first_refused {H} {X} word_at heads form_at at item parts found e =
     ap (λ (r : Result Placed SyntaxFault). and_then (and_then r (λ placed. ok_or (with_word word_at heads placed.word) (fault.Head placed.from))) (λ head. form_as at (form_at head) (map reading parts))) e
@@ -137,7 +137,7 @@ head_refused : {H X : Type 0} (which : Sort) (word_at : H → List ℕ) (heads :
     → (at : ℕ) (h : Span) (word : List ℕ) (parts : List Sexp) → ((sorts : List Sort) (more : Further) → HasForm which word sorts more → ⊥)
     → list_as word_at heads form_at at (map reading (Word h word ∷ parts)) ≡ Err (fault.Head h.from)
 head_refused {H} {X} which word_at heads form_at forms at h word parts other =
-    ap (λ (r : Result Placed SyntaxFault). and_then (and_then r (λ placed. ok_or (with_word word_at heads placed.word) (fault.Head placed.from))) (λ head. form_as at (form_at head) (map reading parts))) (reading-Word h word sort.a_head)
+    ap (λ (r : Result Placed SyntaxFault). and_then (and_then r (λ placed. ok_or (with_word word_at heads placed.word) (fault.Head placed.from))) (λ head. form_as at (form_at head) (map reading parts))) (reading-Word h word grammar.a_head)
     ∙ ap (λ (o : Option H). and_then (ok_or o (fault.Head h.from)) (λ head. form_as at (form_at head) (map reading parts))) (none (with_word word_at heads word) refl)
   where
     none : (o : Option H) → with_word word_at heads word ≡ o → with_word word_at heads word ≡ None
@@ -150,53 +150,53 @@ in_list : (which : Sort) (at : Span) (parts : List Sexp) (found : SyntaxFault) �
 in_list which at parts found e = reading-List at parts which ∙ e
 
 empty_refused : (which : Sort) (at : Span) → has_forms which ≡ true → parts_in_list_as at.from [] which ≡ Err (fault.Head at.from)
-empty_refused sort.an_expression at has = refl
-empty_refused sort.a_document at has = refl
-empty_refused sort.a_handler at has = refl
-empty_refused sort.a_response at has = refl
-empty_refused sort.a_cookie at has = refl
-empty_refused sort.a_name at has = cc
-empty_refused sort.a_variable at has = cc
-empty_refused sort.a_parameter at has = cc
-empty_refused sort.an_address at has = cc
-empty_refused sort.a_string at has = cc
-empty_refused sort.a_head at has = cc
-empty_refused sort.cookies at has = cc
-empty_refused sort.parameters at has = cc
-empty_refused sort.one_parameter at has = cc
+empty_refused grammar.an_expression at has = refl
+empty_refused grammar.a_document at has = refl
+empty_refused grammar.a_handler at has = refl
+empty_refused grammar.a_response at has = refl
+empty_refused grammar.a_cookie at has = refl
+empty_refused grammar.a_name at has = cc
+empty_refused grammar.a_variable at has = cc
+empty_refused grammar.a_parameter at has = cc
+empty_refused grammar.an_address at has = cc
+empty_refused grammar.a_string at has = cc
+empty_refused grammar.a_head at has = cc
+empty_refused grammar.cookies at has = cc
+empty_refused grammar.parameters at has = cc
+empty_refused grammar.one_parameter at has = cc
 
-no_head_refused : (which : Sort) (at : ℕ) (item : Sexp) (parts : List Sexp) (found : SyntaxFault) → has_forms which ≡ true → reading item sort.a_head ≡ Err found → parts_in_list_as at (map reading (item ∷ parts)) which ≡ Err found
-no_head_refused sort.an_expression at item parts found has e = first_refused expr_word expr_heads expr_form at item parts found e
-no_head_refused sort.a_document at item parts found has e = first_refused doc_word doc_heads doc_form at item parts found e
-no_head_refused sort.a_handler at item parts found has e = first_refused handler_word handler_heads handler_form at item parts found e
-no_head_refused sort.a_response at item parts found has e = first_refused resp_word resp_heads resp_form at item parts found e
-no_head_refused sort.a_cookie at item parts found has e = first_refused cookie_word cookie_heads cookie_form at item parts found e
-no_head_refused sort.a_name at item parts found has e = cc
-no_head_refused sort.a_variable at item parts found has e = cc
-no_head_refused sort.a_parameter at item parts found has e = cc
-no_head_refused sort.an_address at item parts found has e = cc
-no_head_refused sort.a_string at item parts found has e = cc
-no_head_refused sort.a_head at item parts found has e = cc
-no_head_refused sort.cookies at item parts found has e = cc
-no_head_refused sort.parameters at item parts found has e = cc
-no_head_refused sort.one_parameter at item parts found has e = cc
+no_head_refused : (which : Sort) (at : ℕ) (item : Sexp) (parts : List Sexp) (found : SyntaxFault) → has_forms which ≡ true → reading item grammar.a_head ≡ Err found → parts_in_list_as at (map reading (item ∷ parts)) which ≡ Err found
+no_head_refused grammar.an_expression at item parts found has e = first_refused expr_word expr_heads expr_form at item parts found e
+no_head_refused grammar.a_document at item parts found has e = first_refused doc_word doc_heads doc_form at item parts found e
+no_head_refused grammar.a_handler at item parts found has e = first_refused handler_word handler_heads handler_form at item parts found e
+no_head_refused grammar.a_response at item parts found has e = first_refused resp_word resp_heads resp_form at item parts found e
+no_head_refused grammar.a_cookie at item parts found has e = first_refused cookie_word cookie_heads cookie_form at item parts found e
+no_head_refused grammar.a_name at item parts found has e = cc
+no_head_refused grammar.a_variable at item parts found has e = cc
+no_head_refused grammar.a_parameter at item parts found has e = cc
+no_head_refused grammar.an_address at item parts found has e = cc
+no_head_refused grammar.a_string at item parts found has e = cc
+no_head_refused grammar.a_head at item parts found has e = cc
+no_head_refused grammar.cookies at item parts found has e = cc
+no_head_refused grammar.parameters at item parts found has e = cc
+no_head_refused grammar.one_parameter at item parts found has e = cc
 
 wrong_head_refused : (which : Sort) (at : ℕ) (h : Span) (word : List ℕ) (parts : List Sexp) → has_forms which ≡ true → ((sorts : List Sort) (more : Further) → HasForm which word sorts more → ⊥)
     → parts_in_list_as at (map reading (Word h word ∷ parts)) which ≡ Err (fault.Head h.from)
-wrong_head_refused sort.an_expression at h word parts has other = head_refused sort.an_expression expr_word expr_heads expr_form of_expressions at h word parts other
-wrong_head_refused sort.a_document at h word parts has other = head_refused sort.a_document doc_word doc_heads doc_form of_documents at h word parts other
-wrong_head_refused sort.a_handler at h word parts has other = head_refused sort.a_handler handler_word handler_heads handler_form of_handlers at h word parts other
-wrong_head_refused sort.a_response at h word parts has other = head_refused sort.a_response resp_word resp_heads resp_form of_responses at h word parts other
-wrong_head_refused sort.a_cookie at h word parts has other = head_refused sort.a_cookie cookie_word cookie_heads cookie_form of_cookies at h word parts other
-wrong_head_refused sort.a_name at h word parts has other = cc
-wrong_head_refused sort.a_variable at h word parts has other = cc
-wrong_head_refused sort.a_parameter at h word parts has other = cc
-wrong_head_refused sort.an_address at h word parts has other = cc
-wrong_head_refused sort.a_string at h word parts has other = cc
-wrong_head_refused sort.a_head at h word parts has other = cc
-wrong_head_refused sort.cookies at h word parts has other = cc
-wrong_head_refused sort.parameters at h word parts has other = cc
-wrong_head_refused sort.one_parameter at h word parts has other = cc
+wrong_head_refused grammar.an_expression at h word parts has other = head_refused grammar.an_expression expr_word expr_heads expr_form of_expressions at h word parts other
+wrong_head_refused grammar.a_document at h word parts has other = head_refused grammar.a_document doc_word doc_heads doc_form of_documents at h word parts other
+wrong_head_refused grammar.a_handler at h word parts has other = head_refused grammar.a_handler handler_word handler_heads handler_form of_handlers at h word parts other
+wrong_head_refused grammar.a_response at h word parts has other = head_refused grammar.a_response resp_word resp_heads resp_form of_responses at h word parts other
+wrong_head_refused grammar.a_cookie at h word parts has other = head_refused grammar.a_cookie cookie_word cookie_heads cookie_form of_cookies at h word parts other
+wrong_head_refused grammar.a_name at h word parts has other = cc
+wrong_head_refused grammar.a_variable at h word parts has other = cc
+wrong_head_refused grammar.a_parameter at h word parts has other = cc
+wrong_head_refused grammar.an_address at h word parts has other = cc
+wrong_head_refused grammar.a_string at h word parts has other = cc
+wrong_head_refused grammar.a_head at h word parts has other = cc
+wrong_head_refused grammar.cookies at h word parts has other = cc
+wrong_head_refused grammar.parameters at h word parts has other = cc
+wrong_head_refused grammar.one_parameter at h word parts has other = cc
 
 -- forms
 
@@ -259,32 +259,32 @@ fault_refused _ _ _ (first.a_wrong_word which at word off) = reading-Word at wor
 fault_refused _ _ _ (first.a_wrong_string which at text off) = reading-Str at text which ∙ string_wrong which at.from text off
 fault_refused _ _ _ (first.a_wrong_list which at parts off) = reading-List at parts which ∙ list_wrong which at.from parts off
 fault_refused _ _ _ (first.no_name at word other) =
-    reading-Word at word sort.a_name ∙ ap (λ t. cond t (Ok word) (Err (fault.Name at.from))) (fails (is_name word) (λ e. other (IsName-from word e)))
+    reading-Word at word grammar.a_name ∙ ap (λ t. cond t (Ok word) (Err (fault.Name at.from))) (fails (is_name word) (λ e. other (IsName-from word e)))
 fault_refused _ _ _ (first.no_variable at word other) =
-    reading-Word at word sort.a_variable ∙ ap (λ t. cond t (Ok word) (Err (fault.Name at.from))) (fails (is_variable word) (λ e. other (IsVar-from word e)))
+    reading-Word at word grammar.a_variable ∙ ap (λ t. cond t (Ok word) (Err (fault.Name at.from))) (fails (is_variable word) (λ e. other (IsVar-from word e)))
 fault_refused _ _ _ (first.no_parameter at word other) =
-    reading-Word at word sort.a_parameter ∙ ap (λ t. cond t (Ok (record { from = at.from; word = word })) (Err (fault.Name at.from))) (fails (is_variable word) (λ e. other (IsVar-from word e)))
-fault_refused _ _ _ (first.no_address at word other) = reading-Word at word sort.an_address ∙ no_address_word at.from word other
-fault_refused _ _ _ (first.no_number at word looks other) = reading-Word at word sort.an_expression ∙ no_number_word at.from word looks other
-fault_refused _ _ _ (first.no_word at word looks other) = reading-Word at word sort.an_expression ∙ no_name_word at.from word looks other
+    reading-Word at word grammar.a_parameter ∙ ap (λ t. cond t (Ok (record { from = at.from; word = word })) (Err (fault.Name at.from))) (fails (is_variable word) (λ e. other (IsVar-from word e)))
+fault_refused _ _ _ (first.no_address at word other) = reading-Word at word grammar.an_address ∙ no_address_word at.from word other
+fault_refused _ _ _ (first.no_number at word looks other) = reading-Word at word grammar.an_expression ∙ no_number_word at.from word looks other
+fault_refused _ _ _ (first.no_word at word looks other) = reading-Word at word grammar.an_expression ∙ no_name_word at.from word looks other
 fault_refused _ _ _ (first.an_empty_list which at has) = reading-List at [] which ∙ empty_refused which at has
 fault_refused _ _ _ (first.no_head which at item parts found has it) =
-    in_list which at (item ∷ parts) found (no_head_refused which at.from item parts found has (fault_refused sort.a_head item found it))
+    in_list which at (item ∷ parts) found (no_head_refused which at.from item parts found has (fault_refused grammar.a_head item found it))
 fault_refused _ _ _ (first.a_wrong_head which at h word parts has other) = in_list which at (Word h word ∷ parts) (fault.Head h.from) (wrong_head_refused which at.from h word parts has other)
 fault_refused _ _ _ (first.a_wrong_count which at h word sorts more parts form off) = count_in_list which at h word sorts more parts form off
 fault_refused _ _ _ (first.a_wrong_part which at h word sorts more parts wanted part found form few reached it) =
     part_in_list which at h word sorts more parts wanted part found form few reached (fault_refused wanted part found it)
 fault_refused _ _ _ (first.a_wrong_cookie at parts wanted part found reached it) =
-    in_list sort.cookies at parts found (further_refused _ sort.a_cookie parts wanted part found reached (fault_refused wanted part found it))
-fault_refused _ _ _ (first.no_one_parameter at parts other) = in_list sort.one_parameter at parts (fault.Count at.from) (one_parameter_refused at.from parts other)
-fault_refused _ _ _ (first.a_wrong_one_parameter at part found it) = in_list sort.one_parameter at (part ∷ []) found (fault_refused sort.a_variable part found it)
+    in_list grammar.cookies at parts found (further_refused _ grammar.a_cookie parts wanted part found reached (fault_refused wanted part found it))
+fault_refused _ _ _ (first.no_one_parameter at parts other) = in_list grammar.one_parameter at parts (fault.Count at.from) (one_parameter_refused at.from parts other)
+fault_refused _ _ _ (first.a_wrong_one_parameter at part found it) = in_list grammar.one_parameter at (part ∷ []) found (fault_refused grammar.a_variable part found it)
 fault_refused _ _ _ (first.a_wrong_parameter at before names part after found words params it) =
-    in_list sort.parameters at (before ++ part ∷ after) found
+    in_list grammar.parameters at (before ++ part ∷ after) found
     (parameters_after [] before names (part ∷ after) words params.vars params.differ (none_before names)
     ∙ ap (λ (r : Result Placed SyntaxFault). and_then (and_then r (λ p. cond (list_any (bytes_eq p.word) names) (Err (fault.Name p.from)) (Ok p.word))) (λ x. parameters_as (names ++ x ∷ []) (map reading after)))
-    (fault_refused sort.a_parameter part found it))
+    (fault_refused grammar.a_parameter part found it))
 fault_refused _ _ _ (first.a_parameter_again at p before names word after words params var again) =
-    in_list sort.parameters at (before ++ Word p word ∷ after) (fault.Name p.from)
+    in_list grammar.parameters at (before ++ Word p word ∷ after) (fault.Name p.from)
     (parameters_after [] before names (Word p word ∷ after) words params.vars params.differ (none_before names)
     ∙ ap (λ (r : Result Placed SyntaxFault). and_then (and_then r (λ q. cond (list_any (bytes_eq q.word) names) (Err (fault.Name q.from)) (Ok q.word))) (λ x. parameters_as (names ++ x ∷ []) (map reading after)))
     (parameter_item p word var)

@@ -24,9 +24,11 @@ pub fn read_doc(alloc: Global, item: &Sexp) -> Result<Doc, SyntaxFault>
     ensures well_spelled { IsWellSpelled item.now → IfOk result IsWellSpelledDoc }
     // What is spelled so is read.
     ensures only { (doc : Doc) → SpellsDoc item.now doc → Gives result (Ok doc) }
-    ensures fault { IfErr result (λ fault. (fault ≡ SyntaxFault.NoMemory) ⊎ FirstFault a_document item.now fault) }
+    ensures fault { IfErr result (λ fault. (fault ≡ SyntaxFault.NoMemory)
+        ⊎ FirstFault a_document item.now fault) }
     // Where this is the first fault, it is answered.
-    ensures exact { (fault : SyntaxFault) → FirstFault a_document item.now fault → Gives result (Err fault) }
+    ensures exact { (fault : SyntaxFault) → FirstFault a_document item.now fault
+        → Gives result (Err fault) }
 {
     reading::read_doc(alloc, item)
 }
@@ -38,9 +40,11 @@ pub fn read_expr(alloc: Global, item: &Sexp) -> Result<Expr, SyntaxFault>
     ensures well_spelled { IsWellSpelled item.now → IfOk result IsWellSpelledExpr }
     // What is spelled so is read.
     ensures only { (expr : Expr) → SpellsExpr item.now expr → Gives result (Ok expr) }
-    ensures fault { IfErr result (λ fault. (fault ≡ SyntaxFault.NoMemory) ⊎ FirstFault an_expression item.now fault) }
+    ensures fault { IfErr result (λ fault. (fault ≡ SyntaxFault.NoMemory)
+        ⊎ FirstFault an_expression item.now fault) }
     // Where this is the first fault, it is answered.
-    ensures exact { (fault : SyntaxFault) → FirstFault an_expression item.now fault → Gives result (Err fault) }
+    ensures exact { (fault : SyntaxFault) → FirstFault an_expression item.now fault
+        → Gives result (Err fault) }
 {
     reading::read_expr(alloc, item)
 }
@@ -52,9 +56,11 @@ pub fn read_resp(alloc: Global, item: &Sexp) -> Result<Resp, SyntaxFault>
     ensures well_spelled { IsWellSpelled item.now → IfOk result IsWellSpelledResp }
     // What is spelled so is read.
     ensures only { (resp : Resp) → SpellsResp item.now resp → Gives result (Ok resp) }
-    ensures fault { IfErr result (λ fault. (fault ≡ SyntaxFault.NoMemory) ⊎ FirstFault a_response item.now fault) }
+    ensures fault { IfErr result (λ fault. (fault ≡ SyntaxFault.NoMemory)
+        ⊎ FirstFault a_response item.now fault) }
     // Where this is the first fault, it is answered.
-    ensures exact { (fault : SyntaxFault) → FirstFault a_response item.now fault → Gives result (Err fault) }
+    ensures exact { (fault : SyntaxFault) → FirstFault a_response item.now fault
+        → Gives result (Err fault) }
 {
     reading::read_resp(alloc, item)
 }

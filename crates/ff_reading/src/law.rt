@@ -19,5 +19,6 @@ pub fn what_is_spelled_is_read()
 
 /// An item is refused exactly where it has a first fault, and with that fault.
 pub fn what_is_at_fault_is_refused()
-    ensures { (sort : Sort) (item : Sexp) (fault : SyntaxFault) → (reading item sort ≡ Err fault) ↔ FirstFault sort item fault }
+    ensures { (sort : Sort) (item : Sexp) (fault : SyntaxFault) → (reading item sort ≡ Err fault)
+        ↔ FirstFault sort item fault }
 {}

@@ -136,7 +136,8 @@ fn read_cookie(item: &Sexp) -> Result<CookieOp, SyntaxFault>
 }
 
 fn read_cookie_list(at: u32, items: &[Sexp]) -> Result<CookieOp, SyntaxFault>
-    ensures { Gives result (list_as cookie_word cookie_heads cookie_form at (map reading items.now)) }
+    ensures { Gives result (list_as cookie_word cookie_heads cookie_form at
+        (map reading items.now)) }
 {
     match items.split_first() {
         Some((first, parts)) => read_cookie_form(at, head_of(first)?, parts),

@@ -1,4 +1,6 @@
 //! Documents, expressions, responses and their parts, read from items of the notation.
+//!
+//! Floor: notation. It knows not what a machine makes of what is read.
 #![tactic(auto)]
 
 mod calls;

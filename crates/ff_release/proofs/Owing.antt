@@ -6,17 +6,17 @@ use Rattle.ff_io.specs.Pieces.{Piece}
 use Rattle.ff_io.specs.Port.{Told}
 use Rattle.ff_value.specs.declared.input.Input.{Input}
 use Rattle.ff_policy.specs.Assignment.{Assignment, IsAssignment}
-use Rattle.ff_reactive.specs.Standings.{fresh}
-use Rattle.ff_rules.specs.Lines.{IsRuleOf}
-use Rattle.ff_rules.specs.declared.rule.Rule.{Rule}
-use Rattle.ff_rules.proofs.Counting.{left_start}
+use Rattle.ff_confinement.specs.Standings.{fresh}
+use Rattle.ff_route.specs.Offering.{IsRuleOf}
+use Rattle.ff_route.specs.declared.rule.Rule.{Rule}
+use Rattle.ff_route.proofs.Counting.{left_start}
 use Rattle.ff_pool.specs.Pooled.{Pooled}
 use Rattle.ff_status.specs.declared.status.Status.{Status}
 use Rattle.ff_status.specs.declared.status.Status.TheVariants.{Done, NoMemory}
 use Rattle.ff_status.specs.declared.status.TraceFault.{TraceFault}
 use Rattle.ff_stream.specs.Owed.{Streams}
 use Rattle.ff_stream.specs.declared.end.End.{End}
-use Rattle.ff_stream.specs.declared.end.End.TheVariants as end
+use Rattle.ff_stream.specs.declared.end.End.TheVariants as ended
 use Rattle.ff_stream.proofs.Onwards.{streams_none}
 use Rattle.ff_session.specs.Giving.{Gives}
 use Rattle.ff_session.specs.Levels.{machine}
@@ -33,7 +33,7 @@ use Rattle.ff_release.proofs.Texts.{same_text, same_turns}
 -- the run by its loop
 pub exchanged : {IsAt : List Input → Type 0} {log_before log_now : Option (List Piece)} {rest_before rest_now : Option (List ℕ)} {turns_before turns_now : ℕ} (p : Assignment) (rules : List Rule) (how : End TraceFault)
     → Streams (Gives p.order) (release_entry p rules) (entry_turns p rules) IsAt log_before log_now rest_before rest_now turns_before turns_now how
-    → (reads_before reads_now writes_before writes_now : ℕ) → turns_before ≤ turns_now → (how ≡ end.ReadFault → Rose reads_before reads_now) → (how ≡ end.WriteFault → Rose writes_before writes_now) → writes_before ≤ writes_now
+    → (reads_before reads_now writes_before writes_now : ℕ) → turns_before ≤ turns_now → (how ≡ ended.ReadFault → Rose reads_before reads_now) → (how ≡ ended.WriteFault → Rose writes_before writes_now) → writes_before ≤ writes_now
     → Exchanged (Gives p.order) (release_duty p rules) (told_of log_before rest_before reads_before writes_before) (told_of log_now rest_now reads_now writes_now) turns_before turns_now (status_as how Done)
 exchanged p rules how streams reads_before reads_now writes_before writes_now later read_fault write_fault later_writes =
     unclosed (gives_once p.order) (release_duty p rules) how streams (same_turns p rules) (λ whole is. sym (same_text p rules is)) (λ is. refl) reads_before reads_now writes_before writes_now later read_fault write_fault later_writes
@@ -41,7 +41,7 @@ exchanged p rules how streams reads_before reads_now writes_before writes_now la
 -- there was no memory for it
 pub unmade : (p : Assignment) (rules : List Rule) (log : Option (List Piece)) (rest : Option (List ℕ)) (turns reads writes : ℕ) → Exchanged (Gives p.order) (release_duty p rules) (told_of log rest reads writes) (told_of log rest reads writes) turns turns NoMemory
 unmade p rules log rest turns reads writes =
-    exchanged {IsAt = λ is. ⊤} p rules end.NoMemory (streams_none (Gives p.order) (release_entry p rules) (entry_turns p rules) (λ is. ⊤) log rest turns) reads reads writes writes (omega arith) (λ e. cc) (λ e. cc) (omega arith)
+    exchanged {IsAt = λ is. ⊤} p rules ended.NoMemory (streams_none (Gives p.order) (release_entry p rules) (entry_turns p rules) (λ is. ⊤) log rest turns) reads reads writes writes (omega arith) (λ e. cc) (λ e. cc) (omega arith)
 
 -- what its text tells
 pub released_run : {before now : Told} {turns_before turns_now : ℕ} (p : Assignment) (rules : List Rule) (s : Status) → Exchanged (Gives p.order) (release_duty p rules) before now turns_before turns_now s → IsAssignment p → IsAnswered s

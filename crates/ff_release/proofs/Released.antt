@@ -4,14 +4,14 @@ use Rattle.std.proofs.lemmas.Bool.{cases_lt}
 use Rattle.std.proofs.lemmas.Option.{none-some}
 use Rattle.std.proofs.lemmas.List.{get_or_past, get_or_default}
 use Rattle.std.proofs.lemmas.List.Elements.{All-head, All-tail}
-use Rattle.ff_reactive.specs.Runs.{entries, joined}
-use Rattle.ff_reactive.specs.Text.{text_of, text_out}
-use Rattle.ff_reactive.specs.Worlds.{each, offer, AreOffers, OfferOk}
-use Rattle.ff_reactive.proofs.Below.{each_is}
-use Rattle.ff_reactive.specs.Standings.{fresh, as_seen}
-use Rattle.ff_reactive.specs.Given.{is_given, row_where, given_where}
-use Rattle.ff_reactive.proofs.Standings.{run_fresh}
-use Rattle.ff_reactive.proofs.Given.{same_run, secured_as_offered}
+use Rattle.ff_confinement.specs.Runs.{entries, joined}
+use Rattle.ff_confinement.specs.Text.{text_of, text_out}
+use Rattle.ff_confinement.specs.Worlds.{each, offer, AreOffers, OfferOk}
+use Rattle.ff_confinement.proofs.Below.{each_is}
+use Rattle.ff_confinement.specs.Standings.{fresh, as_seen}
+use Rattle.ff_confinement.specs.Given.{is_given, row_where, given_where}
+use Rattle.ff_confinement.proofs.Standings.{run_fresh}
+use Rattle.ff_confinement.proofs.Given.{same_run, secured_as_offered}
 use Rattle.ff_lattice.specs.Order.{size}
 use Rattle.ff_value.specs.declared.input.Input.{Input}
 use Rattle.ff_policy.specs.Assignment.{Assignment, IsAssignment}
@@ -19,9 +19,9 @@ use Rattle.ff_route.specs.Route.{offers}
 use Rattle.ff_trace.specs.Lines.{IsInputOf}
 use Rattle.ff_session.specs.Levels.{levels, machine}
 use Rattle.ff_session.proofs.Lawful.{lawful}
-use Rattle.ff_rules.specs.Released.{left_after, offers_after, all_offers}
-use Rattle.ff_rules.specs.declared.rule.Rule.{Rule}
-use Rattle.ff_rules.proofs.Counting.{within_quota, unused}
+use Rattle.ff_route.specs.Released.{left_after, offers_after, all_offers}
+use Rattle.ff_route.specs.declared.rule.Rule.{Rule}
+use Rattle.ff_route.proofs.Counting.{within_quota, unused}
 use Rattle.ff_rules.proofs.Fitting.{released_fit}
 use Rattle.ff_release.specs.Releasing.{offered_by, release_text, IsReleased}
 

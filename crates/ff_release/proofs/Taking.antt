@@ -1,8 +1,8 @@
 -- Rules and copies go on together.
 use Rattle.std.proofs.Common.{◌≡◌, Bool, true, false, cond, Option, Some, None, List, [], ◌∷◌, ◌++◌, All, sym, ap, subst, ◌∙◌}
 use Rattle.std.proofs.lemmas.List.Elements.{All-cons, All-head, All-tail}
-use Rattle.ff_reactive.specs.Worlds.{AreOffers, OfferOk}
-use Rattle.ff_reactive.specs.Standings.{fresh}
+use Rattle.ff_confinement.specs.Worlds.{AreOffers, OfferOk}
+use Rattle.ff_confinement.specs.Standings.{fresh}
 use Rattle.ff_lattice.specs.Order.{size}
 use Rattle.ff_value.specs.declared.input.Input.{Input}
 use Rattle.ff_value.specs.Spelled.{IsWellSpelledInput}
@@ -10,11 +10,10 @@ use Rattle.ff_policy.specs.Assignment.{Assignment}
 use Rattle.ff_trace.specs.Lines.{IsInputOf}
 use Rattle.ff_pool.specs.Pooled.{Pooled}
 use Rattle.ff_session.specs.Levels.{machine}
-use Rattle.ff_rules.specs.Lines.{IsRuleOf}
-use Rattle.ff_rules.specs.Offering.{is_of_use, one_less, released, left_then}
-use Rattle.ff_rules.specs.Released.{left_after, offers_after}
-use Rattle.ff_rules.specs.declared.rule.Rule.{Rule}
-use Rattle.ff_rules.proofs.Counting.{left_more}
+use Rattle.ff_route.specs.Offering.{IsRuleOf, is_of_use, one_less, released, left_then}
+use Rattle.ff_route.specs.Released.{left_after, offers_after}
+use Rattle.ff_route.specs.declared.rule.Rule.{Rule}
+use Rattle.ff_route.proofs.Counting.{left_more}
 use Rattle.ff_rules.proofs.Fitting.{released_fit}
 use Rattle.ff_session.specs.Multi.{AreCopiesAt, IsOffered}
 use Rattle.ff_release.specs.Releasing.{offered_by, IsReleasedAt}

@@ -1,19 +1,18 @@
 -- The released run: each level's copy takes what the rules that are left offer to the level.
 use Rattle.std.specs.Prelude.{◌≡◌, ℕ, ◌<◌, ◌≤◌, List, length, All}
-use Rattle.ff_reactive.specs.Copies.{multi}
-use Rattle.ff_reactive.specs.Text.{text_out}
-use Rattle.ff_reactive.specs.Worlds.{offer}
-use Rattle.ff_reactive.specs.Standings.{Offering, fresh}
-use Rattle.ff_reactive.specs.Given.{IsSecureAsOffered}
+use Rattle.ff_confinement.specs.Copies.{multi}
+use Rattle.ff_confinement.specs.Text.{text_out}
+use Rattle.ff_confinement.specs.Worlds.{offer}
+use Rattle.ff_confinement.specs.Standings.{Offering, fresh}
+use Rattle.ff_confinement.specs.Given.{IsSecureAsOffered}
 use Rattle.ff_value.specs.declared.input.Input.{Input}
 use Rattle.ff_policy.specs.Assignment.{Assignment}
 use Rattle.ff_trace.specs.Lines.{IsInputOf}
 use Rattle.ff_pool.specs.Pooled.{Pooled}
 use Rattle.ff_session.specs.Levels.{levels, machine}
-use Rattle.ff_rules.specs.Lines.{IsRuleOf}
-use Rattle.ff_rules.specs.Offering.{left_of}
-use Rattle.ff_rules.specs.Released.{left_after, offers_after, uses}
-use Rattle.ff_rules.specs.declared.rule.Rule.{Rule}
+use Rattle.ff_route.specs.Offering.{IsRuleOf, left_of}
+use Rattle.ff_route.specs.Released.{left_after, offers_after, uses}
+use Rattle.ff_route.specs.declared.rule.Rule.{Rule}
 use Rattle.ff_status.specs.declared.status.Status.TheVariants.{Done}
 use Rattle.ff_session.specs.Works.{Duty}
 use Rattle.ff_session.specs.Multi.{run_text, run_turns, copies_entry, copies_turns, AreCopiesAt}
@@ -48,8 +47,8 @@ pub record IsReleasedAt (p : Assignment) (rules : List Rule) (pool : Pooled) (le
   pub left_is : left ≡ left_after p rules is
 
 -- What a text tells that is that of the released run over these inputs: at each level what the
--- levels at or below it are offered, and no more; that each rule made the offers for at most as many
--- inputs as its quota; and what the multi-executed run tells, where none made any.
+-- levels at or below it are offered, and no more; that each rule made the offers for at most as
+-- many inputs as its quota; and what the multi-executed run tells, where none made any.
 pub record IsReleased (p : Assignment) (rules : List Rule) (is : List Input) (text : List ℕ) : Type 0 where
   pub secure : IsSecureAsOffered (machine p) (levels p) (offered_by p rules) (fresh (machine p)) (IsInputOf p.order) is text
   pub within : (j : ℕ) → j < length rules → uses p rules j is ≤ left_of rules j

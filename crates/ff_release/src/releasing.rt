@@ -1,14 +1,15 @@
 //! Copies that take what rules offer.
 ghost use Rattle.std.specs.Prelude.{◌<◌};
 
+use crate::NoMemory;
+use ff_contract::Steps;
 use ff_policy::Policy;
 use ff_pool::{Pool, Reactor};
 use ff_rules::Release;
 use ff_session::take_offers;
-use ff_steps::Steps;
 use ff_stream::Taker;
 use ff_value::Input;
-use std::alloc::{AllocError, Global};
+use std::alloc::Global;
 use std::marker::PhantomData;
 use std::sync::ledger::Ledger;
 
@@ -26,7 +27,7 @@ pub(crate) struct Releasing<'a, B: Reactor> {
 
 /// Where a released run stands between two inputs.
 #[derive(Drop)]
-pub(crate) struct Standing<B: Reactor> {
+pub(crate) struct ReleasedCopies<B: Reactor> {
     /// The copies.
     pub(crate) pool: Pool<B>,
     /// What is left of the rules.
@@ -36,12 +37,12 @@ pub(crate) struct Standing<B: Reactor> {
 impl<B: Reactor> Taker for Releasing<'_, B> {
     ghost use Rattle.std.specs.Prelude.{◌<◌, List};
     ghost use Rattle.ff_trace.specs.Lines.{IsInputOf};
-    ghost use Rattle.ff_rules.specs.declared.rule.Rule.{Rule};
+    ghost use Rattle.ff_route.specs.declared.rule.Rule.{Rule};
     ghost use Rattle.ff_release.specs.Releasing.{release_entry, entry_turns, IsReleasedAt};
 
     type Item = Input;
 
-    type State = Standing<B>;
+    type State = ReleasedCopies<B>;
 
     ghost Start = { List Rule };
 
@@ -49,21 +50,22 @@ impl<B: Reactor> Taker for Releasing<'_, B> {
 
     ghost entry = { λ taker rules. release_entry taker.policy.now rules };
 
-    ghost turns = { λ taker rules. entry_turns taker.policy.now rules };
+    ghost turns_due = { λ taker rules. entry_turns taker.policy.now rules };
 
-    ghost is_at = { λ taker rules state inputs. IsReleasedAt taker.policy.now rules state.pool state.release inputs × (0 < taker.slice) };
+    ghost is_at = { λ taker rules state inputs. IsReleasedAt taker.policy.now rules state.pool
+        state.release inputs × (0 < taker.slice) };
 
     ghost copies_none = { λ taker. ⊥ };
 
     fn take<C: Ledger, L: Ledger>(
         &self,
         alloc: Global,
-        state: &mut Standing<B>,
+        state: &mut ReleasedCopies<B>,
         item: &Input,
         text: &mut Vec<u8>,
         copies: &mut Steps<C>,
-        steps: &mut Steps<L>,
-    ) -> Result<(), AllocError> {
+        turns: &mut Steps<L>,
+    ) -> Result<(), NoMemory> {
         let offers = state.release.offers(alloc, self.policy, item)?;
         take_offers(
             self.policy,
@@ -72,7 +74,7 @@ impl<B: Reactor> Taker for Releasing<'_, B> {
             &offers,
             text,
             copies,
-            steps,
+            turns,
         )
     }
 }

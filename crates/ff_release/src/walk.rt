@@ -4,17 +4,17 @@ ghost use Rattle.ff_policy.specs.Assignment.{IsAssignment};
 ghost use Rattle.ff_session.specs.Giving.{Gives};
 ghost use Rattle.ff_session.specs.Claims.{Claims, IsAnswered};
 ghost use Rattle.ff_session.specs.Works.{Exchanged};
-ghost use Rattle.ff_rules.specs.Lines.{IsRuleOf};
+ghost use Rattle.ff_route.specs.Offering.{IsRuleOf};
 ghost use Rattle.ff_release.specs.Releasing.{IsReleased, release_duty};
 
-use crate::releasing::{Releasing, Standing};
+use crate::releasing::{ReleasedCopies, Releasing};
+use ff_contract::Steps;
 use ff_io::Port;
 use ff_policy::Policy;
 use ff_pool::Reactor;
 use ff_rules::{Release, Rules};
 use ff_session::{InputReader, new_pool, status_of};
 use ff_status::Status;
-use ff_steps::Steps;
 use ff_stream::stream;
 use std::alloc::Global;
 use std::marker::PhantomData;
@@ -35,8 +35,10 @@ pub fn release<B: Reactor, P: Port, C: Ledger, L: Ledger>(
 ) -> Status
     requires slice { 0 < slice }
     requires rules { All (IsRuleOf policy.now.order) rules }
-    ensures exchanged { Exchanged (Gives policy.now.order) (release_duty policy.now rules) (P.told port.old) (P.told port.new) turns.old turns.new result }
-    ensures released { IsAnswered result → Claims policy.now (P.told port.old) (P.told port.new) (λ is put. IsReleased policy.now rules is put) }
+    ensures exchanged { Exchanged (Gives policy.now.order) (release_duty policy.now rules)
+        (P.told port.old) (P.told port.new) turns.old turns.new result }
+    ensures released { IsAnswered result → Claims policy.now (P.told port.old) (P.told port.new)
+        (λ is put. IsReleased policy.now rules is put) }
     ensures valid { IsAssignment policy.now }
     ensures later_copies { copies.old ≤ copies.new }
 {
@@ -47,7 +49,7 @@ pub fn release<B: Reactor, P: Port, C: Ledger, L: Ledger>(
         Err(_) => return Status::NoMemory,
     };
     let release = Release::new(rules);
-    let mut standing = Standing { pool, release };
+    let mut state = ReleasedCopies { pool, release };
     let end = stream(
         alloc,
         &reader,
@@ -56,7 +58,7 @@ pub fn release<B: Reactor, P: Port, C: Ledger, L: Ledger>(
             slice,
             kind: PhantomData::<B>,
         },
-        &mut standing,
+        &mut state,
         port,
         copies,
         turns,

@@ -14,9 +14,9 @@ pub trait Restorable: Reactor {
     fn stores(&self) -> &Stores
         ensures { result.now ≡ (Self.state self.now).stores };
 
-    /// A quiet one with these stores, in which no page is touched, and with no fuel left. Each input
-    /// brings it so much fuel, from 1 to [`MOST_BUDGET`](ff_reactor::MOST_BUDGET). It takes no
-    /// memory.
+    /// A quiet one with these stores, in which no page is touched, and with no fuel left. Each
+    /// input brings it so much fuel, from 1 to [`MOST_BUDGET`](ff_reactor::MOST_BUDGET). It takes
+    /// no memory.
     fn restore(alloc: Global, fuel: u32, stores: Stores) -> Self
         requires some { 1 ≤ fuel }
         requires few { fuel ≤ MOST_BUDGET }

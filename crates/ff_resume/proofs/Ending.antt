@@ -8,13 +8,13 @@ use Rattle.ff_pool.specs.Pooled as pooled
 use Rattle.ff_pool.specs.Pooled.{Pooled, arrived, drained, taken, copy_of}
 use Rattle.ff_pool.specs.Restored.{IsResting}
 use Rattle.ff_pool.proofs.Gathering.{ends}
-use Rattle.ff_classes.proofs.Parting.{same_input_decides}
-use Rattle.ff_reactive.specs.Copies.{at_level}
-use Rattle.ff_reactive.specs.Rested.{offers_of}
-use Rattle.ff_reactive.specs.Standings.{Standing}
-use Rattle.ff_reactive.specs.Text.{text_of}
-use Rattle.ff_reactive.specs.Worlds.{AreOffers}
-use Rattle.ff_reactive.proofs.Resting.{offers_ok}
+use Rattle.ff_pool.proofs.Parting.{same_input_decides}
+use Rattle.ff_confinement.specs.Copies.{at_level}
+use Rattle.ff_confinement.specs.Rested.{offers_of}
+use Rattle.ff_confinement.specs.Standings.{Standing}
+use Rattle.ff_confinement.specs.Text.{text_of}
+use Rattle.ff_confinement.specs.Worlds.{AreOffers}
+use Rattle.ff_confinement.proofs.Resting.{offers_ok}
 use Rattle.ff_session.specs.Levels.{levels}
 use Rattle.ff_session.specs.Multi.{AreCopiesAt, seen_by}
 use Rattle.ff_session.proofs.Feeding.{IsLettingOut, seen_spelled, taking_starts, out_start, out_step, all_taken}

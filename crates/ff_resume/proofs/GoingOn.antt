@@ -4,11 +4,11 @@ use Rattle.ff_lattice.specs.Order.{size}
 use Rattle.ff_machine.specs.State.{State}
 use Rattle.ff_policy.specs.Assignment.{Assignment, IsAssignment}
 use Rattle.ff_pool.specs.Pooled.{Pooled}
-use Rattle.ff_reactive.specs.Standings.{Standing, StandAlike, run}
-use Rattle.ff_reactive.specs.Text.{text_out}
-use Rattle.ff_reactive.proofs.Alike.{run_alike, work_alike, standing_alike}
-use Rattle.ff_reactive.proofs.Standings.{run_rest}
-use Rattle.ff_reactive.proofs.Text.{text_out-append}
+use Rattle.ff_confinement.specs.Standings.{Standing, StandAlike, run}
+use Rattle.ff_confinement.specs.Text.{text_out}
+use Rattle.ff_confinement.proofs.Alike.{run_alike, work_alike, standing_alike}
+use Rattle.ff_confinement.proofs.Standings.{run_rest}
+use Rattle.ff_confinement.proofs.Text.{text_out-append}
 use Rattle.ff_save.specs.Saved.{saved_text}
 use Rattle.ff_save.proofs.Verdicts.{one_saved}
 use Rattle.ff_session.specs.Levels.{levels, machine}

@@ -3,10 +3,10 @@ use Rattle.std.proofs.Common.{◌≡◌, List, [], refl, ap, ◌∙◌}
 use Rattle.ff_lattice.specs.Order.{size}
 use Rattle.ff_policy.specs.Assignment.{Assignment}
 use Rattle.ff_pool.specs.Restored.{IsResting}
-use Rattle.ff_reactive.specs.Standings.{StandAlike, fresh}
-use Rattle.ff_reactive.specs.Text.{text_out}
-use Rattle.ff_reactive.proofs.Alike.{run_alike, work_alike}
-use Rattle.ff_reactive.proofs.Standings.{run_fresh, state_start, work_fresh}
+use Rattle.ff_confinement.specs.Standings.{StandAlike, fresh}
+use Rattle.ff_confinement.specs.Text.{text_out}
+use Rattle.ff_confinement.proofs.Alike.{run_alike, work_alike}
+use Rattle.ff_confinement.proofs.Standings.{run_fresh, state_start, work_fresh}
 use Rattle.ff_session.specs.Levels.{levels, machine}
 use Rattle.ff_session.specs.Multi.{AreCopiesAt, multi_text, multi_turns, run_text, run_turns, seen_by}
 use Rattle.ff_session.proofs.Feeding.{fresh_copies}

@@ -6,10 +6,10 @@ use Rattle.ff_io.proofs.Joins.{Adds-nil}
 use Rattle.ff_machine.specs.State.{State}
 use Rattle.ff_policy.specs.Assignment.{Assignment}
 use Rattle.ff_pool.specs.Pooled.{Pooled}
-use Rattle.ff_reactive.specs.Standings.{Standing, run, puts_all}
-use Rattle.ff_reactive.specs.Text.{text_out}
-use Rattle.ff_reactive.proofs.Standings.{run_start, run_more, work_of_start, work_of_more}
-use Rattle.ff_reactive.proofs.Text.{text_out_none, text_out_push}
+use Rattle.ff_confinement.specs.Standings.{Standing, run, puts_all}
+use Rattle.ff_confinement.specs.Text.{text_out}
+use Rattle.ff_confinement.proofs.Standings.{run_start, run_more, work_of_start, work_of_more}
+use Rattle.ff_confinement.proofs.Text.{text_out_none, text_out_push}
 use Rattle.ff_save.specs.Saved.{saved_recs, saved_text}
 use Rattle.ff_session.specs.Closing.{IsEnded, IsClosed, Closes, ends_whole}
 use Rattle.ff_session.specs.Giving.{Gives}

@@ -8,15 +8,15 @@ use Rattle.ff_pool.specs.Heads.{IsWorldOf}
 use Rattle.ff_pool.specs.Pooled.{Pooled, copy_of}
 use Rattle.ff_pool.specs.Restored.{IsResting}
 use Rattle.ff_pool.proofs.Gathering.{ends}
-use Rattle.ff_reactive.specs.Rested.{IsRested}
-use Rattle.ff_reactive.specs.Standings.{Standing, StandAlike}
-use Rattle.ff_reactive.specs.Worlds.{waits, copy_at}
-use Rattle.ff_reactive.proofs.Resting.{rested_from}
+use Rattle.ff_confinement.specs.Rested.{IsRested}
+use Rattle.ff_confinement.specs.Standings.{Standing, StandAlike}
+use Rattle.ff_confinement.specs.Worlds.{waits, copy_at}
+use Rattle.ff_confinement.proofs.Resting.{rested_from}
 use Rattle.ff_save.specs.Saved.{saved_recs, saved_text}
 use Rattle.ff_session.specs.Levels.{levels}
 use Rattle.ff_session.specs.Multi.{AreCopiesAt, seen_by, stands_after}
 use Rattle.ff_value.specs.Same.{same_input}
-use Rattle.ff_classes.proofs.Parting.{same_input_decides}
+use Rattle.ff_pool.proofs.Parting.{same_input_decides}
 use Rattle.ff_value.specs.declared.input.Input.{Input}
 use Rattle.ff_resume.specs.Resumed.{standing_text, stand_of}
 use Rattle.ff_resume.proofs.Stood.{pool_stands, text_agrees}

@@ -11,15 +11,15 @@ use Rattle.ff_lattice.specs.Order.{size}
 use Rattle.ff_lattice.proofs.LevelSets.{levels_same}
 use Rattle.ff_machine.specs.State.{State}
 use Rattle.ff_policy.specs.Assignment.{Assignment}
-use Rattle.ff_classes.specs.Classes.{class_of, leads, tops}
+use Rattle.ff_pool.specs.Classes.{class_of, leads, tops}
 use Rattle.ff_pool.specs.Pooled.{Pooled, copy_of}
 use Rattle.ff_pool.specs.Restored.{IsResting}
-use Rattle.ff_reactive.specs.Copies.{below}
-use Rattle.ff_reactive.specs.Standings.{Standing, StandAlike}
-use Rattle.ff_reactive.specs.Worlds.{leader, AreLeaders}
-use Rattle.ff_reactive.proofs.Below.{list_all_below}
-use Rattle.ff_reactive.proofs.Standings.{states_rest, alike_stays_rest}
-use Rattle.ff_saved.specs.Recs.{stores_recs}
+use Rattle.ff_contract.specs.Lists.{below}
+use Rattle.ff_confinement.specs.Standings.{Standing, StandAlike}
+use Rattle.ff_confinement.specs.Worlds.{leader, AreLeaders}
+use Rattle.ff_confinement.proofs.Below.{list_all_below}
+use Rattle.ff_confinement.proofs.Standings.{states_rest, alike_stays_rest}
+use Rattle.ff_saved_rows.specs.Recs.{stores_recs}
 use Rattle.ff_save.specs.Saved.{saved_recs, saved_text}
 use Rattle.ff_save.specs.Whole.{IsSaved, IsWhole}
 use Rattle.ff_session.specs.Levels.{levels, machine}

@@ -4,9 +4,9 @@ use Rattle.std.proofs.lemmas.Bool.{cases_lt}
 use Rattle.std.proofs.lemmas.List.{get_or_past}
 use Rattle.ff_io.specs.Pieces.{got_of, has_end, put_of}
 use Rattle.ff_io.specs.Port.{Told}
-use Rattle.ff_reactive.specs.Standings.{Standing}
-use Rattle.ff_reactive.specs.Text.{BeginsWith}
-use Rattle.ff_reactive.specs.Worlds.{new_copy}
+use Rattle.ff_confinement.specs.Standings.{Standing}
+use Rattle.ff_contract.specs.Lists.{Begins}
+use Rattle.ff_confinement.specs.Worlds.{new_copy}
 use Rattle.ff_lattice.specs.Order.{size}
 use Rattle.ff_machine.specs.Machine.{reactor}
 use Rattle.ff_machine.specs.State.{State}
@@ -45,13 +45,13 @@ module _ (p : Assignment) (valid : IsAssignment p) (pool : Pooled) (rests : IsRe
 -- what a resumed run that was carried out tells
 module _ {before now : Told} {turns_before turns_now : ℕ} (p : Assignment) (from : Standing State) (s : Status) (run : Exchanged (Gives p.order) (resume_duty p from) before now turns_before turns_now s) where
   begins_so : {holds : List Input → Type 0} (other bad : Option (BadLine TraceFault)) (paid : IsOwed (Gives p.order) (resume_duty p from) run.pieces other turns_before turns_now holds) (is : List Input) → AreInputsGot p run.pieces is bad
-      → BeginsWith (put_of run.pieces) (run_text p (seen_by p) from is)
+      → Begins (put_of run.pieces) (run_text p (seen_by p) from is)
   begins_so other bad paid is reads =
       let same : paid.items ≡ is = (trace_once (gives_once p.order) (has_end run.pieces) (got_of run.pieces) paid.items is other bad paid.read reads).0 in
-      subst (λ js. BeginsWith (put_of run.pieces) (run_text p (seen_by p) from js)) same (closing_text p from _ paid.items, paid.text_is)
+      subst (λ js. Begins (put_of run.pieces) (run_text p (seen_by p) from js)) same (closing_text p from _ paid.items, paid.text_is)
 
   begins : (t : Status) → IsAnswered t → IsWritten (Gives p.order) (resume_duty p from) t run.pieces turns_before turns_now → (is : List Input) (bad : Option (BadLine TraceFault)) → AreInputsGot p run.pieces is bad
-      → BeginsWith (put_of run.pieces) (run_text p (seen_by p) from is)
+      → Begins (put_of run.pieces) (run_text p (seen_by p) from is)
   begins Done answered written is bad reads = begins_so None bad written.1 is reads
   begins Leaks answered written is bad reads = begins_so None bad written.1 is reads
   begins (Trace number fault) answered written is bad reads = begins_so _ bad written.owed_is is reads

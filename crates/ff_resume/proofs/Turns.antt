@@ -3,13 +3,13 @@ use Rattle.std.proofs.Common.{◌≡◌, ◌+◌, ℕ, Bool, cond, not, List, []
 use Rattle.std.proofs.lemmas.List.Sums.{sum_by-append}
 use Rattle.ff_machine.specs.State.{State}
 use Rattle.ff_policy.specs.Assignment.{Assignment}
-use Rattle.ff_reactive.specs.Copies.{Levels}
-use Rattle.ff_reactive.specs.Runs.{Machine, entries, handle_seen}
-use Rattle.ff_reactive.specs.Standings.{Offering, Standing, handles, leads, once_come, standing_after, stay_alike, turns_all, work_of}
-use Rattle.ff_reactive.proofs.Alike.{all_agree_below}
-use Rattle.ff_reactive.proofs.Below.{sum_agree_below}
-use Rattle.ff_reactive.proofs.Lists.{entries-append}
-use Rattle.ff_reactive.proofs.Standings.{alike_stays_rest, entries_agree, states_rest}
+use Rattle.ff_confinement.specs.Copies.{Levels}
+use Rattle.ff_confinement.specs.Runs.{Machine, entries, handle_seen}
+use Rattle.ff_confinement.specs.Standings.{Offering, Standing, handles, leads, once_come, standing_after, stay_alike, turns_all, work_of}
+use Rattle.ff_confinement.proofs.Alike.{all_agree_below}
+use Rattle.ff_confinement.proofs.Below.{sum_agree_below}
+use Rattle.ff_confinement.proofs.Lists.{entries-append}
+use Rattle.ff_confinement.proofs.Standings.{alike_stays_rest, entries_agree, states_rest}
 use Rattle.ff_session.specs.Levels.{levels, machine}
 use Rattle.ff_session.specs.Multi.{run_turns, seen_by, stands_after}
 use Rattle.ff_value.specs.Same.{same_input}

@@ -8,13 +8,14 @@ use Rattle.ff_machine.specs.Machine.{reactor}
 use Rattle.ff_policy.specs.Assignment.{Assignment}
 use Rattle.ff_pool.specs.Pooled.{Pooled, new_pool}
 use Rattle.ff_pool.specs.Restored.{IsResting}
-use Rattle.ff_reactive.specs.Copies.{at_level, below, seen}
-use Rattle.ff_reactive.specs.Runs.{joined, plain_from}
-use Rattle.ff_reactive.specs.Text.{BeginsWith, only, text_of, view}
+use Rattle.ff_confinement.specs.Copies.{at_level, seen}
+use Rattle.ff_contract.specs.Lists.{below, Begins}
+use Rattle.ff_confinement.specs.Runs.{joined, plain_from}
+use Rattle.ff_confinement.specs.Text.{only, text_of, view}
 use Rattle.ff_session.specs.Levels.{levels, machine}
-use Rattle.ff_reactive.specs.Rested as rested
-use Rattle.ff_reactive.specs.Standings.{Standing, StandAlike}
-use Rattle.ff_saved.specs.Recs.{stores_recs}
+use Rattle.ff_confinement.specs.Rested as rested
+use Rattle.ff_confinement.specs.Standings.{Standing, StandAlike}
+use Rattle.ff_saved_rows.specs.Recs.{stores_recs}
 use Rattle.ff_save.specs.Saved.{SavedRecs, saved_text}
 use Rattle.ff_save.specs.Whole.{IsSaved}
 use Rattle.ff_session.specs.Multi.{seen_by, run_text, run_turns, copies_entry, stands_after}
@@ -51,8 +52,8 @@ stand_of pool = rested.standing_of (reactor pool.fuel) pool.world
 abbrev pub new_copies : Assignment → Pooled
 new_copies p = new_pool (size p.order) p.fuel
 
--- What is put once a trace was read: where it was read to its end and has no bad line, the saved text
--- of where its inputs have brought the copies.
+-- What is put once a trace was read: where it was read to its end and has no bad line, the saved
+-- text of where its inputs have brought the copies.
 abbrev pub closing_text : Assignment → Standing State → Bool → List Input → List ℕ
 closing_text p from whole is = cond whole (standing_text p (stands_after p from is)) []
 
@@ -71,18 +72,18 @@ pub record EndsAtRest (p : Assignment) (from : Pooled) (is : List Input) : Type 
   pub rests : IsResting (size p.order) p.fuel there
   pub stands : StandAlike (size p.order) (stand_of there) (stands_after p (stand_of from) is)
 
--- A pool was read from what a run was saved as: the run went from where the copies of a pool at rest
--- stand, over inputs that lines give.
+-- A pool was read from what a run was saved as: the run went from where the copies of a pool at
+-- rest stand, over inputs that lines give.
 pub record WasSaved (p : Assignment) (from : Pooled) (is : List Input) (read : Pooled) : Type 0 where
   pub rests : IsResting (size p.order) p.fuel from
   pub inputs : All (IsInputOf p.order) is
   pub saved : IsSaved p (standing_text p (stands_after p (stand_of from) is)) read
 
--- What the text of a resumed run tells. It begins with the text of the run. In that, each level's own lines are what the plain
--- browser puts at it, from where its copy stood, on what the level sees; and inputs that look the same to a level give it the
--- same view.
+-- What the text of a resumed run tells. It begins with the text of the run. In that, each level's
+-- own lines are what the plain browser puts at it, from where its copy stood, on what the level
+-- sees; and inputs that look the same to a level give it the same view.
 pub record IsResumed (p : Assignment) (from : Standing State) (is : List Input) (put : List ℕ) : Type 0 where
-  pub begins : BeginsWith put (run_text p (seen_by p) from is)
+  pub begins : Begins put (run_text p (seen_by p) from is)
   pub projected : (l : ℕ) → l < size p.order
       → only (levels p) l (run_text p (seen_by p) from is) ≡ text_of (levels p) (at_level (levels p) l (joined (plain_from (machine p) (from.states l) (seen (levels p) l is))))
   pub secure : (l : ℕ) (js : List Input) → l < size p.order → All (IsInputOf p.order) js → seen (levels p) l js ≡ seen (levels p) l is

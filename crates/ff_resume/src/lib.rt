@@ -1,5 +1,7 @@
 //! Runs that go on from where copies stand, and are saved at their end.
 //!
+//! Floor: commands. It decides neither what a browser does nor who may know.
+//!
 //! [`resume`] multi-executes a trace with the copies of a pool at rest, and after a good trace puts
 //! the saved text of where the copies then stand. The pool is a new one, or one that was read from
 //! such a text: so a long run can be cut into several, and tells what the unbroken one does.

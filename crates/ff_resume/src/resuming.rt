@@ -8,6 +8,7 @@ ghost use Rattle.ff_session.specs.Closing.{IsClosed};
 ghost use Rattle.ff_session.specs.Giving.{Gives};
 ghost use Rattle.ff_session.specs.Works.{Exchanged};
 
+use ff_contract::Steps;
 use ff_io::Port;
 use ff_policy::Policy;
 use ff_pool::Pool;
@@ -15,7 +16,6 @@ use ff_restorable::Restorable;
 use ff_save::write_saved;
 use ff_session::{close, status_of, walk_copies};
 use ff_status::Status;
-use ff_steps::Steps;
 use ff_stream::End;
 use std::alloc::Global;
 use std::sync::ledger::Ledger;
@@ -36,7 +36,8 @@ pub fn resume<B: Restorable, P: Port, C: Ledger, L: Ledger>(
 ) -> Status
     requires slice { 0 < slice }
     requires rests { IsResting (size policy.now.order) policy.now.fuel pool }
-    ensures exchanged { Exchanged (Gives policy.now.order) (resume_duty policy.now (stand_of pool)) (P.told port.old) (P.told port.new) turns.old turns.new result }
+    ensures exchanged { Exchanged (Gives policy.now.order) (resume_duty policy.now (stand_of pool))
+        (P.told port.old) (P.told port.new) turns.old turns.new result }
     ensures later_copies { copies.old ≤ copies.new }
 {
     let mut pool = pool;
@@ -55,7 +56,9 @@ fn finish<B: Restorable, P: Port>(
     port: &mut P,
 ) -> Status
     requires rests { IsResting (size policy.now.order) policy.now.fuel pool.now }
-    ensures closed { IsClosed End.Done Status.Done (saved_text policy.now (saved_recs pool.now)) (P.log port.old) (P.log port.new) (P.write_faults port.old) (P.write_faults port.new) result }
+    ensures closed { IsClosed End.Done Status.Done (saved_text policy.now (saved_recs pool.now))
+        (P.log port.old) (P.log port.new) (P.write_faults port.old) (P.write_faults port.new)
+        result }
     ensures rest { P.rest port.new ≡ P.rest port.old }
     ensures others { P.read_faults port.new ≡ P.read_faults port.old }
     ensures later { P.write_faults port.old ≤ P.write_faults port.new }

@@ -4,8 +4,8 @@ use Rattle.std.specs.Option.{option_and_then}
 use Rattle.std.proofs.lemmas.Bool.{true≢false}
 use Rattle.std.proofs.lemmas.List.{map-append}
 use Rattle.std.proofs.lemmas.List.Elements.{All-from_get_or}
-use Rattle.ff_reactive.specs.Copies.{below}
-use Rattle.ff_reactive.specs.Laws.{IsWord}
+use Rattle.ff_contract.specs.Lists.{below}
+use Rattle.ff_confinement.specs.Laws.{IsWord}
 use Rattle.ff_lattice.specs.Order.{size, leq, name}
 use Rattle.ff_lattice.proofs.Callers.{name_graphic}
 use Rattle.ff_value.specs.declared.input.Input.{Input}

@@ -1,1 +1,3 @@
 pub mod Route
+pub mod Offering
+pub mod Released

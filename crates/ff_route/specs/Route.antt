@@ -1,7 +1,8 @@
 -- What is left of an input that is masked, what each level sees of an input, and the levels of a
 -- policy as those of a multi-executed run.
 use Rattle.std.specs.Prelude.{ℕ, cond, Option, Some, None, List, [], map}
-use Rattle.ff_reactive.specs.Copies.{Levels, below}
+use Rattle.ff_confinement.specs.Copies.{Levels}
+use Rattle.ff_contract.specs.Lists.{below}
 use Rattle.ff_lattice.specs.Order.{Order, size, leq, name, IsTag}
 use Rattle.ff_name.specs.declared.urls.Url.TheVariants.{Blank}
 use Rattle.ff_value.specs.declared.input.Act.{Act}

@@ -15,7 +15,7 @@ use std::alloc::Global;
 
 /// What is left of an input for a level that may know that there was one and not what it says: its
 /// kind, its tag, its numbers and its domain. A text is empty, an address is `about:blank`, and a
-/// response has no cookies and an empty text. Its one refusal is want of memory.
+/// response has no cookies and an empty text.
 pub fn mask(alloc: Global, input: &Input) -> Result<Input, NoMemory>
     ensures { IfOk result (λ masked. masked ≡ mask input.now) }
 {
@@ -54,9 +54,9 @@ fn no_response(alloc: Global) -> Result<Resp, NoMemory>
     Ok(Resp::Data(cookies, Text::of_str(alloc, "")?))
 }
 
-/// What the level sees of an input: the input, its tag too, where the input's content is at or below
-/// that level; else the masked input where its presence is; and else nothing. Its one refusal is
-/// want of memory, where the masked input is seen.
+/// What the level sees of an input: the input, its tag too, where the input's content is at or
+/// below that level; else the masked input where its presence is; and else nothing. Its one refusal
+/// is want of memory, where the masked input is seen.
 #[tactic(auto, unfolding(crate::specs::Route::sees))]
 pub fn sees(alloc: Global, policy: &Policy, l: Level, input: &Input) -> Result<Offer, NoMemory>
     requires level { l.0 < size policy.now.order }
@@ -64,7 +64,8 @@ pub fn sees(alloc: Global, policy: &Policy, l: Level, input: &Input) -> Result<O
     ensures value { IfOk result (λ seen. offered input.now seen ≡ sees policy.now l.0 input.now) }
     // What isn't seen, and what is seen whole, is answered without memory.
     ensures unseen { sees policy.now l.0 input.now ≡ None → result ≡ Ok Offer.Nothing }
-    ensures whole { leq policy.now.order (content policy.now input.now) l.0 ≡ true → result ≡ Ok Offer.Whole }
+    ensures whole { leq policy.now.order (content policy.now input.now) l.0 ≡ true
+        → result ≡ Ok Offer.Whole }
 {
     let whole_from = policy.content(input);
     let masked_from = policy.presence(input);
@@ -88,7 +89,8 @@ fn seen_at(
     requires masked_within { masked_from.0 < size policy.now.order }
     ensures value { IfOk result (λ seen. offered input.now seen ≡ sees policy.now l.0 input.now) }
     ensures unseen { sees policy.now l.0 input.now ≡ None → result ≡ Ok Offer.Nothing }
-    ensures whole { leq policy.now.order (content policy.now input.now) l.0 ≡ true → result ≡ Ok Offer.Whole }
+    ensures whole { leq policy.now.order (content policy.now input.now) l.0 ≡ true
+        → result ≡ Ok Offer.Whole }
 {
     if policy.lattice().leq(whole_from, l) {
         return Ok(Offer::Whole);
@@ -99,8 +101,7 @@ fn seen_at(
     Ok(Offer::Nothing)
 }
 
-/// What each level sees of an input, in the order of the levels. The input is lent. Its one refusal
-/// is want of memory.
+/// What each level sees of an input, in the order of the levels. The input is lent.
 #[tactic(auto, using(crate::proofs::Fits::offers_more))]
 pub fn offers<'a>(alloc: Global, policy: &Policy, input: &'a Input) -> Result<Offers<'a>, NoMemory>
     requires { IsTagged policy.now.order input.now }

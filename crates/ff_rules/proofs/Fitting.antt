@@ -1,8 +1,8 @@
 -- What is offered of an input fits the levels.
 use Rattle.std.proofs.Common.{◌≡◌, ℕ, Bool, true, false, cond, Option, Some, None, List, [], ◌∷◌, map, refl, sym, subst, arith}
-use Rattle.ff_reactive.specs.Copies.{below}
-use Rattle.ff_reactive.specs.Worlds.{AreOffers, OfferOk}
-use Rattle.ff_reactive.proofs.Below.{length-each, get_or-each}
+use Rattle.ff_contract.specs.Lists.{below}
+use Rattle.ff_confinement.specs.Worlds.{AreOffers, OfferOk}
+use Rattle.ff_confinement.proofs.Below.{length-each, get_or-each}
 use Rattle.ff_lattice.specs.Order.{size, leq}
 use Rattle.ff_value.specs.declared.input.Input.{Input}
 use Rattle.ff_policy.specs.Assignment.{Assignment}
@@ -10,8 +10,8 @@ use Rattle.ff_route.specs.Route.{mask, sees}
 use Rattle.ff_route.proofs.Fits.{sees_spelled, sees_tagged}
 use Rattle.ff_route.proofs.Masks.{masked_spelled}
 use Rattle.ff_trace.specs.Lines.{IsInputOf}
-use Rattle.ff_rules.specs.Offering.{or_mask, rule_offer, rule_offers, is_of_use, released}
-use Rattle.ff_rules.specs.declared.rule.Rule.{Rule}
+use Rattle.ff_route.specs.Offering.{or_mask, rule_offer, rule_offers, is_of_use, released}
+use Rattle.ff_route.specs.declared.rule.Rule.{Rule}
 
 module _ (p : Assignment) (i : Input) (is : IsInputOf p.order i) where
   seen_fits : (l : ℕ) (o : Option Input) → sees p l i ≡ o → OfferOk (IsInputOf p.order) o

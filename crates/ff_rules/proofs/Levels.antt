@@ -10,8 +10,9 @@ use Rattle.ff_text.specs.declared.items.Sexp.{Sexp}
 use Rattle.ff_trace.specs.Lines.{kind_of}
 use Rattle.ff_trace.specs.Parts.{number_of}
 use Rattle.ff_value.specs.declared.kind.Kind.{Kind}
-use Rattle.ff_rules.specs.Lines.{GivesRule, silent, bad_text, as_items, IsRuleOf, form_named, part_in, with_level, with_parts, rule_in, in_front, Reads, at_end, no_rule, a_rule, too_many, bad_line, ReadsRules, by_lines}
-use Rattle.ff_rules.specs.declared.rule.Rule.{Rule}
+use Rattle.ff_rules.specs.Lines.{GivesRule, silent, bad_text, as_items, form_named, part_in, with_level, with_parts, rule_in, in_front, Reads, at_end, no_rule, a_rule, too_many, bad_line, ReadsRules, by_lines}
+use Rattle.ff_route.specs.Offering.{IsRuleOf}
+use Rattle.ff_route.specs.declared.rule.Rule.{Rule}
 use Rattle.ff_rules.specs.declared.fault.ReleaseFault.{ReleaseFault}
 
 module _ (order : Order) where

@@ -10,7 +10,7 @@ use Rattle.ff_text.proofs.Complete.{verdict_from_spelled}
 use Rattle.ff_text.proofs.Verdict.{verdict_from_fault}
 use Rattle.ff_trace.specs.Lines.{is_silent}
 use Rattle.ff_rules.specs.Lines.{GivesRule, silent, bad_text, as_items, rule_in, in_front, Reads, at_end, no_rule, a_rule, too_many, bad_line, ReadsRules, too_large, by_lines}
-use Rattle.ff_rules.specs.declared.rule.Rule.{Rule}
+use Rattle.ff_route.specs.declared.rule.Rule.{Rule}
 use Rattle.ff_rules.specs.declared.rule.TheConstants.{MOST_RULES}
 use Rattle.ff_rules.specs.declared.fault.ReleaseFault.{ReleaseFault}
 use Rattle.ff_rules.specs.declared.fault.ReleaseFault.TheVariants as fault

@@ -13,8 +13,8 @@ use Rattle.ff_text.specs.declared.items.TextFault.{TextFault}
 use Rattle.ff_text.specs.declared.items.TextFault.TheVariants as text
 use Rattle.ff_trace.specs.Lines.{is_silent}
 use Rattle.ff_rules.specs.Lines.{GivesRule, silent, bad_text, as_items, rule_in, in_front, Reads, at_end, no_rule, a_rule, too_many, bad_line, ReadsRules, too_large, by_lines, IsFound}
-use Rattle.ff_rules.specs.Lines.{IsRuleOf}
-use Rattle.ff_rules.specs.declared.rule.Rule.{Rule}
+use Rattle.ff_route.specs.Offering.{IsRuleOf}
+use Rattle.ff_route.specs.declared.rule.Rule.{Rule}
 use Rattle.ff_rules.specs.declared.rule.TheConstants.{MOST_RULES, MOST_RULES_BYTES}
 use Rattle.ff_rules.specs.declared.fault.ReleaseFault.{ReleaseFault}
 use Rattle.ff_rules.specs.declared.fault.ReleaseFault.TheVariants as fault

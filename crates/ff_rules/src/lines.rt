@@ -5,11 +5,11 @@ ghost use Rattle.ff_text.specs.declared.reading.TheConstants.{MOST_BYTES};
 ghost use Rattle.ff_trace.specs.Parts as parts;
 ghost use Rattle.ff_rules.specs.Lines as spec;
 ghost use Rattle.ff_rules.specs.Lines.{GivesRule, IsFound, rule_in};
-ghost use Rattle.ff_rules.specs.Lines.{IsRuleOf};
+ghost use Rattle.ff_route.specs.Offering.{IsRuleOf};
 
 use crate::fault::{ReleaseFail, ReleaseFault};
-use crate::rule::Rule;
 use ff_lattice::Lattice;
+use ff_route::Rule;
 use ff_text::{Sexp, TextFault, read_items};
 use ff_trace::{is_silent, kind_of, number_of};
 use ff_value::Kind;
@@ -68,8 +68,11 @@ struct Parts<'a> {
 
 /// The parts that a line's items are, or `None` where they are no such parts.
 fn parts_of(items: &[Sexp]) -> Option<Parts<'_>>
-    ensures { MatchOption result ((order : Order) (number : ℕ) → rule_in order number items.now ≡ Err (ReleaseFault.Shape number))
-        (λ parts. (order : Order) (number : ℕ) → rule_in order number items.now ≡ spec.with_level number parts.kind parts.quota parts.whole (level_named order parts.name.now)) }
+    ensures { MatchOption result ((order : Order) (number : ℕ)
+        → rule_in order number items.now ≡ Err (ReleaseFault.Shape number))
+        (λ parts. (order : Order) (number : ℕ)
+        → rule_in order number items.now ≡ spec.with_level number parts.kind parts.quota parts.whole
+        (level_named order parts.name.now)) }
 {
     match items {
         [kind, level, quota, form] => Some(Parts {
@@ -84,7 +87,8 @@ fn parts_of(items: &[Sexp]) -> Option<Parts<'_>>
 
 /// The bytes of a word.
 fn word_of(item: &Sexp) -> Option<&[u8]>
-    ensures { MatchOption result (spec.part_in Some item.now ≡ None) (λ word. spec.part_in Some item.now ≡ Some word.now) }
+    ensures { MatchOption result (spec.part_in Some item.now ≡ None)
+        (λ word. spec.part_in Some item.now ≡ Some word.now) }
 {
     match item {
         Sexp::Word(_, text) => Some(text.as_bytes()),

@@ -2,8 +2,8 @@
 ghost use Rattle.std.specs.Prelude.{◌≡◌, List, IfOk, IfErr, Ok, Err, All};
 ghost use Rattle.ff_contract.specs.Answering.{Answers};
 ghost use Rattle.ff_rules.specs.Lines.{ReadsRules, IsFound};
-ghost use Rattle.ff_rules.specs.Lines.{IsRuleOf};
-ghost use Rattle.ff_rules.specs.declared.rule.Rule.{Rule};
+ghost use Rattle.ff_route.specs.Offering.{IsRuleOf};
+ghost use Rattle.ff_route.specs.declared.rule.Rule.{Rule};
 ghost use Rattle.ff_rules.specs.declared.fault.ReleaseFault.{ReleaseFault};
 ghost use Rattle.ff_rules.specs.declared.rule.TheConstants.{MOST_RULES_BYTES};
 
@@ -22,15 +22,19 @@ impl Rules {
     pub fn read(alloc: Global, bytes: &[u8], lattice: &Lattice) -> Result<Rules, ReleaseFail>
         ensures found { IfOk result (λ rules. ReadsRules lattice.now bytes.now (Ok rules)) }
         ensures within { IfOk result (All (IsRuleOf lattice.now)) }
-        ensures only { (rules : List Rule) → ReadsRules lattice.now bytes.now (Ok rules) → Answers result (Ok rules) (Err ReleaseFail.NoMemory) }
-        ensures fault { IfErr result (λ fail. (fault : ReleaseFault) → fail ≡ ReleaseFail.Fault fault → ReadsRules lattice.now bytes.now (Err fault)) }
-        ensures exact { (fault : ReleaseFault) → ReadsRules lattice.now bytes.now (Err fault) → Answers result (Err (ReleaseFail.Fault fault)) (Err ReleaseFail.NoMemory) }
+        ensures only { (rules : List Rule) → ReadsRules lattice.now bytes.now (Ok rules)
+            → Answers result (Ok rules) (Err ReleaseFail.NoMemory) }
+        ensures fault { IfErr result (λ fail. (fault : ReleaseFault)
+            → fail ≡ ReleaseFail.Fault fault → ReadsRules lattice.now bytes.now (Err fault)) }
+        ensures exact { (fault : ReleaseFault) → ReadsRules lattice.now bytes.now (Err fault)
+            → Answers result (Err (ReleaseFail.Fault fault)) (Err ReleaseFail.NoMemory) }
     {
         first_read(alloc, bytes, lattice)
     }
 }
 
-/// The rules or the first fault.
+/// The rules or the first fault. It stands apart for the prover alone: `Rules::read` says more of
+/// its answer.
 fn first_read(alloc: Global, bytes: &[u8], lattice: &Lattice) -> Result<Rules, ReleaseFail>
     ensures found { IsFound (ReadsRules lattice.now bytes.now) result }
     ensures within { IfOk result (All (IsRuleOf lattice.now)) }

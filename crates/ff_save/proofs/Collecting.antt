@@ -13,16 +13,17 @@ use Rattle.ff_stores.specs.Restored.{AreUntouched}
 use Rattle.ff_text.specs.declared.reading.TheConstants.{MOST_BYTES}
 use Rattle.ff_trace.specs.declared.fault.LineFault.{LineFault}
 use Rattle.ff_trace.specs.declared.fault.LineFault.TheVariants as fault
-use Rattle.ff_saved.specs.Drafted.{so_far}
-use Rattle.ff_saved.specs.Drafting.{no_recs, added, Adds}
-use Rattle.ff_saved.specs.Reading.{ReadsRow, Gives}
-use Rattle.ff_saved.specs.Recs.{StoresRecs, stores_recs}
-use Rattle.ff_saved.specs.Rows.{row_text, IsRow, FitsLine}
-use Rattle.ff_saved.specs.declared.draft.Draft.{Draft}
-use Rattle.ff_saved.specs.declared.row.Row.{Row}
-use Rattle.ff_saved.specs.declared.row.Row.TheVariants as row
+use Rattle.ff_saved_rows.specs.Drafted.{so_far}
+use Rattle.ff_saved_rows.specs.Drafting.{no_recs, added, Adds}
+use Rattle.ff_saved_rows.specs.Reading.{ReadsRow}
+use Rattle.ff_trace.specs.Lines.{Gives}
+use Rattle.ff_saved_rows.specs.Recs.{StoresRecs, stores_recs}
+use Rattle.ff_saved_rows.specs.Rows.{row_text, IsRow, FitsLine}
+use Rattle.ff_saved_rows.specs.declared.draft.Draft.{Draft}
+use Rattle.ff_saved_rows.specs.declared.row.Row.{Row}
+use Rattle.ff_saved_rows.specs.declared.row.Row.TheVariants as row
 use Rattle.ff_save.specs.Gathered.{Gathered, no_classes, with_last_class, browsers_of, gathered_more, IsNoText}
-use Rattle.ff_stored.specs.Rest.{IsAtRest}
+use Rattle.ff_save.specs.Rest.{IsAtRest}
 use Rattle.ff_save.specs.Holding.{Held, records_of, Holds, AreOfNone, IsSpoiled, Ends, Begins, IsStuck, nowhere, spoiled, AddsRow, IsLineOf, AddsLine}
 use Rattle.ff_save.proofs.Grown.{with_more, other_row}
 use Rattle.ff_save.proofs.Texts.{IsReading, reading_more, reading_stuck, something_left}

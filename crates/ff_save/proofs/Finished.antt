@@ -6,13 +6,13 @@ use Rattle.ff_pool.specs.Pooled.{Pooled}
 use Rattle.ff_pool.specs.Restored.{PoolRecs, IsResting, IsReady, pool_recs}
 use Rattle.ff_records.specs.Restored.{Restores}
 use Rattle.ff_save.specs.Gathered.{Gathered, saved_of, AreStored}
-use Rattle.ff_stored.specs.Rest.{IsAtRest}
+use Rattle.ff_save.specs.Rest.{IsAtRest}
 use Rattle.ff_save.specs.Holding.{Held, records_of, IsSpoiled, Ends}
 use Rattle.ff_save.specs.Saved.{SavedRecs, saved_recs}
 use Rattle.ff_save.proofs.Grown.{spoiled_fails}
-use Rattle.ff_stored.proofs.Mapped.{same_on}
+use Rattle.ff_save.proofs.Mapped.{same_on}
 use Rattle.ff_save.proofs.Same.{browsers_rest}
-use Rattle.ff_stored.proofs.Stored.{same_states}
+use Rattle.ff_save.proofs.Stored.{same_states}
 
 -- browsers at rest are ready for a pool
 all_ready : (fuel : ℕ) (ss : List State) → All (IsAtRest fuel) ss → All (IsReady fuel) ss

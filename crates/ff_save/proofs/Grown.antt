@@ -1,13 +1,13 @@
 -- What is gathered row by row: it grows, and the rows of a pool's records give these records.
 use Rattle.std.proofs.Common.{◌≡◌, ◌≢◌, ℕ, Option, Some, None, List, [], ◌∷◌, ◌++◌, length, All, refl, sym, ap, ap₂, subst, ◌∙◌, arith, append-nil, append_assoc}
 use Rattle.std.proofs.lemmas.List.Elements.{All-nil, All-cons, All-head, All-tail, All-push}
-use Rattle.ff_saved.specs.Drafting.{no_recs, and_then, added, added_all}
-use Rattle.ff_saved.specs.Recs.{StoresRecs}
-use Rattle.ff_saved.specs.Rows.{stores_rows}
-use Rattle.ff_saved.specs.declared.row.Row.{Row}
-use Rattle.ff_saved.specs.declared.row.Row.TheVariants as row
-use Rattle.ff_saved.proofs.Shallow.{IsShallow}
-use Rattle.ff_saved.proofs.Kept.{AreShallow, none_shallow, added_shallow}
+use Rattle.ff_saved_rows.specs.Drafting.{no_recs, and_then, added, added_all}
+use Rattle.ff_saved_rows.specs.Recs.{StoresRecs}
+use Rattle.ff_saved_rows.specs.Rows.{stores_rows}
+use Rattle.ff_saved_rows.specs.declared.row.Row.{Row}
+use Rattle.ff_saved_rows.specs.declared.row.Row.TheVariants as row
+use Rattle.ff_saved_rows.proofs.Shallow.{IsShallow}
+use Rattle.ff_saved_rows.proofs.Kept.{AreShallow, none_shallow, added_shallow}
 use Rattle.ff_save.specs.Gathered.{Gathered, no_classes, with_last_class, browsers_of, saved_of, gathered_more, gathered_all, AreStored}
 use Rattle.ff_save.specs.Holding.{IsSpoiled, IsStuck, nowhere, spoiled}
 use Rattle.ff_save.specs.Saved.{SavedRecs, classes_rows}

@@ -13,20 +13,20 @@ use Rattle.ff_machine.specs.State.{State}
 use Rattle.ff_machine.specs.Stores.{Stores}
 use Rattle.ff_policy.specs.Assignment.{Assignment}
 use Rattle.ff_policy.specs.Printing.{printed}
-use Rattle.ff_classes.specs.Classes.{class_of, leads}
+use Rattle.ff_pool.specs.Classes.{class_of, leads}
 use Rattle.ff_pool.specs.Pooled.{Pooled, copy_of}
-use Rattle.ff_classes.proofs.Leaders.{has_class}
+use Rattle.ff_pool.proofs.Leaders.{has_class}
 use Rattle.ff_printing.specs.Pieces.{Prints}
 use Rattle.ff_printing.specs.declared.printer.Printer.{Printer}
 use Rattle.ff_printing.proofs.Printing.{then, nothing, prints_as}
-use Rattle.ff_reactive.specs.Copies.{below}
-use Rattle.ff_reactive.specs.Worlds.{leader, AreLeaders}
-use Rattle.ff_saved.specs.Recs.{stores_recs}
-use Rattle.ff_saved.specs.Rows.{row_line, rows_text, stores_rows}
-use Rattle.ff_saved.specs.declared.row.Row.TheVariants as row
+use Rattle.ff_contract.specs.Lists.{below}
+use Rattle.ff_confinement.specs.Worlds.{leader, AreLeaders}
+use Rattle.ff_saved_rows.specs.Recs.{stores_recs}
+use Rattle.ff_saved_rows.specs.Rows.{row_line, rows_text, stores_rows}
+use Rattle.ff_saved_rows.specs.declared.row.Row.TheVariants as row
 use Rattle.ff_save.specs.LevelByLevel.{level_rows}
 use Rattle.ff_save.specs.Saved.{classes_rows, saved_recs, saved_rows}
-use Rattle.ff_stored.proofs.RowByRow.{rows_then, one_row}
+use Rattle.ff_save.proofs.RowByRow.{rows_then, one_row}
 
 -- the rows over some levels: those of each that leads
 module _ (p : Pooled) where

@@ -9,3 +9,9 @@ pub mod Saving
 pub mod OtherPolicy
 pub mod Collecting
 pub mod Verdicts
+pub mod Mapped
+pub mod Asked
+pub mod Stored
+pub mod Remade
+pub mod Rowed
+pub mod RowByRow

@@ -15,14 +15,15 @@ use Rattle.ff_forms.specs.Canonical.{string}
 use Rattle.ff_printing.specs.Pieces.{Prints, after_blank}
 use Rattle.ff_printing.specs.declared.printer.Printer.{Printer}
 use Rattle.ff_printing.proofs.Printing.{appended}
-use Rattle.ff_saved.proofs.Once.{reads_row_once}
-use Rattle.ff_saved.proofs.Printing.{row_of_one, head_line}
-use Rattle.ff_saved.proofs.Rereading.{line_again}
-use Rattle.ff_saved.proofs.Nested.{row_nested}
-use Rattle.ff_saved.specs.Reading.{Gives, ReadsRow}
-use Rattle.ff_saved.specs.Rows.{row_text, IsRow, FitsLine}
-use Rattle.ff_saved.specs.declared.row.Row.{Row}
-use Rattle.ff_saved.specs.declared.row.Row.TheVariants as row
+use Rattle.ff_saved_rows.proofs.Once.{reads_row_once}
+use Rattle.ff_saved_rows.proofs.Printing.{row_of_one, head_line}
+use Rattle.ff_saved_rows.proofs.Rereading.{line_again}
+use Rattle.ff_saved_rows.proofs.Nested.{row_nested}
+use Rattle.ff_saved_rows.specs.Reading.{ReadsRow}
+use Rattle.ff_trace.specs.Lines.{Gives}
+use Rattle.ff_saved_rows.specs.Rows.{row_text, IsRow, FitsLine}
+use Rattle.ff_saved_rows.specs.declared.row.Row.{Row}
+use Rattle.ff_saved_rows.specs.declared.row.Row.TheVariants as row
 use Rattle.ff_save.specs.Whole.{IsOfOther, IsPolicyLine, IsPrintedPolicy, TellsPolicy, policy_line}
 
 -- what was printed of a policy's row

@@ -7,11 +7,11 @@ use Rattle.std.proofs.lemmas.List.Elements.{at_from_Contains}
 use Rattle.ff_lattice.specs.LevelSet.{has, IsLeast}
 use Rattle.ff_lattice.specs.declared.names.TheConstants.{MOST_LEVELS}
 use Rattle.ff_machine.specs.Machine.{reactor}
-use Rattle.ff_reactive.specs.Worlds.{leader, new_copy}
-use Rattle.ff_classes.specs.Classes.{class_of, tops, classes_of, AreLed, IsLeastWith}
+use Rattle.ff_confinement.specs.Worlds.{leader, new_copy}
+use Rattle.ff_pool.specs.Classes.{class_of, tops, classes_of, AreLed, IsLeastWith}
 use Rattle.ff_pool.specs.Pooled.{Pooled, copy_of}
 use Rattle.ff_pool.specs.Restored.{PoolRecs, pool_recs, IsResting}
-use Rattle.ff_classes.proofs.Leaders.{tops_have, has_class, led_least}
+use Rattle.ff_pool.proofs.Leaders.{tops_have, has_class, led_least}
 
 -- the class of a level's leader has the level, and the leader is its least
 module _ {n : ℕ} {classes : List (List ℕ)} {leaders : List ℕ} (most : n ≤ MOST_LEVELS) (are : AreLed n classes leaders) where

@@ -5,15 +5,15 @@ use Rattle.ff_lattice.specs.declared.names.TheConstants.{MOST_LEVELS}
 use Rattle.ff_machine.specs.State.{State}
 use Rattle.ff_machine.specs.Valid.{IsState}
 use Rattle.ff_pool.specs.Pooled.{Pooled, copy_of}
-use Rattle.ff_classes.specs.Classes.{tops}
+use Rattle.ff_pool.specs.Classes.{tops}
 use Rattle.ff_pool.specs.Restored.{IsResting, pool_recs}
-use Rattle.ff_classes.proofs.Leaders.{tops_less}
+use Rattle.ff_pool.proofs.Leaders.{tops_less}
 use Rattle.ff_save.proofs.Pools.{same_pools}
-use Rattle.ff_saved.specs.Recs.{stores_recs}
-use Rattle.ff_stored.specs.Rest.{IsAtRest}
+use Rattle.ff_saved_rows.specs.Recs.{stores_recs}
+use Rattle.ff_save.specs.Rest.{IsAtRest}
 use Rattle.ff_save.specs.Saved.{SavedRecs, saved_recs}
-use Rattle.ff_stored.proofs.Mapped.{same_on}
-use Rattle.ff_stored.proofs.Stored.{same_states}
+use Rattle.ff_save.proofs.Mapped.{same_on}
+use Rattle.ff_save.proofs.Stored.{same_states}
 
 -- the browsers of a pool at rest are at rest
 pub browsers_rest : {n fuel : ℕ} (p : Pooled) → IsResting n fuel p → All (IsAtRest fuel) (pool_recs p).browsers

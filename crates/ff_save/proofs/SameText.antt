@@ -6,9 +6,9 @@ use Rattle.ff_lattice.specs.Order.{Order}
 use Rattle.ff_text.specs.Printed.{AreWellSpelled}
 use Rattle.ff_text.specs.declared.reading.TheConstants.{MOST_BYTES}
 use Rattle.ff_text.proofs.Nesting.{AreShallow, no_lines_shallow, line_shallow, line_fits}
-use Rattle.ff_saved.specs.Rows.{row_items, row_text, rows_text, IsRow, FitsLine}
-use Rattle.ff_saved.specs.declared.row.Row.{Row}
-use Rattle.ff_saved.proofs.Formed.{row_formed}
+use Rattle.ff_saved_rows.specs.Rows.{row_items, row_text, rows_text, IsRow, FitsLine}
+use Rattle.ff_saved_rows.specs.declared.row.Row.{Row}
+use Rattle.ff_saved_rows.proofs.Formed.{row_formed}
 use Rattle.ff_save.proofs.Texts.{first_line, later_lines, some_text}
 
 -- the text of rows that fit lines is shallow

@@ -9,18 +9,18 @@ use Rattle.ff_lattice.proofs.LevelSets.{IsLevelSet-levels_where}
 use Rattle.ff_machine.specs.State.{State}
 use Rattle.ff_policy.specs.Assignment.{Assignment}
 use Rattle.ff_policy.specs.Printing.{printed}
-use Rattle.ff_classes.specs.Classes.{class_of, tops}
+use Rattle.ff_pool.specs.Classes.{class_of, tops}
 use Rattle.ff_pool.specs.Pooled.{Pooled, copy_of}
 use Rattle.ff_pool.specs.Restored.{IsResting, pool_recs}
 use Rattle.ff_text.specs.Printed.{AreWellSpelled}
 use Rattle.ff_text.specs.declared.reading.TheConstants.{MOST_BYTES}
-use Rattle.ff_saved.specs.Recs.{StoresRecs, stores_recs}
-use Rattle.ff_saved.specs.Rows.{row_items, row_text, stores_rows, IsRow}
-use Rattle.ff_saved.specs.declared.row.Row.{Row}
-use Rattle.ff_saved.specs.declared.row.Row.TheVariants as row
-use Rattle.ff_saved.proofs.Shallow.{IsShallow}
-use Rattle.ff_saved.proofs.Nested.{row_nested}
-use Rattle.ff_saved.proofs.Kept as kept
+use Rattle.ff_saved_rows.specs.Recs.{StoresRecs, stores_recs}
+use Rattle.ff_saved_rows.specs.Rows.{row_items, row_text, stores_rows, IsRow}
+use Rattle.ff_saved_rows.specs.declared.row.Row.{Row}
+use Rattle.ff_saved_rows.specs.declared.row.Row.TheVariants as row
+use Rattle.ff_saved_rows.proofs.Shallow.{IsShallow}
+use Rattle.ff_saved_rows.proofs.Nested.{row_nested}
+use Rattle.ff_saved_rows.proofs.Kept as kept
 use Rattle.ff_save.specs.Gathered.{no_classes, browsers_of, saved_of, gathered_all, AreStored, IsTextOf, IsNoText}
 use Rattle.ff_save.specs.Holding.{Held, HasText}
 use Rattle.ff_save.specs.Saved.{SavedRecs, classes_rows, saved_recs, saved_rows, saved_text}
@@ -29,7 +29,7 @@ use Rattle.ff_save.specs.declared.read.TheConstants.{MOST_SAVED_BYTES}
 use Rattle.ff_save.proofs.Finished.{all_stored}
 use Rattle.ff_save.proofs.Grown.{GathersAll, GivesBack, rows_gathered, all_shallow}
 use Rattle.ff_save.proofs.LevelRows.{class_inside}
-use Rattle.ff_stored.proofs.Rowed.{rows_good, rows_again}
+use Rattle.ff_save.proofs.Rowed.{rows_good, rows_again}
 use Rattle.ff_save.proofs.Same.{same_saved}
 use Rattle.ff_save.proofs.Texts.{all_read_shallow, lines_short, rows_once}
 

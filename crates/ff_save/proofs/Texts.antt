@@ -8,14 +8,14 @@ use Rattle.ff_lattice.specs.Order.{Order}
 use Rattle.ff_text.specs.Printed.{AreWellSpelled}
 use Rattle.ff_trace.specs.declared.fault.LineFault.{LineFault}
 use Rattle.ff_text.specs.declared.reading.TheConstants.{MOST_BYTES}
-use Rattle.ff_saved.specs.Drafting.{and_then}
-use Rattle.ff_saved.specs.Reading.{ReadsRow}
-use Rattle.ff_saved.specs.Rows.{row_items, row_text, rows_text, IsRow, FitsLine}
-use Rattle.ff_saved.specs.declared.row.Row.{Row}
-use Rattle.ff_saved.proofs.Nested.{IsOneLine, row_one_line}
-use Rattle.ff_saved.proofs.Once.{reads_row_once}
-use Rattle.ff_saved.proofs.Rereading.{line_again}
-use Rattle.ff_saved.proofs.Shallow.{IsShallow, read_shallow}
+use Rattle.ff_saved_rows.specs.Drafting.{and_then}
+use Rattle.ff_saved_rows.specs.Reading.{ReadsRow}
+use Rattle.ff_saved_rows.specs.Rows.{row_items, row_text, rows_text, IsRow, FitsLine}
+use Rattle.ff_saved_rows.specs.declared.row.Row.{Row}
+use Rattle.ff_saved_rows.proofs.Nested.{IsOneLine, row_one_line}
+use Rattle.ff_saved_rows.proofs.Once.{reads_row_once}
+use Rattle.ff_saved_rows.proofs.Rereading.{line_again}
+use Rattle.ff_saved_rows.proofs.Shallow.{IsShallow, read_shallow}
 use Rattle.ff_save.specs.Gathered.{Gathered, no_classes, gathered_all, ReadsRows, no_line, one_line, IsTextOf, IsNoText}
 use Rattle.ff_save.specs.Holding.{Held, Holds, IsStuck, IsLineOf, HasLine, HasText}
 use Rattle.ff_save.proofs.Grown.{stuck_fails}

@@ -15,9 +15,9 @@ use Rattle.ff_records.specs.Restored.{Restores}
 use Rattle.ff_text.specs.Printed.{fits_at}
 use Rattle.ff_text.specs.Notation.{span}
 use Rattle.ff_text.proofs.Layers.{fits_at-Str}
-use Rattle.ff_saved.specs.Rows.{row_text, FitsLine}
-use Rattle.ff_saved.specs.declared.row.Row.{Row}
-use Rattle.ff_saved.specs.declared.row.Row.TheVariants as row
+use Rattle.ff_saved_rows.specs.Rows.{row_text, FitsLine}
+use Rattle.ff_saved_rows.specs.declared.row.Row.{Row}
+use Rattle.ff_saved_rows.specs.declared.row.Row.TheVariants as row
 use Rattle.ff_save.specs.Gathered.{Gathered, saved_of}
 use Rattle.ff_save.specs.Holding.{Held, Holds, HasText, Gathers}
 use Rattle.ff_save.specs.Saved.{classes_rows, saved_recs, saved_rows, saved_text}

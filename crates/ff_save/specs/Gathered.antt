@@ -6,12 +6,12 @@ use Rattle.ff_lattice.specs.Order.{Order}
 use Rattle.ff_machine.specs.Stores.{Stores}
 use Rattle.ff_stores.specs.Restored.{AreUntouched}
 use Rattle.ff_text.specs.declared.reading.TheConstants.{MOST_BYTES}
-use Rattle.ff_saved.specs.Drafting.{no_recs, and_then, added}
-use Rattle.ff_saved.specs.Reading.{ReadsRow}
-use Rattle.ff_saved.specs.Recs.{StoresRecs, stores_recs}
-use Rattle.ff_saved.specs.Rows.{rows_text, IsRow, FitsLine}
-use Rattle.ff_saved.specs.declared.row.Row.{Row}
-use Rattle.ff_saved.specs.declared.row.Row.TheVariants as row
+use Rattle.ff_saved_rows.specs.Drafting.{no_recs, and_then, added}
+use Rattle.ff_saved_rows.specs.Reading.{ReadsRow}
+use Rattle.ff_saved_rows.specs.Recs.{StoresRecs, stores_recs}
+use Rattle.ff_saved_rows.specs.Rows.{rows_text, IsRow, FitsLine}
+use Rattle.ff_saved_rows.specs.declared.row.Row.{Row}
+use Rattle.ff_saved_rows.specs.declared.row.Row.TheVariants as row
 use Rattle.ff_save.specs.Saved.{SavedRecs}
 
 -- the classes, the records of the browsers of all but the last one, and what was gathered of the

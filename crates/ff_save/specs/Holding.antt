@@ -6,17 +6,17 @@ use Rattle.ff_machine.specs.State.{State}
 use Rattle.ff_machine.specs.Stores.{Stores}
 use Rattle.ff_stores.specs.Restored.{AreUntouched}
 use Rattle.ff_text.specs.declared.reading.TheConstants.{MOST_BYTES}
-use Rattle.ff_saved.specs.Drafted.{so_far}
-use Rattle.ff_saved.specs.Drafting.{no_recs}
-use Rattle.ff_saved.specs.Reading.{ReadsRow}
-use Rattle.ff_saved.specs.Recs.{StoresRecs, stores_recs}
-use Rattle.ff_saved.specs.Rows.{row_text, IsRow, FitsLine}
-use Rattle.ff_saved.specs.declared.draft.Draft.{Draft}
-use Rattle.ff_saved.specs.declared.row.Row.{Row}
-use Rattle.ff_saved.specs.declared.row.Row.TheVariants as row
+use Rattle.ff_saved_rows.specs.Drafted.{so_far}
+use Rattle.ff_saved_rows.specs.Drafting.{no_recs}
+use Rattle.ff_saved_rows.specs.Reading.{ReadsRow}
+use Rattle.ff_saved_rows.specs.Recs.{StoresRecs, stores_recs}
+use Rattle.ff_saved_rows.specs.Rows.{row_text, IsRow, FitsLine}
+use Rattle.ff_saved_rows.specs.declared.draft.Draft.{Draft}
+use Rattle.ff_saved_rows.specs.declared.row.Row.{Row}
+use Rattle.ff_saved_rows.specs.declared.row.Row.TheVariants as row
 use Rattle.ff_save.specs.Gathered.{Gathered, no_classes, browsers_of, gathered_more, gathered_all, ReadsRows, IsTextOf, IsNoText}
 use Rattle.ff_save.specs.declared.gathering.Gathering.{Gathering}
-use Rattle.ff_stored.specs.Rest.{IsAtRest}
+use Rattle.ff_save.specs.Rest.{IsAtRest}
 
 -- what is held: the fuel that each input brings, the classes, the states of their browsers, and the
 -- draft of the last class's stores
@@ -32,8 +32,8 @@ held_by state g = record { fuel = g.fuel; classes = g.classes.items; browsers = 
 abbrev pub records_of : State → StoresRecs
 records_of s = stores_recs s.stores
 
--- what was gathered: classes, browsers at rest with the records of all but the last, and the records
--- of that one
+-- what was gathered: classes, browsers at rest with the records of all but the last, and the
+-- records of that one
 pub record Holds (fuel : ℕ) (g : Gathered) (h : Held) : Type 0 where
   pub fuel_is : h.fuel ≡ fuel
   pub classes : h.classes ≡ g.classes

@@ -1,11 +1,11 @@
 -- The rows of a pool's classes, level by level. Only private contracts cite it.
 use Rattle.std.specs.Prelude.{ℕ, cond, List, [], ◌∷◌}
-use Rattle.ff_classes.specs.Classes.{class_of, leads}
+use Rattle.ff_pool.specs.Classes.{class_of, leads}
 use Rattle.ff_pool.specs.Pooled.{Pooled, copy_of}
-use Rattle.ff_saved.specs.Recs.{stores_recs}
-use Rattle.ff_saved.specs.Rows.{stores_rows}
-use Rattle.ff_saved.specs.declared.row.Row.{Row}
-use Rattle.ff_saved.specs.declared.row.Row.TheVariants.{Class}
+use Rattle.ff_saved_rows.specs.Recs.{stores_recs}
+use Rattle.ff_saved_rows.specs.Rows.{stores_rows}
+use Rattle.ff_saved_rows.specs.declared.row.Row.{Row}
+use Rattle.ff_saved_rows.specs.declared.row.Row.TheVariants.{Class}
 
 -- the rows of a level's class and its browser, where it is the least of the class, and else none
 abbrev pub level_rows : Pooled → ℕ → List Row

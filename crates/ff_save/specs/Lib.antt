@@ -3,3 +3,4 @@ pub mod LevelByLevel
 pub mod Gathered
 pub mod Holding
 pub mod Whole
+pub mod Rest

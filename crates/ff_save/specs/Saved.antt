@@ -5,10 +5,10 @@ use Rattle.ff_policy.specs.Assignment.{Assignment}
 use Rattle.ff_policy.specs.Printing.{printed}
 use Rattle.ff_pool.specs.Pooled.{Pooled}
 use Rattle.ff_pool.specs.Restored.{pool_recs}
-use Rattle.ff_saved.specs.Recs.{StoresRecs, stores_recs}
-use Rattle.ff_saved.specs.Rows.{rows_text, stores_rows}
-use Rattle.ff_saved.specs.declared.row.Row.{Row}
-use Rattle.ff_saved.specs.declared.row.Row.TheVariants.{Head, Policy, Class, End}
+use Rattle.ff_saved_rows.specs.Recs.{StoresRecs, stores_recs}
+use Rattle.ff_saved_rows.specs.Rows.{rows_text, stores_rows}
+use Rattle.ff_saved_rows.specs.declared.row.Row.{Row}
+use Rattle.ff_saved_rows.specs.declared.row.Row.TheVariants.{Head, Policy, Class, End}
 
 -- the classes of a pool by their least levels, and the records of each one's browser
 pub record SavedRecs : Type 0 where

@@ -9,11 +9,11 @@ use Rattle.ff_pool.specs.Pooled.{Pooled}
 use Rattle.ff_pool.specs.Restored.{IsResting}
 use Rattle.ff_forms.specs.Canonical.{word, string}
 use Rattle.ff_text.specs.declared.reading.TheConstants.{MOST_BYTES}
-use Rattle.ff_saved.specs.Rows.{row_text, FitsLine}
-use Rattle.ff_saved.specs.declared.fault.SavedFault.{SavedFault}
-use Rattle.ff_saved.specs.declared.fault.SavedFault.TheVariants.{OtherPolicy, NotSaved}
-use Rattle.ff_saved.specs.declared.row.Row.{Row}
-use Rattle.ff_saved.specs.declared.row.Row.TheVariants.{Head, Policy}
+use Rattle.ff_saved_rows.specs.Rows.{row_text, FitsLine}
+use Rattle.ff_saved_rows.specs.declared.fault.SavedFault.{SavedFault}
+use Rattle.ff_saved_rows.specs.declared.fault.SavedFault.TheVariants.{OtherPolicy, NotSaved}
+use Rattle.ff_saved_rows.specs.declared.row.Row.{Row}
+use Rattle.ff_saved_rows.specs.declared.row.Row.TheVariants.{Head, Policy}
 use Rattle.ff_trace.specs.Printed.{joined}
 use Rattle.ff_save.specs.Saved.{saved_recs, saved_rows, saved_text}
 use Rattle.ff_save.specs.declared.read.TheConstants.{MOST_SAVED_BYTES}

@@ -1,7 +1,7 @@
 ghost use Rattle.ff_save.specs.declared.fail.SavedFail.TheVariants.{NoMemory};
 ghost use Rattle.std.specs.Prelude.{◌≡◌};
 
-use ff_saved::SavedFault;
+use ff_saved_rows::SavedFault;
 use std::alloc::{AllocError, AllocFailed};
 
 /// Why there is no pool: what is wrong with the bytes, or want of memory.

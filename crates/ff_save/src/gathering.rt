@@ -8,14 +8,14 @@ ghost use Rattle.ff_save.specs.Gathered.{Gathered, no_classes, saved_of};
 ghost use Rattle.ff_save.specs.Holding.{Holds, AddsLine, AddsRow, Begins, Ends, held_by};
 ghost use Rattle.ff_save.specs.Saved.{saved_recs};
 
+use crate::restoring_stores::restore_stores;
+use ff_contract::Steps;
 use ff_lattice::{Lattice, LevelSet};
 use ff_name::NoMemory;
 use ff_pool::Pool;
 use ff_restorable::Restorable;
-use ff_saved::{Draft, LineFault, Row, read_row};
+use ff_saved_rows::{Draft, LineFault, Row, read_row};
 use ff_shared::OwnedList;
-use ff_steps::Steps;
-use ff_stored::restore_stores;
 use ff_text::MOST_BYTES;
 use std::alloc::{AllocError, Global};
 use std::mem;
@@ -57,7 +57,9 @@ impl<B: Restorable> Gathering<B> {
     ) -> Result<bool, NoMemory>
         requires some { 1 ≤ self.old.fuel }
         requires few { self.old.fuel ≤ MOST_BUDGET }
-        ensures value { (g : Gathered) → Holds self.old.fuel g (held_by B.state self.old) → IfOk result (λ found. AddsLine lattice.now self.old.fuel g line.now found (held_by B.state self.new)) }
+        ensures value { (g : Gathered) → Holds self.old.fuel g (held_by B.state self.old)
+            → IfOk result (λ found. AddsLine lattice.now self.old.fuel g line.now found
+            (held_by B.state self.new)) }
         ensures later { copies.old ≤ copies.new }
     {
         if line.len() > MOST_BYTES {
@@ -74,7 +76,8 @@ impl<B: Restorable> Gathering<B> {
     fn add<C: Ledger>(&mut self, row: Row, copies: &mut Steps<C>) -> Result<bool, NoMemory>
         requires some { 1 ≤ self.old.fuel }
         requires few { self.old.fuel ≤ MOST_BUDGET }
-        ensures value { (g : Gathered) → Holds self.old.fuel g (held_by B.state self.old) → IfOk result (λ found. AddsRow self.old.fuel g row found (held_by B.state self.new)) }
+        ensures value { (g : Gathered) → Holds self.old.fuel g (held_by B.state self.old)
+            → IfOk result (λ found. AddsRow self.old.fuel g row found (held_by B.state self.new)) }
         ensures later { copies.old ≤ copies.new }
     {
         match row {
@@ -94,7 +97,9 @@ impl<B: Restorable> Gathering<B> {
     ) -> Result<bool, NoMemory>
         requires some { 1 ≤ self.old.fuel }
         requires few { self.old.fuel ≤ MOST_BUDGET }
-        ensures value { (g : Gathered) → Holds self.old.fuel g (held_by B.state self.old) → IfOk result (λ found. Begins self.old.fuel g levels found (held_by B.state self.new)) }
+        ensures value { (g : Gathered) → Holds self.old.fuel g (held_by B.state self.old)
+            → IfOk result (λ found. Begins self.old.fuel g levels found
+            (held_by B.state self.new)) }
         ensures later { copies.old ≤ copies.new }
     {
         if !self.end_class(copies)? {
@@ -109,7 +114,8 @@ impl<B: Restorable> Gathering<B> {
     fn end_class<C: Ledger>(&mut self, copies: &mut Steps<C>) -> Result<bool, NoMemory>
         requires some { 1 ≤ self.old.fuel }
         requires few { self.old.fuel ≤ MOST_BUDGET }
-        ensures value { (g : Gathered) → Holds self.old.fuel g (held_by B.state self.old) → IfOk result (λ found. Ends self.old.fuel g found (held_by B.state self.new)) }
+        ensures value { (g : Gathered) → Holds self.old.fuel g (held_by B.state self.old)
+            → IfOk result (λ found. Ends self.old.fuel g found (held_by B.state self.new)) }
         ensures later { copies.old ≤ copies.new }
     {
         let draft = mem::replace(&mut self.draft, Draft::new(self.alloc));
@@ -138,7 +144,8 @@ impl<B: Restorable> Gathering<B> {
         requires few { self.fuel ≤ MOST_BUDGET }
         requires most { n ≤ MOST_LEVELS }
         requires held { (g : Gathered) × Holds self.fuel g (held_by B.state self) }
-        ensures value { (g : Gathered) → Holds self.fuel g (held_by B.state self) → IfOk result (Restores (IsResting n self.fuel) saved_recs (saved_of g)) }
+        ensures value { (g : Gathered) → Holds self.fuel g (held_by B.state self)
+            → IfOk result (Restores (IsResting n self.fuel) saved_recs (saved_of g)) }
         ensures later { copies.old ≤ copies.new }
     {
         let mut gathering = self;

@@ -11,11 +11,14 @@ ghost use Rattle.ff_save.specs.Whole.{IsSaved};
 /// Pools at rest, of as many levels and with the same fuel, that are saved as the same records are
 /// the same.
 pub fn equal_records_are_of_equal_pools()
-    ensures { (n fuel : ℕ) (p q : Pooled) → n ≤ MOST_LEVELS → IsResting n fuel p → IsResting n fuel q → saved_recs p ≡ saved_recs q → p ≡ q }
+    ensures { (n fuel : ℕ) (p q : Pooled) → n ≤ MOST_LEVELS → IsResting n fuel p
+        → IsResting n fuel q → saved_recs p ≡ saved_recs q → p ≡ q }
 {}
 
 /// Bytes are the saved text of at most one pool: a pool at rest that would be saved as them is the
 /// one that is read from them, whether or not anything else is known of its lines.
 pub fn a_saved_text_is_of_one_pool()
-    ensures { (policy : Assignment) (bytes : List ℕ) (a b : Pooled) → IsAssignment policy → IsSaved policy bytes a → IsResting (size policy.order) policy.fuel b → bytes ≡ saved_text policy (saved_recs b) → a ≡ b }
+    ensures { (policy : Assignment) (bytes : List ℕ) (a b : Pooled) → IsAssignment policy
+        → IsSaved policy bytes a → IsResting (size policy.order) policy.fuel b
+        → bytes ≡ saved_text policy (saved_recs b) → a ≡ b }
 {}

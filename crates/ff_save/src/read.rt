@@ -10,19 +10,19 @@ ghost use Rattle.ff_pool.specs.Restored.{IsResting};
 ghost use Rattle.ff_save.specs.Holding.{Gathers, held_by};
 ghost use Rattle.ff_save.specs.Saved.{saved_recs, saved_text};
 ghost use Rattle.ff_save.specs.Whole.{HasFault, IsOfOther, IsPoolOf, IsPrintedPolicy, IsSaved, TellsPolicy, policy_line};
-ghost use Rattle.ff_saved.specs.declared.fault.SavedFault.{SavedFault};
+ghost use Rattle.ff_saved_rows.specs.declared.fault.SavedFault.{SavedFault};
 
 use crate::fail::SavedFail;
 use crate::gathering::Gathering;
 use crate::write::{policy_text, write_saved};
+use ff_contract::Steps;
 use ff_io::split_line;
 use ff_name::{NoMemory, Text};
 use ff_policy::Policy;
 use ff_pool::Pool;
 use ff_printing::Printer;
 use ff_restorable::Restorable;
-use ff_saved::{LineFault, Row, SavedFault, read_row};
-use ff_steps::Steps;
+use ff_saved_rows::{LineFault, Row, SavedFault, read_row};
 use ff_text::MOST_BYTES;
 use std::alloc::{AllocError, Global};
 use std::sync::ledger::Ledger;
@@ -42,9 +42,12 @@ pub fn read_saved<B: Restorable, C: Ledger>(
     copies: &mut Steps<C>,
 ) -> Result<Pool<B>, SavedFail>
     ensures found { IfOk result (IsSaved policy.now bytes.now) }
-    ensures only { (pool : Pooled) → IsSaved policy.now bytes.now pool → Answers result (Ok pool) (Err SavedFail.NoMemory) }
-    ensures fault { IfErr result (λ fail. (fault : SavedFault) → fail ≡ SavedFail.Fault fault → HasFault policy.now bytes.now fault) }
-    ensures exact { (fault : SavedFault) → HasFault policy.now bytes.now fault → Answers result (Err (SavedFail.Fault fault)) (Err SavedFail.NoMemory) }
+    ensures only { (pool : Pooled) → IsSaved policy.now bytes.now pool
+        → Answers result (Ok pool) (Err SavedFail.NoMemory) }
+    ensures fault { IfErr result (λ fail. (fault : SavedFault) → fail ≡ SavedFail.Fault fault
+        → HasFault policy.now bytes.now fault) }
+    ensures exact { (fault : SavedFault) → HasFault policy.now bytes.now fault
+        → Answers result (Err (SavedFail.Fault fault)) (Err SavedFail.NoMemory) }
     ensures later { copies.old ≤ copies.new }
 {
     let text = policy_text(alloc, policy)?;
@@ -93,7 +96,8 @@ fn gather<B: Restorable, C: Ledger>(
     bytes: &[u8],
     copies: &mut Steps<C>,
 ) -> Result<Option<Gathering<B>>, NoMemory>
-    ensures value { IfOk result (λ found. Gathers policy.now.order policy.now.fuel bytes.now (option_map (held_by B.state) found)) }
+    ensures value { IfOk result (λ found. Gathers policy.now.order policy.now.fuel bytes.now
+        (option_map (held_by B.state) found)) }
     ensures later { copies.old ≤ copies.new }
 {
     let mut gathering = Gathering::<B>::new(alloc, policy.fuel());
@@ -116,7 +120,8 @@ fn is_text_of<B: Restorable>(
     bytes: &[u8],
 ) -> Result<bool, NoMemory>
     requires { IsResting (size policy.now.order) policy.now.fuel pool.now }
-    ensures { IfOk result (λ same. IsTrue same ↔ (bytes.now ≡ saved_text policy.now (saved_recs pool.now))) }
+    ensures { IfOk result (λ same. IsTrue same
+        ↔ (bytes.now ≡ saved_text policy.now (saved_recs pool.now))) }
 {
     let mut text = Vec::new(alloc);
     write_saved(alloc, policy, pool, &mut text)?;

@@ -7,19 +7,19 @@ ghost use Rattle.ff_policy.specs.Printing.{printed};
 ghost use Rattle.ff_pool.specs.Pooled.{size as size_of};
 ghost use Rattle.ff_pool.specs.Restored.{IsResting};
 ghost use Rattle.ff_printing.specs.Pieces.{Prints};
-ghost use Rattle.ff_saved.specs.Rows.{rows_text};
-ghost use Rattle.ff_reactive.specs.Copies.{below};
-ghost use Rattle.ff_reactive.specs.Worlds.{leader};
+ghost use Rattle.ff_saved_rows.specs.Rows.{rows_text};
+ghost use Rattle.ff_contract.specs.Lists.{below};
+ghost use Rattle.ff_confinement.specs.Worlds.{leader};
 ghost use Rattle.ff_save.specs.LevelByLevel.{level_rows};
 ghost use Rattle.ff_save.specs.Saved.{saved_recs, saved_rows, saved_text};
 
+use crate::writing_stores::put_stores;
 use ff_name::{Level, NoMemory, Text};
 use ff_policy::Policy;
 use ff_pool::Pool;
 use ff_printing::Printer;
 use ff_restorable::Restorable;
-use ff_saved::{put_class, put_end, put_head, put_policy};
-use ff_stored::put_stores;
+use ff_saved_rows::{put_class, put_end, put_head, put_policy};
 use std::alloc::Global;
 
 /// Appends the saved text of a pool at rest that has a copy for each level of the policy, with the
@@ -33,7 +33,8 @@ pub fn write_saved<B: Restorable>(
     out: &mut Vec<u8>,
 ) -> Result<(), NoMemory>
     requires { IsResting (size policy.now.order) policy.now.fuel pool.now }
-    ensures { Appends result out.old.items out.new.items (saved_text policy.now (saved_recs pool.now)) }
+    ensures { Appends result out.old.items out.new.items
+        (saved_text policy.now (saved_recs pool.now)) }
 {
     let text = policy_text(alloc, policy)?;
     let mut printer = Printer::after(out)?;
@@ -54,7 +55,8 @@ pub(crate) fn policy_text(alloc: Global, policy: &Policy) -> Result<Text, NoMemo
 fn write_rows<B: Restorable>(policy: &Policy, text: &Text, pool: &Pool<B>, out: &mut Printer)
     requires policy_is { text.now ≡ printed policy.now }
     requires rests { IsResting (size policy.now.order) policy.now.fuel pool.now }
-    ensures { Prints out.old out.new (rows_text policy.now.order (saved_rows policy.now (saved_recs pool.now))) }
+    ensures { Prints out.old out.new (rows_text policy.now.order
+        (saved_rows policy.now (saved_recs pool.now))) }
 {
     put_head(out);
     put_policy(text, out);
@@ -64,7 +66,8 @@ fn write_rows<B: Restorable>(policy: &Policy, text: &Text, pool: &Pool<B>, out: 
 
 fn write_classes<B: Restorable>(policy: &Policy, pool: &Pool<B>, out: &mut Printer)
     requires { IsResting (size policy.now.order) policy.now.fuel pool.now }
-    ensures { Prints out.old out.new (rows_text policy.now.order (flat_map (level_rows pool.now) (below (size policy.now.order)))) }
+    ensures { Prints out.old out.new (rows_text policy.now.order
+        (flat_map (level_rows pool.now) (below (size policy.now.order)))) }
 {
     for number in 0..policy.lattice().size() {
         write_level(policy, Level(number), pool, out);

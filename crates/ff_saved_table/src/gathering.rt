@@ -1,7 +1,7 @@
 //! Rows that are gathered.
 use anyhow::Result;
 use ff_lattice::Lattice;
-use ff_saved::{Draft, LineFault, read_row};
+use ff_saved_rows::{Draft, LineFault, read_row};
 use ff_text::MOST_BYTES;
 use std::alloc::Global;
 

@@ -1,8 +1,8 @@
 //! The rows of stores, and lines, printed.
 use anyhow::Result;
 use ff_name::NoMemory;
-use ff_saved::Printer;
-use ff_stored::put_stores;
+use ff_save::put_stores;
+use ff_saved_rows::Printer;
 use ff_stores::Stores;
 use std::alloc::Global;
 

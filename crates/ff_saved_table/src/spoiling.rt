@@ -1,9 +1,9 @@
 //! Each text that differs from a saved one in one line.
 use crate::texts::{joined, verdict_of};
 use anyhow::Result;
+use ff_contract::Steps;
 use ff_name::NoMemory;
 use ff_policy::Policy;
-use ff_steps::Steps;
 use std::alloc::Global;
 use std::sync::ledger::Ledger;
 

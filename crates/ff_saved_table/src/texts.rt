@@ -3,11 +3,11 @@ ghost use Rattle.std.specs.Prelude.{IfOk};
 
 use crate::printing::print_lines;
 use anyhow::Result;
+use ff_contract::Steps;
 use ff_core::Browser;
 use ff_name::NoMemory;
 use ff_policy::Policy;
 use ff_save::{SavedFail, read_saved, write_saved};
-use ff_steps::Steps;
 use std::alloc::{AllocError, Global};
 use std::sync::ledger::Ledger;
 

@@ -1,5 +1,7 @@
 //! Containers that may stand inside a type that holds itself. Their content never changes.
 //!
+//! Floor: ground. It knows no browser, and not what a word means.
+//!
 //! A clause sees a `Shared<T>` as the `T`, and a `SharedList<T>` or an `OwnedList<T>` as a list of
 //! `T`, wherever they stand: alone, in a field or inside a type that holds itself. So two values
 //! are equal where their content is, whoever else shares it. The copies of a `Shared` and of a

@@ -57,7 +57,7 @@ impl<T> SharedList<T> {
 }
 
 impl<T: Drop> SharedList<T> {
-    /// The list of a vector's items. Its one refusal is want of memory.
+    /// The list of a vector's items.
     pub fn from_vec(alloc: Global, items: Vec<T>) -> Result<SharedList<T>, NoMemory>
         ensures { IfOk result (λ it. it ≡ items.items) }
     {

@@ -30,7 +30,7 @@ impl<T> Shared<T> {
 }
 
 impl<T: Drop> Shared<T> {
-    /// Puts `value` where copies can share it. Its one refusal is want of memory.
+    /// Puts `value` where copies can share it.
     pub fn new(alloc: Global, value: T) -> Result<Shared<T>, NoMemory>
         ensures { IfOk result (λ s. s ≡ value) }
     {

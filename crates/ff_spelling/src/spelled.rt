@@ -219,7 +219,9 @@ fn fit_docs(alloc: Global, docs: &[Doc], room: usize) -> Result<bool, NoMemory>
 /// The same of the handlers of a node, which are not too many.
 #[cycle(fits)]
 fn fit_handlers(alloc: Global, handlers: &[Handler], room: usize) -> Result<bool, NoMemory>
-    ensures { IfOk result (λ fit. IsTrue fit ↔ ((length handlers.now ≤ MOST_HANDLERS) × AllByRecursion (FitsHandler room) handlers.now)) }
+    ensures { IfOk result (λ fit. IsTrue fit
+        ↔ ((length handlers.now ≤ MOST_HANDLERS)
+        × AllByRecursion (FitsHandler room) handlers.now)) }
 {
     for handler in handlers {
         let fits = fits_handler(alloc, handler, room)?;

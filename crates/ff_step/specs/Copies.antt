@@ -12,7 +12,7 @@ use Rattle.ff_machine.specs.Documents.{laid}
 use Rattle.ff_machine.specs.State.{Task}
 use Rattle.ff_machine.specs.Stores.{Stores}
 use Rattle.ff_machine.specs.Windows.{is_live}
-use Rattle.ff_rows.specs.Copies.{most_copies}
+use Rattle.ff_store_operators.specs.Copies.{most_copies}
 
 -- for a call: for each parameter of the function, and for its activation; none where no function is
 -- called

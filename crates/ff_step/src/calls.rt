@@ -1,7 +1,7 @@
 //! The call of a function: its activation and its body are found first, and are then put for the
 //! redex.
 ghost use Rattle.std.specs.Prelude.{◌≡◌, ◌+◌, ◌*◌, ◌<◌, ◌↔◌, false, length, All, IfOk, IsTrue};
-ghost use Rattle.ff_steps.specs.Rises.{RisesBy};
+ghost use Rattle.ff_contract.specs.Rises.{RisesBy};
 ghost use Rattle.ff_term.specs.Running.{insides, is_value};
 ghost use Rattle.ff_machine.specs.Reduction as red;
 ghost use Rattle.ff_machine.specs.References.{made};
@@ -10,10 +10,10 @@ ghost use Rattle.ff_step.specs.Answered.{answered};
 ghost use Rattle.ff_step.specs.Calls.{Calls, Enters};
 ghost use Rattle.ff_step.specs.Copies.{called};
 
+use ff_contract::Steps;
 use ff_frames::Control;
 use ff_operators::Fail;
-use ff_rows::Stores;
-use ff_steps::Steps;
+use ff_store_operators::Stores;
 use ff_term::MOST_CALLS;
 use ff_value::{ActId, Body, Code, Fault, Val};
 use std::alloc::Global;
@@ -52,7 +52,8 @@ fn call_code<C: Ledger>(
 ) -> Result<(ActId, Body), Fail>
     requires function { IsCode (made stores.old) code.now }
     requires args { All (IsVal (made stores.old)) args.now }
-    ensures calls { Calls (red.or_fault (red.enter_fault stores.old depth code.now args.now) (red.entered stores.old code.now args.now)) result stores.old stores.new }
+    ensures calls { Calls (red.or_fault (red.enter_fault stores.old depth code.now args.now)
+        (red.entered stores.old code.now args.now)) result stores.old stores.new }
     ensures shallow { IfOk result (λ _. depth < MOST_CALLS) }
     ensures copies { RisesBy (64 * (length code.now.params + 1)) copies.old copies.new }
 {

@@ -1,5 +1,7 @@
 //! One reduction of a script over the stores, and the work of one fuel on a task.
 //!
+//! Floor: one browser. It knows of no levels.
+//!
 //! [`reduce`] is the written reduction. The control lends it the redex; the row of the redex
 //! decides what it becomes, by a method of the stores or a function of its own, and only then is
 //! that put for the redex. Rows change the stores by the methods of `Stores` alone, so the stores
@@ -21,5 +23,8 @@ mod rows;
 mod task;
 mod working;
 
+pub use ff_machine::Reduced;
+pub use ff_name::NoMemory;
+pub use ff_store_operators::Stores;
 pub use reducing::reduce;
 pub use task::Task;

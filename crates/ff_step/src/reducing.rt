@@ -1,6 +1,6 @@
 //! The one reduction: which row decides, and what is put for the redex.
 ghost use Rattle.std.specs.Prelude.{◌≡◌, ◌<◌, false, length, IsTrue, OnErr};
-ghost use Rattle.ff_steps.specs.Rises.{RisesBy};
+ghost use Rattle.ff_contract.specs.Rises.{RisesBy};
 ghost use Rattle.ff_operators.specs.Answers.{Gives};
 ghost use Rattle.ff_term.specs.Redexes.{IsRedexOf, read_redex};
 ghost use Rattle.ff_term.specs.Running as term;
@@ -17,12 +17,12 @@ ghost use Rattle.ff_step.specs.Copies.{working};
 
 use crate::calls::{call, enter};
 use crate::rows::{make, make_tree};
+use ff_contract::Steps;
 use ff_frames::{Control, Redex};
 use ff_machine::Reduced;
 use ff_name::NoMemory;
 use ff_operators::Fail;
-use ff_rows::{Stores, operate};
-use ff_steps::Steps;
+use ff_store_operators::{Stores, operate};
 use ff_value::{ActId, Fault, Out, PageId, Val};
 use std::alloc::{AllocError, Global};
 use std::sync::ledger::Ledger;
@@ -41,7 +41,8 @@ pub fn reduce<C: Ledger>(
     requires act { control.old.base.0 < length stores.old.windows.acts }
     requires running { IsRunning (made stores.old) control.old.expr }
     requires live { IsTrue (is_live stores.old.windows page) }
-    ensures reduces { Reduces (red.reduction stores.old page control.old) result control.new stores.new outs.old.items outs.new.items }
+    ensures reduces { Reduces (red.reduction stores.old page control.old) result control.new
+        stores.new outs.old.items outs.new.items }
     ensures emptied { OnErr result (control.new ≡ emptied) }
     ensures copies { RisesBy (working stores.old control.old) copies.old copies.new }
 {
@@ -66,7 +67,8 @@ fn reduce_once<C: Ledger>(
     requires act { control.old.base.0 < length stores.old.windows.acts }
     requires running { IsRunning (made stores.old) control.old.expr }
     requires live { IsTrue (is_live stores.old.windows page) }
-    ensures reduces { Reduces (red.reduction stores.old page control.old) result control.new stores.new outs.old.items outs.new.items }
+    ensures reduces { Reduces (red.reduction stores.old page control.old) result control.new
+        stores.new outs.old.items outs.new.items }
     ensures copies { RisesBy (working stores.old control.old) copies.old copies.new }
 {
     match control.done() {
@@ -99,7 +101,8 @@ pub(crate) fn reduce_redex<C: Ledger>(
     requires act { control.old.base.0 < length stores.old.windows.acts }
     requires running { IsRunning (made stores.old) control.old.expr }
     requires live { IsTrue (is_live stores.old.windows page) }
-    ensures reduces { Reduces (red.reduction stores.old page control.old) (answered result) control.new stores.new outs.old.items outs.new.items }
+    ensures reduces { Reduces (red.reduction stores.old page control.old) (answered result)
+        control.new stores.new outs.old.items outs.new.items }
     ensures copies { RisesBy (working stores.old control.old) copies.old copies.new }
 {
     let a = act_of(control, stores);

@@ -1,6 +1,6 @@
 //! The rows of redexes that become a value.
 ghost use Rattle.std.specs.Prelude.{◌≡◌, ◌*◌, ◌<◌, List, length};
-ghost use Rattle.ff_steps.specs.Rises.{RisesBy};
+ghost use Rattle.ff_contract.specs.Rises.{RisesBy};
 ghost use Rattle.ff_tree.specs.Spelled.{IsVar, IsWellSpelledDoc};
 ghost use Rattle.ff_value.specs.declared.output.Out.{Out};
 ghost use Rattle.ff_machine.specs.Answers.{Does, Reads};
@@ -9,12 +9,12 @@ ghost use Rattle.ff_machine.specs.Reduction as red;
 ghost use Rattle.ff_machine.specs.References.{made};
 ghost use Rattle.ff_machine.specs.Stores.{Stores};
 ghost use Rattle.ff_machine.specs.Valid.{IsVal};
-ghost use Rattle.ff_machine.specs.Windows as w;
+ghost use Rattle.ff_machine.specs.Windows as windows;
 
+use ff_contract::Steps;
 use ff_name::Name;
 use ff_operators::Fail;
-use ff_rows::Stores;
-use ff_steps::Steps;
+use ff_store_operators::Stores;
 use ff_value::{ActId, Body, Code, Doc, Fault, Names, Val};
 use std::sync::ledger::Ledger;
 
@@ -40,7 +40,8 @@ pub(crate) fn make_tree<C: Ledger>(
 ) -> Result<Val, Fail>
     requires lives { a.0 < length stores.old.windows.acts }
     requires spelled { IsWellSpelledDoc doc.now }
-    ensures does { (puts : List Out) → Does (red.make_tree stores.old a doc.now) result stores.old stores.new puts puts }
+    ensures does { (puts : List Out) → Does (red.make_tree stores.old a doc.now) result stores.old
+        stores.new puts puts }
     ensures copies { RisesBy (47 * (laid a doc.now).size) copies.old copies.new }
 {
     let n = stores.make_tree(a, doc, copies)?;

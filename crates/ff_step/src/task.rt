@@ -28,9 +28,9 @@ impl Drop for Task {
 
 impl Model for Task {
     ghost use Rattle.ff_machine.specs.Codes.{coded_task};
-    ghost use Rattle.ff_machine.specs.State as record_of;
+    ghost use Rattle.ff_machine.specs.State as state;
 
-    ghost Value = { record_of.Task };
+    ghost Value = { state.Task };
 
     ghost coded = { coded_task };
 
@@ -40,7 +40,8 @@ impl Model for Task {
 impl Task {
     /// A script of a page, which runs in an activation.
     pub fn script(alloc: Global, page: PageId, act: ActId, body: &Body) -> Result<Task, NoMemory>
-        ensures { IfOk result (λ task. task ≡ record { page = page; running = record { base = act; expr = whole body.now } }) }
+        ensures { IfOk result (λ task. task ≡ record
+            { page = page; running = record { base = act; expr = whole body.now } }) }
     {
         let mut control = Control::new(alloc);
         control.start(alloc, body, act)?;
@@ -55,7 +56,8 @@ impl Task {
         code: &Code,
         arg: &Val,
     ) -> Result<Task, NoMemory>
-        ensures { IfOk result (λ task. task ≡ record { page = page; running = record { base = act; expr = call_of code.now arg.now } }) }
+        ensures { IfOk result (λ task. task ≡ record
+            { page = page; running = record { base = act; expr = call_of code.now arg.now } }) }
     {
         let mut control = Control::new(alloc);
         control.start_call(alloc, code, arg, act)?;

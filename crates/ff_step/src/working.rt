@@ -1,6 +1,6 @@
 //! The work of one fuel on a task.
 ghost use Rattle.std.specs.Prelude.{◌≡◌, ◌+◌, ◌<◌, ◌≤◌, ◌++◌, [], ◌∷◌, length, OnErr, OnOk};
-ghost use Rattle.ff_steps.specs.Rises.{RisesBy};
+ghost use Rattle.ff_contract.specs.Rises.{RisesBy};
 ghost use Rattle.ff_machine.specs.Answers.{Works};
 ghost use Rattle.ff_machine.specs.Turns as turns;
 ghost use Rattle.ff_machine.specs.Valid.{IsStores, IsTask};
@@ -11,10 +11,10 @@ ghost use Rattle.ff_step.specs.Left.{left};
 
 use crate::reducing::reduce_redex;
 use crate::task::Task;
+use ff_contract::Steps;
 use ff_name::NoMemory;
 use ff_operators::Fail;
-use ff_rows::Stores;
-use ff_steps::Steps;
+use ff_store_operators::Stores;
 use ff_value::{Fault, Out, PageId};
 use std::alloc::{AllocError, Global};
 use std::sync::ledger::Ledger;
@@ -32,9 +32,11 @@ impl Task {
         copies: &mut Steps<C>,
     ) -> Result<bool, NoMemory>
         requires { IsTask stores.old self.old }
-        ensures works { Works (turns.work stores.old self.old) (left self.new result) stores.new outs.old.items outs.new.items }
+        ensures works { Works (turns.work stores.old self.old) (left self.new result) stores.new
+            outs.old.items outs.new.items }
         ensures later { copies.old ≤ copies.new }
-        ensures emptied { OnErr result (self.new ≡ record { page = self.old.page; running = emptied }) }
+        ensures emptied { OnErr result (self.new
+            ≡ record { page = self.old.page; running = emptied }) }
         ensures copies { copies.new ≤ copies.old + worked_on stores.old self.old }
     {
         match self.make(alloc, stores, outs, copies) {
@@ -55,7 +57,8 @@ impl Task {
         copies: &mut Steps<C>,
     ) -> Result<bool, NoMemory>
         requires { IsTask stores.old self.old }
-        ensures works { Works (turns.work stores.old self.old) (left self.new result) stores.new outs.old.items outs.new.items }
+        ensures works { Works (turns.work stores.old self.old) (left self.new result) stores.new
+            outs.old.items outs.new.items }
         ensures page { self.new.page ≡ self.old.page }
         ensures copies { RisesBy (worked_on stores.old self.old) copies.old copies.new }
     {
@@ -87,7 +90,8 @@ fn put_error(
     outs: &mut Vec<Out>,
 ) -> Result<(), NoMemory>
     requires { page.0 < length stores.now.windows.pages }
-    ensures done { OnOk result (outs.new.items ≡ outs.old.items ++ turns.error_at stores.now page fault ∷ []) }
+    ensures done { OnOk result (outs.new.items
+        ≡ outs.old.items ++ turns.error_at stores.now page fault ∷ []) }
     ensures kept { OnErr result (outs.new.items ≡ outs.old.items) }
 {
     let windows = stores.windows();

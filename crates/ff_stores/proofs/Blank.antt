@@ -2,7 +2,7 @@
 use Rattle.std.proofs.Common.{◌≡◌, ℕ, suc, ◌+◌, arith, Bool, false, cond, None, List, [], ◌∷◌, ◌++◌, length, filter, refl, ap, ◌∙◌}
 use Rattle.std.specs.Prelude.{flat_map}
 use Rattle.std.proofs.lemmas.List.{get_or_push}
-use Rattle.ff_steps.specs.Rises.{RisesBy}
+use Rattle.ff_contract.specs.Rises.{RisesBy}
 use Rattle.ff_name.specs.declared.urls.Url.{Url}
 use Rattle.ff_value.specs.declared.ids.NodeId.{NodeId}
 use Rattle.ff_value.specs.declared.ids.WinId.{WinId}

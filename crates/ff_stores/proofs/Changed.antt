@@ -9,7 +9,7 @@ use Rattle.ff_tree.specs.declared.tree.Expr.{Expr}
 use Rattle.ff_value.specs.declared.fault.Fault.{Fault}
 use Rattle.ff_value.specs.declared.ids.ActId.{ActId}
 use Rattle.ff_value.specs.declared.ids.PageId.{PageId}
-use Rattle.ff_value.specs.declared.reply.CookieOp.TheVariants as cookie_op
+use Rattle.ff_value.specs.declared.reply.CookieOp.TheVariants as cookie
 use Rattle.ff_value.specs.declared.value.Val.TheVariants as val
 use Rattle.ff_machine.specs.declared.records.Pending.{Pending}
 use Rattle.ff_machine.specs.Net as net
@@ -32,7 +32,7 @@ pub cookie_put_valid : (s : Stores) (domain key value : List ℕ) → IsStores s
     → IsStores (record s { jar = net.cookie_put s.jar domain key value })
 cookie_put_valid s domain key value valid is_domain is_key is_value none =
     subst (λ (why : Option Fault). IsStores (record s { jar = cond (is_some why) s.jar (net.cookie_put s.jar domain key value) })) none
-    ((put_cookies_valid s domain (cookie_op.Put key value ∷ []) valid is_domain ((is_key, is_value), tt)).stores)
+    ((put_cookies_valid s domain (cookie.Put key value ∷ []) valid is_domain ((is_key, is_value), tt)).stores)
 
 -- a tree that is made without a fault
 pub made_tree_valid : (s : Stores) (a : ActId) (d : Doc) → IsStores s → a.0 < length s.windows.acts → IsWellSpelledDoc d → red.tree_fault s a d ≡ None → IsStores (red.with_tree s a d)

@@ -1,6 +1,6 @@
 -- How many cells are copied by a page that is made and shown.
 use Rattle.std.proofs.Common.{◌≡◌, ◌*◌, ℕ, List, subst, arith}
-use Rattle.ff_steps.specs.Rises.{RisesBy}
+use Rattle.ff_contract.specs.Rises.{RisesBy}
 use Rattle.ff_tree.specs.declared.tree.Doc.{Doc}
 use Rattle.ff_value.specs.declared.ids.ActId.{ActId}
 use Rattle.ff_value.specs.declared.ids.PageId.{PageId}

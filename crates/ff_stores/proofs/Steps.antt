@@ -1,7 +1,7 @@
 -- A step that is made where there is room for it.
 use Rattle.std.proofs.Common.{◌≡◌, List, Option, Some, None, Result, Err, Bool}
 use Rattle.ff_contract.proofs.Sequence.{front_none}
-use Rattle.ff_reactive.specs.Turns.{Stepped}
+use Rattle.ff_confinement.specs.Turns.{Stepped}
 use Rattle.ff_machine.specs.Answers.{MakesIfRoom}
 
 -- it was refused memory, and nothing of it was put

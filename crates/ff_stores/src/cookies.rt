@@ -1,17 +1,17 @@
 //! Cookies, those of scripts and those of replies.
 ghost use Rattle.std.specs.Prelude.{◌≡◌, ◌*◌, length, OnOk};
 ghost use Rattle.std.specs.List.{AllByRecursion};
-ghost use Rattle.ff_steps.specs.Rises.{RisesBy};
+ghost use Rattle.ff_contract.specs.Rises.{RisesBy};
 ghost use Rattle.ff_operators.specs.Answers.{Answers, OnFault};
 ghost use Rattle.ff_value.specs.Spelled.{IsCookieOp};
 ghost use Rattle.ff_machine.specs.Net as net;
 ghost use Rattle.ff_machine.specs.Stores as s;
 
 use crate::stores::Stores;
+use ff_contract::Steps;
 use ff_name::{Domain, NoMemory, Text};
 use ff_net::Jar;
 use ff_operators::{Fail, fault_or_emptied, or_emptied};
-use ff_steps::Steps;
 use ff_value::{CookieOp, Cookies};
 use std::alloc::AllocError;
 use std::sync::ledger::Ledger;
@@ -27,8 +27,10 @@ impl Stores {
         value: &Text,
         copies: &mut Steps<C>,
     ) -> Result<(), Fail>
-        ensures done { OnOk result (self.new ≡ record self.old { jar = net.cookie_put self.old.jar domain.now key.now value.now }) }
-        ensures answer { Answers (net.cookie_fault self.old.jar domain.now key.now value.now) result }
+        ensures done { OnOk result (self.new ≡ record self.old
+            { jar = net.cookie_put self.old.jar domain.now key.now value.now }) }
+        ensures answer { Answers (net.cookie_fault self.old.jar domain.now key.now value.now)
+            result }
         ensures kept { OnFault result (self.new ≡ self.old) }
         ensures copies { RisesBy 16 copies.old copies.new }
     {
@@ -48,7 +50,8 @@ impl Stores {
         key: &Text,
         copies: &mut Steps<C>,
     ) -> Result<(), NoMemory>
-        ensures done { OnOk result (self.new ≡ record self.old { jar = net.cookie_deleted self.old.jar domain.now key.now }) }
+        ensures done { OnOk result (self.new ≡ record self.old
+            { jar = net.cookie_deleted self.old.jar domain.now key.now }) }
         ensures copies { RisesBy 17 copies.old copies.new }
     {
         let _known = domain.text();
@@ -78,7 +81,7 @@ impl Stores {
     }
 }
 
-// Puts entries one after another, but none that can't be put.
+/// Puts entries one after another, but none that can't be put.
 fn put_each<C: Ledger>(
     jar: &mut Jar,
     domain: &Domain,
@@ -94,7 +97,7 @@ fn put_each<C: Ledger>(
     Ok(())
 }
 
-// Puts an entry, if it can be put.
+/// Puts an entry, if it can be put.
 fn put_one<C: Ledger>(
     jar: &mut Jar,
     domain: &Domain,

@@ -1,5 +1,7 @@
 //! The stores of one copy of the browser together.
 //!
+//! Floor: one browser. It knows of no levels.
+//!
 //! [`Stores`] is seen as the record of that name of the written machine: nodes, windows, cookies,
 //! pending requests, the mass and the touched pages. That all of it is valid, references from one
 //! store to another included, is the type's own invariant, so it holds at every return. Each change

@@ -3,11 +3,11 @@ ghost use Rattle.std.specs.Prelude.{◌≡◌, ◌<◌, ◌++◌, [], ◌∷◌,
 ghost use Rattle.std.specs.List.{AllByRecursion};
 ghost use Rattle.std.specs.Option.{ForSome, option_copied};
 ghost use Rattle.std.specs.Str.{IsUtf8};
-ghost use Rattle.ff_steps.specs.Rises.{RisesBy};
+ghost use Rattle.ff_contract.specs.Rises.{RisesBy};
 ghost use Rattle.ff_name.specs.Address.{IsWellSpelled};
 ghost use Rattle.ff_tree.specs.Spelled.{IsWellSpelledDoc};
 ghost use Rattle.ff_machine.specs.Answers.{Makes, MakesIfRoom};
-ghost use Rattle.ff_machine.specs.Nodes as t;
+ghost use Rattle.ff_machine.specs.Nodes as nodes;
 ghost use Rattle.ff_machine.specs.Stores as s;
 ghost use Rattle.ff_machine.specs.Windows as w;
 ghost use Rattle.ff_stores.specs.Copied.{showing, loading};
@@ -15,10 +15,10 @@ ghost use Rattle.ff_stores.specs.Opened.{opened};
 
 use crate::sending::put;
 use crate::stores::Stores;
+use ff_contract::Steps;
 use ff_machine::Dst;
 use ff_name::{NoMemory, Text, Url};
 use ff_operators::Fail;
-use ff_steps::Steps;
 use ff_value::{Docs, NodeId, Out, PageId, WinId};
 use ff_windows::Windows;
 use std::alloc::AllocError;
@@ -38,7 +38,8 @@ impl Stores {
         requires is_open { IsTrue (w.is_open self.old.windows window) }
         requires url { IsWellSpelled url.now }
         requires docs { AllByRecursion IsWellSpelledDoc docs.now }
-        ensures step { MakesIfRoom self.old self.new outs.old.items outs.new.items (s.load self.old window url.now docs.now) result }
+        ensures step { MakesIfRoom self.old self.new outs.old.items outs.new.items
+            (s.load self.old window url.now docs.now) result }
         ensures copies { RisesBy (loading self.old window url.now docs.now) copies.old copies.new }
     {
         let page = self.windows.next_page();
@@ -51,7 +52,7 @@ impl Stores {
         Ok(true)
     }
 
-    // A page of the documents is made and shown in a window, where there is room for it.
+    /// A page of the documents is made and shown in a window, where there is room for it.
     fn show<C: Ledger>(
         &mut self,
         window: WinId,
@@ -63,7 +64,8 @@ impl Stores {
         requires url { IsWellSpelled url.now }
         requires docs { AllByRecursion IsWellSpelledDoc docs.now }
         ensures answer { IfOk result (λ b. b ≡ s.has_load_room self.old docs.now) }
-        ensures done { OnOk result (self.new ≡ cond (s.has_load_room self.old docs.now) (s.with_shown_page self.old window url.now docs.now) self.old) }
+        ensures done { OnOk result (self.new ≡ cond (s.has_load_room self.old docs.now)
+            (s.with_shown_page self.old window url.now docs.now) self.old) }
         ensures copies { RisesBy (showing self.old docs.now) copies.old copies.new }
     {
         if !self.windows.room() {
@@ -88,7 +90,7 @@ impl Stores {
         }
     }
 
-    // Puts what is loaded in a window.
+    /// Puts what is loaded in a window.
     fn put_loaded(
         &self,
         window: WinId,
@@ -97,7 +99,9 @@ impl Stores {
         outs: &mut Vec<Out>,
     ) -> Result<(), NoMemory>
         requires { root.0 < length self.now.nodes }
-        ensures done { OnOk result (outs.new.items ≡ outs.old.items ++ Out.Loaded (s.place self.now window) url.now (t.shown self.now.nodes root) ∷ []) }
+        ensures done { OnOk result (outs.new.items
+            ≡ outs.old.items ++ Out.Loaded (s.place self.now window) url.now
+            (nodes.shown self.now.nodes root) ∷ []) }
         ensures kept { OnErr result (outs.new.items ≡ outs.old.items) }
     {
         let place = self.windows.position(window).unwrap_or(0);
@@ -116,7 +120,8 @@ impl Stores {
     ) -> Result<bool, NoMemory>
         requires is_open { IsTrue (w.is_open self.old.windows window) }
         requires url { IsWellSpelled url.now }
-        ensures step { MakesIfRoom self.old self.new outs.old.items outs.new.items (s.go self.old window url.now) result }
+        ensures step { MakesIfRoom self.old self.new outs.old.items outs.new.items
+            (s.go self.old window url.now) result }
         ensures copies { RisesBy 94 copies.old copies.new }
     {
         match url {
@@ -140,8 +145,10 @@ impl Stores {
         copies: &mut Steps<C>,
     ) -> Result<Option<WinId>, NoMemory>
         requires { ForSome opener (λ o. o.0 < length self.old.windows.windows) }
-        ensures step { MakesIfRoom self.old self.new outs.old.items outs.new.items (s.open_window self.old (option_copied name.entry) opener) (opened result) }
-        ensures number { IfOk result (λ found. IfSome found (λ n. n ≡ w.next_win self.old.windows)) }
+        ensures step { MakesIfRoom self.old self.new outs.old.items outs.new.items
+            (s.open_window self.old (option_copied name.entry) opener) (opened result) }
+        ensures number { IfOk result (λ found. IfSome found
+            (λ n. n ≡ w.next_win self.old.windows)) }
         ensures copies { RisesBy 92 copies.old copies.new }
     {
         let window = self.windows.next_win();
@@ -152,7 +159,7 @@ impl Stores {
         Ok(Some(window))
     }
 
-    // A window is made with a blank page, where there is room for it.
+    /// A window is made with a blank page, where there is room for it.
     fn make_window<C: Ledger>(
         &mut self,
         name: Option<&Text>,
@@ -161,7 +168,8 @@ impl Stores {
     ) -> Result<bool, NoMemory>
         requires { ForSome opener (λ o. o.0 < length self.old.windows.windows) }
         ensures answer { IfOk result (λ b. b ≡ s.has_window_room self.old) }
-        ensures done { OnOk result (self.new ≡ cond (s.has_window_room self.old) (s.with_window self.old (option_copied name.entry) opener) self.old) }
+        ensures done { OnOk result (self.new ≡ cond (s.has_window_room self.old)
+            (s.with_window self.old (option_copied name.entry) opener) self.old) }
         ensures copies { RisesBy 92 copies.old copies.new }
     {
         if !self.windows.can_add() {
@@ -197,7 +205,8 @@ impl Stores {
         copies: &mut Steps<C>,
     ) -> Result<(), NoMemory>
         requires { IsWellSpelled url.now }
-        ensures step { Makes self.old self.new outs.old.items outs.new.items (s.opens self.old url.now) result }
+        ensures step { Makes self.old self.new outs.old.items outs.new.items
+            (s.opens self.old url.now) result }
         ensures copies { RisesBy 125 copies.old copies.new }
     {
         match self.open_window(None, None, outs, copies)? {
@@ -206,7 +215,7 @@ impl Stores {
         }
     }
 
-    // Asks for the address of a new window.
+    /// Asks for the address of a new window.
     fn send_first<C: Ledger>(
         &mut self,
         url: &Url,
@@ -216,7 +225,8 @@ impl Stores {
     ) -> Result<(), NoMemory>
         requires url { IsWellSpelled url.now }
         requires lives { window.0 < length self.old.windows.windows }
-        ensures step { Makes self.old self.new outs.old.items outs.new.items (s.send_first url.now window self.old) result }
+        ensures step { Makes self.old self.new outs.old.items outs.new.items
+            (s.send_first url.now window self.old) result }
         ensures copies { RisesBy 33 copies.old copies.new }
     {
         match url {
@@ -236,7 +246,8 @@ impl Stores {
         outs: &mut Vec<Out>,
         copies: &mut Steps<C>,
     ) -> Result<(), NoMemory>
-        ensures step { Makes self.old self.new outs.old.items outs.new.items (s.close_window self.old window) result }
+        ensures step { Makes self.old self.new outs.old.items outs.new.items
+            (s.close_window self.old window) result }
         ensures copies { copies.new ≡ copies.old }
     {
         let place = self.windows.position(window).unwrap_or(0);
@@ -251,7 +262,7 @@ impl Stores {
     }
 }
 
-// Makes a page of a window and shows it there.
+/// Makes a page of a window and shows it there.
 fn show_new<C: Ledger>(
     windows: &mut Windows,
     window: WinId,
@@ -262,7 +273,9 @@ fn show_new<C: Ledger>(
     requires is_open { IsTrue (w.is_open windows.old window) }
     requires lives { window.0 < length windows.old.windows }
     requires url { IsWellSpelled url.now }
-    ensures done { OnOk result (windows.new ≡ w.page_shown (w.with_page windows.old url.now window root) window (w.next_page windows.old)) }
+    ensures done { OnOk result (windows.new
+        ≡ w.page_shown (w.with_page windows.old url.now window root) window
+        (w.next_page windows.old)) }
     ensures copies { RisesBy 47 copies.old copies.new }
 {
     match windows.add_page(url, window, root, copies) {
@@ -271,7 +284,7 @@ fn show_new<C: Ledger>(
     }
 }
 
-// Makes a window with a blank page.
+/// Makes a window with a blank page.
 fn add_new<C: Ledger>(
     windows: &mut Windows,
     name: Option<&Text>,
@@ -280,7 +293,9 @@ fn add_new<C: Ledger>(
     copies: &mut Steps<C>,
 ) -> Result<(), NoMemory>
     requires { ForSome opener (λ o. o.0 < length windows.old.windows) }
-    ensures done { OnOk result (windows.new ≡ w.with_window (w.with_page windows.old Url.Blank (w.next_win windows.old) root) (option_copied name.entry) opener (w.next_page windows.old)) }
+    ensures done { OnOk result (windows.new
+        ≡ w.with_window (w.with_page windows.old Url.Blank (w.next_win windows.old) root)
+        (option_copied name.entry) opener (w.next_page windows.old)) }
     ensures copies { RisesBy 45 copies.old copies.new }
 {
     let window = windows.next_win();
@@ -293,7 +308,7 @@ fn add_new<C: Ledger>(
     }
 }
 
-// A name, if there is one, is a text.
+/// A name, if there is one, is a text.
 fn read_name(name: Option<&Text>)
     ensures { ForSome (option_copied name.entry) IsUtf8 }
 {

@@ -1,6 +1,6 @@
 //! Replies: what they answer, what they weigh, and the slots that they fill.
 ghost use Rattle.std.specs.Prelude.{◌≡◌, ◌*◌, ◌<◌, ◌≤◌, None, Some, cond, length, IfOk, OnOk, MatchOption};
-ghost use Rattle.ff_steps.specs.Rises.{RisesBy};
+ghost use Rattle.ff_contract.specs.Rises.{RisesBy};
 ghost use Rattle.ff_tree.specs.Spelled.{IsWellSpelledExpr};
 ghost use Rattle.ff_machine.specs.Net as net;
 ghost use Rattle.ff_machine.specs.Stores as s;
@@ -8,10 +8,10 @@ ghost use Rattle.ff_machine.specs.Windows as windows;
 ghost use Rattle.ff_operators.specs.declared.limits.TheConstants.{MOST_MASS};
 
 use crate::stores::Stores;
+use ff_contract::Steps;
 use ff_machine::Pending;
 use ff_name::{Domain, NoMemory};
 use ff_operators::{MOST_MASS, or_emptied};
-use ff_steps::Steps;
 use ff_value::{Body, PageId};
 use std::sync::ledger::Ledger;
 
@@ -24,8 +24,11 @@ impl Stores {
         k: u32,
         copies: &mut Steps<C>,
     ) -> Result<Option<Pending>, NoMemory>
-        ensures done { IfOk result (λ answer. MatchOption answer ((s.take_answer self.old domain.now k ≡ None) × (self.new ≡ self.old)) (λ pending. s.take_answer self.old domain.now k ≡ Some (pending, self.new))) }
-        ensures copies { RisesBy (17 * length (net.asked self.old.requests domain.now)) copies.old copies.new }
+        ensures done { IfOk result (λ answer. MatchOption answer
+            ((s.take_answer self.old domain.now k ≡ None) × (self.new ≡ self.old))
+            (λ pending. s.take_answer self.old domain.now k ≡ Some (pending, self.new))) }
+        ensures copies { RisesBy (17 * length (net.asked self.old.requests domain.now)) copies.old
+            copies.new }
     {
         or_emptied!(self.requests.answer(domain, k, copies), nothing_left!(self))
     }
@@ -33,7 +36,8 @@ impl Stores {
     /// The mass grows by so much, in bytes, where its limit allows it; answers whether it does.
     pub fn weigh(&mut self, weight: u64) -> bool
         ensures answer { result ≡ s.may_weigh self.old weight }
-        ensures done { self.new ≡ cond (s.may_weigh self.old weight) (s.weighed self.old weight) self.old }
+        ensures done { self.new ≡ cond (s.may_weigh self.old weight) (s.weighed self.old weight)
+            self.old }
     {
         if !self.may_weigh(weight) {
             return false;

@@ -32,7 +32,15 @@ impl Stores {
         mass: u64,
     ) -> Result<Option<Stores>, NoMemory>
         ensures never { IsOk result }
-        ensures value { IfOk result (Restores AreUntouched parts_of (record { nodes = nodes; windows = windows; jar = jar; requests = requests; mass = mass })) }
+        ensures value { IfOk result (Restores AreUntouched parts_of
+            (record {
+              nodes = nodes;
+              windows = windows;
+              jar = jar;
+              requests = requests;
+              mass =
+                  mass;
+            })) }
     {
         if !fit(&nodes, &windows, &jar, &requests, mass) {
             return Ok(None);
@@ -51,7 +59,14 @@ impl Stores {
 
 /// Whether the parts are valid together.
 fn fit(nodes: &Nodes, windows: &Windows, jar: &Jar, requests: &Requests, mass: u64) -> bool
-    ensures { IsTrue result ↔ IsStores (untouched (record { nodes = nodes.now; windows = windows.now; jar = jar.now; requests = requests.now; mass = mass })) }
+    ensures { IsTrue result ↔ IsStores (untouched
+        (record {
+          nodes = nodes.now;
+          windows = windows.now;
+          jar = jar.now;
+          requests = requests.now;
+          mass = mass;
+        })) }
 {
     let _known = jar.len();
     if !refer(nodes, windows, requests) {

@@ -1,6 +1,6 @@
 //! Sending requests, and what is put.
 ghost use Rattle.std.specs.Prelude.{◌≡◌, ◌++◌, [], ◌∷◌, OnOk, OnErr};
-ghost use Rattle.ff_steps.specs.Rises.{RisesBy};
+ghost use Rattle.ff_contract.specs.Rises.{RisesBy};
 ghost use Rattle.ff_name.specs.Address.{IsRequest};
 ghost use Rattle.ff_machine.specs.Alone.{IsDst};
 ghost use Rattle.ff_machine.specs.Answers.{MakesIfRoom};
@@ -8,13 +8,13 @@ ghost use Rattle.ff_machine.specs.References.{DstRefers, made};
 ghost use Rattle.ff_machine.specs.Stores as s;
 
 use crate::stores::Stores;
+use ff_contract::Steps;
 use ff_machine::Dst;
 use ff_name::{Domain, NoMemory, Text};
-use ff_steps::Steps;
 use ff_value::Out;
 use std::sync::ledger::Ledger;
 
-// Puts an output behind the others.
+/// Puts an output behind the others.
 pub(crate) fn put(outs: &mut Vec<Out>, out: Out) -> Result<(), NoMemory>
     ensures done { OnOk result (outs.new.items ≡ outs.old.items ++ out ∷ []) }
     ensures kept { OnErr result (outs.new.items ≡ outs.old.items) }
@@ -38,7 +38,8 @@ impl Stores {
         requires uri { IsRequest uri.now }
         requires to { IsDst to }
         requires refers { DstRefers (made self.old) to }
-        ensures step { MakesIfRoom self.old self.new outs.old.items outs.new.items (s.send self.old domain.now uri.now body.now to) result }
+        ensures step { MakesIfRoom self.old self.new outs.old.items outs.new.items
+            (s.send self.old domain.now uri.now body.now to) result }
         ensures copies { RisesBy 33 copies.old copies.new }
     {
         if !self.requests.room(domain) {

@@ -1,7 +1,7 @@
 //! Starting the scripts of a tree.
 ghost use Rattle.std.specs.Prelude.{◌≡◌, ◌<◌, None, true, length, sum_by, OnOk};
 ghost use Rattle.std.specs.Option.{ForSome};
-ghost use Rattle.ff_steps.specs.Rises.{RisesBy};
+ghost use Rattle.ff_contract.specs.Rises.{RisesBy};
 ghost use Rattle.ff_name.specs.Address.{IsRequest, IsWellSpelled};
 ghost use Rattle.ff_tree.specs.Spelled.{IsWellSpelledExpr};
 ghost use Rattle.ff_machine.specs.Answers.{Makes};
@@ -12,10 +12,10 @@ ghost use Rattle.ff_machine.specs.Valid.{count_started};
 ghost use Rattle.ff_stores.specs.Copied.{starting};
 
 use crate::stores::Stores;
+use ff_contract::Steps;
 use ff_machine::Dst;
 use ff_name::{Domain, NoMemory, Text, Url};
 use ff_operators::or_emptied;
-use ff_steps::Steps;
 use ff_value::{Body, Expr, Lit, NodeId, Out, PageId, Shared};
 use std::sync::ledger::Ledger;
 
@@ -30,7 +30,8 @@ impl Stores {
     ) -> Result<(), NoMemory>
         requires page { page.0 < length self.old.windows.pages }
         requires lives { n.0 < length self.old.nodes }
-        ensures step { Makes self.old self.new outs.old.items outs.new.items (s.start page n self.old) result }
+        ensures step { Makes self.old self.new outs.old.items outs.new.items
+            (s.start page n self.old) result }
         ensures copies { RisesBy (starting self.old.nodes n) copies.old copies.new }
     {
         let scripts = self.nodes.scripts(n)?;
@@ -40,7 +41,7 @@ impl Stores {
         Ok(())
     }
 
-    // Starts the scripts of a tree where there is a page that is live.
+    /// Starts the scripts of a tree where there is a page that is live.
     pub(crate) fn start_in<C: Ledger>(
         &mut self,
         page: Option<PageId>,
@@ -50,7 +51,8 @@ impl Stores {
     ) -> Result<(), NoMemory>
         requires page { ForSome page (λ p. p.0 < length self.old.windows.pages) }
         requires lives { n.0 < length self.old.nodes }
-        ensures step { Makes self.old self.new outs.old.items outs.new.items (s.start_in page n self.old) result }
+        ensures step { Makes self.old self.new outs.old.items outs.new.items
+            (s.start_in page n self.old) result }
         ensures copies { RisesBy (starting self.old.nodes n) copies.old copies.new }
     {
         match page {
@@ -65,7 +67,7 @@ impl Stores {
         }
     }
 
-    // Starts a script that wasn't started.
+    /// Starts a script that wasn't started.
     fn start_one<C: Ledger>(
         &mut self,
         page: PageId,
@@ -76,7 +78,8 @@ impl Stores {
         requires page { page.0 < length self.old.windows.pages }
         requires unstarted { is_unstarted (t.node_at self.old.nodes n).shape ≡ true }
         requires lives { n.0 < length self.old.nodes }
-        ensures step { Makes self.old self.new outs.old.items outs.new.items (s.start_one page n self.old) result }
+        ensures step { Makes self.old self.new outs.old.items outs.new.items
+            (s.start_one page n self.old) result }
         ensures copies { RisesBy 81 copies.old copies.new }
     {
         match self.nodes.body(n) {
@@ -89,7 +92,7 @@ impl Stores {
         }
     }
 
-    // Starts a script that is to be fetched and wasn't started.
+    /// Starts a script that is to be fetched and wasn't started.
     fn start_fetched<C: Ledger>(
         &mut self,
         page: PageId,
@@ -101,7 +104,8 @@ impl Stores {
         requires unstarted { is_unstarted (t.node_at self.old.nodes n).shape ≡ true }
         requires fetched { body_of (t.node_at self.old.nodes n).shape ≡ None }
         requires lives { n.0 < length self.old.nodes }
-        ensures step { Makes self.old self.new outs.old.items outs.new.items (s.start_one page n self.old) result }
+        ensures step { Makes self.old self.new outs.old.items outs.new.items
+            (s.start_one page n self.old) result }
         ensures copies { RisesBy 81 copies.old copies.new }
     {
         match self.nodes.url(n) {
@@ -114,17 +118,18 @@ impl Stores {
         }
     }
 
-    // The node counts as a script that was started.
+    /// The node counts as a script that was started.
     fn mark_started<C: Ledger>(&mut self, n: NodeId, copies: &mut Steps<C>) -> Result<(), NoMemory>
         requires { n.0 < length self.old.nodes }
-        ensures done { OnOk result (self.new ≡ record self.old { nodes = t.started self.old.nodes n }) }
+        ensures done { OnOk result (self.new ≡ record self.old
+            { nodes = t.started self.old.nodes n }) }
         ensures copies { RisesBy 16 copies.old copies.new }
     {
         or_emptied!(self.nodes.start(n, copies), nothing_left!(self))
     }
 
-    // The script at an address is asked for, and a slot waits for it. Where there is no room for
-    // the request, `null` may run in its place.
+    /// The script at an address is asked for, and a slot waits for it. Where there is no room for
+    /// the request, `null` may run in its place.
     fn fetch<C: Ledger>(
         &mut self,
         page: PageId,
@@ -134,9 +139,12 @@ impl Stores {
     ) -> Result<(), NoMemory>
         requires page { page.0 < length self.old.windows.pages }
         requires url { IsWellSpelled url.now }
-        requires entries { sum_by (λ p. length p.queue) self.old.windows.pages < count_started self.old.nodes }
-        requires slots { sum_by (λ p. p.next) self.old.windows.pages < count_started self.old.nodes }
-        ensures step { Makes self.old self.new outs.old.items outs.new.items (s.fetched_from self.old page url.now) result }
+        requires entries { sum_by (λ p. length p.queue) self.old.windows.pages
+            < count_started self.old.nodes }
+        requires slots { sum_by (λ p. p.next) self.old.windows.pages
+            < count_started self.old.nodes }
+        ensures step { Makes self.old self.new outs.old.items outs.new.items
+            (s.fetched_from self.old page url.now) result }
         ensures copies { RisesBy 65 copies.old copies.new }
     {
         match url {
@@ -155,9 +163,12 @@ impl Stores {
     ) -> Result<(), NoMemory>
         requires page { page.0 < length self.old.windows.pages }
         requires uri { IsRequest uri.now }
-        requires entries { sum_by (λ p. length p.queue) self.old.windows.pages < count_started self.old.nodes }
-        requires slots { sum_by (λ p. p.next) self.old.windows.pages < count_started self.old.nodes }
-        ensures step { Makes self.old self.new outs.old.items outs.new.items (s.fetched self.old page domain.now uri.now) result }
+        requires entries { sum_by (λ p. length p.queue) self.old.windows.pages
+            < count_started self.old.nodes }
+        requires slots { sum_by (λ p. p.next) self.old.windows.pages
+            < count_started self.old.nodes }
+        ensures step { Makes self.old self.new outs.old.items outs.new.items
+            (s.fetched self.old page domain.now uri.now) result }
         ensures copies { RisesBy 65 copies.old copies.new }
     {
         let slot = self.windows.next_slot(page);
@@ -170,7 +181,7 @@ impl Stores {
         }
     }
 
-    // Puts a script into the page's queue.
+    /// Puts a script into the page's queue.
     fn queue<C: Ledger>(
         &mut self,
         page: PageId,
@@ -179,8 +190,10 @@ impl Stores {
     ) -> Result<(), NoMemory>
         requires page { page.0 < length self.old.windows.pages }
         requires spelled { IsWellSpelledExpr body.now }
-        requires entries { sum_by (λ p. length p.queue) self.old.windows.pages < count_started self.old.nodes }
-        requires slots { sum_by (λ p. p.next) self.old.windows.pages < count_started self.old.nodes }
+        requires entries { sum_by (λ p. length p.queue) self.old.windows.pages
+            < count_started self.old.nodes }
+        requires slots { sum_by (λ p. p.next) self.old.windows.pages
+            < count_started self.old.nodes }
         ensures done { OnOk result (self.new ≡ (s.queued self.old page body.now).after) }
         ensures copies { RisesBy 32 copies.old copies.new }
     {
@@ -190,11 +203,13 @@ impl Stores {
         )
     }
 
-    // Puts a waiting slot into the page's queue.
+    /// Puts a waiting slot into the page's queue.
     fn push_slot<C: Ledger>(&mut self, page: PageId, copies: &mut Steps<C>) -> Result<(), NoMemory>
         requires page { page.0 < length self.old.windows.pages }
-        requires entries { sum_by (λ p. length p.queue) self.old.windows.pages < count_started self.old.nodes }
-        requires slots { sum_by (λ p. p.next) self.old.windows.pages < count_started self.old.nodes }
+        requires entries { sum_by (λ p. length p.queue) self.old.windows.pages
+            < count_started self.old.nodes }
+        requires slots { sum_by (λ p. p.next) self.old.windows.pages
+            < count_started self.old.nodes }
         ensures done { OnOk result (self.new ≡ (s.slotted page self.old).after) }
         ensures copies { RisesBy 32 copies.old copies.new }
     {

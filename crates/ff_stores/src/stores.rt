@@ -6,10 +6,10 @@ ghost use Rattle.ff_machine.specs.Windows as w;
 ghost use Rattle.ff_machine.specs.Valid.{IsStores};
 
 use crate::touched::Touched;
+use ff_contract::Steps;
 use ff_name::{Name, NoMemory};
 use ff_net::{Jar, Requests};
 use ff_nodes::Nodes;
-use ff_steps::Steps;
 use ff_value::{ActId, Val};
 use ff_windows::Windows;
 use std::alloc::Global;
@@ -144,7 +144,7 @@ impl Stores {
     }
 }
 
-// Leaves nothing in stores whose memory has run out.
+/// Leaves nothing in stores whose memory has run out.
 #[cold]
 #[inline(never)]
 #[tactic(auto, using(ff_machine::proofs::Empty::empty_valid))]
@@ -157,8 +157,23 @@ pub(crate) fn leave_nothing(
     mass: &mut u64,
     touched: &mut Touched,
 )
-    ensures empty { record { nodes = nodes.new; windows = windows.new; jar = jar.new; requests = requests.new; mass = mass.new; touched = touched.new } ≡ s.empty }
-    ensures valid { IsStores (record { nodes = nodes.new; windows = windows.new; jar = jar.new; requests = requests.new; mass = mass.new; touched = touched.new }) }
+    ensures empty { record {
+      nodes = nodes.new;
+      windows = windows.new;
+      jar = jar.new;
+      requests =
+          requests.new;
+      mass = mass.new;
+      touched = touched.new;
+    } ≡ s.empty }
+    ensures valid { IsStores (record {
+      nodes = nodes.new;
+      windows = windows.new;
+      jar = jar.new;
+      requests = requests.new;
+      mass = mass.new;
+      touched = touched.new;
+    }) }
 {
     *nodes = Nodes::new(alloc);
     *windows = Windows::new(alloc);

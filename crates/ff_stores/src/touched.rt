@@ -17,9 +17,9 @@ pub(crate) struct Touched {
 impl Model for Touched {
     ghost use Rattle.std.specs.FinSet as finset;
     ghost use Rattle.std.specs.Coded.{coded_ℕ};
-    ghost use Rattle.ff_machine.specs.Stores as record_of;
+    ghost use Rattle.ff_machine.specs.Stores as stores;
 
-    ghost Value = { record_of.Pages };
+    ghost Value = { stores.Pages };
 
     ghost coded = { finset.code coded_ℕ };
 

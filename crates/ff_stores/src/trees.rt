@@ -1,7 +1,7 @@
 //! Trees, texts and handlers.
 ghost use Rattle.std.specs.Prelude.{◌≡◌, ◌+◌, ◌*◌, ◌<◌, None, true, length, is_some, unwrap_or, nat_abs, IfOk, OnOk};
 ghost use Rattle.std.specs.Option.{ForSome};
-ghost use Rattle.ff_steps.specs.Rises.{RisesBy};
+ghost use Rattle.ff_contract.specs.Rises.{RisesBy};
 ghost use Rattle.ff_operators.specs.Answers.{Answers, OnFault};
 ghost use Rattle.ff_tree.specs.Spelled.{IsWellSpelledDoc};
 ghost use Rattle.ff_machine.specs.Nodes as t;
@@ -15,9 +15,9 @@ ghost use Rattle.ff_stores.specs.Copied.{starting};
 
 use crate::stores::Stores;
 use crate::touched::Touched;
+use ff_contract::Steps;
 use ff_name::{NoMemory, Text};
 use ff_operators::{Fail, MOST_MASS, fault_or_emptied};
-use ff_steps::Steps;
 use ff_value::{ActId, Code, Doc, Fault, NodeId, Out, PageId, weight_doc};
 use std::alloc::AllocError;
 use std::sync::ledger::Ledger;
@@ -92,7 +92,8 @@ impl Stores {
         requires lives { n.0 < length self.old.nodes }
         requires has_text { t.text_fault self.old.nodes n ≡ None }
         ensures answer { IfOk result (λ b. b ≡ is_some (s.type_text self.old n text.now)) }
-        ensures done { OnOk result (self.new ≡ unwrap_or (s.type_text self.old n text.now) self.old) }
+        ensures done { OnOk result (self.new ≡ unwrap_or (s.type_text self.old n text.now)
+            self.old) }
         ensures copies { RisesBy 64 copies.old copies.new }
     {
         if !self.may_weigh(text.as_bytes().len() as u64) {
@@ -102,7 +103,7 @@ impl Stores {
         Ok(true)
     }
 
-    // Writes the text of a node that has one, where the mass may grow by it.
+    /// Writes the text of a node that has one, where the mass may grow by it.
     fn write_text<C: Ledger>(
         &mut self,
         n: NodeId,
@@ -147,7 +148,8 @@ impl Stores {
     ) -> Result<(), Fail>
         requires lives { n.0 < length self.old.nodes }
         requires code { IsCode (made self.old) code.now }
-        ensures done { OnOk result (self.new ≡ record self.old { nodes = t.handler_added self.old.nodes n code.now }) }
+        ensures done { OnOk result (self.new ≡ record self.old
+            { nodes = t.handler_added self.old.nodes n code.now }) }
         ensures answer { Answers (t.handler_fault self.old.nodes n code.now) result }
         ensures kept { OnFault result (self.new ≡ self.old) }
         ensures copies { RisesBy 16 copies.old copies.new }
@@ -169,16 +171,19 @@ impl Stores {
     ) -> Result<(), Fail>
         requires parent_lives { parent.0 < length self.old.nodes }
         requires child_lives { child.0 < length self.old.nodes }
-        ensures step { Tries self.old self.new outs.old.items outs.new.items (t.insert_fault self.old.nodes parent child at) (s.insert self.old parent child (nat_abs at)) result }
-        ensures copies { RisesBy (4128 + starting (t.joined self.old.nodes parent child (nat_abs at)) child) copies.old copies.new }
+        ensures step { Tries self.old self.new outs.old.items outs.new.items
+            (t.insert_fault self.old.nodes parent child at)
+            (s.insert self.old parent child (nat_abs at)) result }
+        ensures copies { RisesBy (4128 + starting
+            (t.joined self.old.nodes parent child (nat_abs at)) child) copies.old copies.new }
     {
         let page = self.join(parent, child, at, copies)?;
         self.start_in(page, child, outs, copies)?;
         Ok(())
     }
 
-    // Puts a child under a parent, whose page, if it is in one, counts as changed; answers the
-    // page.
+    /// Puts a child under a parent, whose page, if it is in one, counts as changed; answers the
+    /// page.
     fn join<C: Ledger>(
         &mut self,
         parent: NodeId,
@@ -188,9 +193,14 @@ impl Stores {
     ) -> Result<Option<PageId>, Fail>
         requires parent_lives { parent.0 < length self.old.nodes }
         requires child_lives { child.0 < length self.old.nodes }
-        ensures done { OnOk result (self.new ≡ record self.old { nodes = t.joined self.old.nodes parent child (nat_abs at); touched = s.touched_at self.old parent }) }
+        ensures done { OnOk result (self.new ≡ record self.old {
+          nodes = t.joined self.old.nodes parent child (nat_abs at);
+          touched = s.touched_at
+              self.old parent;
+        }) }
         ensures page { IfOk result (λ page. page ≡ t.page_root_of self.old.nodes parent) }
-        ensures there { IfOk result (λ page. ForSome page (λ p. p.0 < length self.new.windows.pages)) }
+        ensures there { IfOk result (λ page. ForSome page
+            (λ p. p.0 < length self.new.windows.pages)) }
         ensures child { OnOk result (child.0 < length self.new.nodes) }
         ensures answer { Answers (t.insert_fault self.old.nodes parent child at) result }
         ensures kept { OnFault result (self.new ≡ self.old) }
@@ -215,7 +225,7 @@ impl Stores {
     }
 }
 
-// The page, where there is one, counts as changed.
+/// The page, where there is one, counts as changed.
 fn touch(touched: &mut Touched, page: Option<PageId>) -> Result<(), NoMemory>
     ensures { OnOk result (touched.new ≡ s.touch page touched.old) }
 {

@@ -1,18 +1,18 @@
 //! Scripts that may run, and settling.
 ghost use Rattle.std.specs.Prelude.{◌≡◌, ◌<◌, ◌++◌, [], ◌∷◌, None, Some, cond, length, IfOk, OnOk, OnErr, MatchOption};
 ghost use Rattle.std.specs.FinSet as finset;
-ghost use Rattle.ff_steps.specs.Rises.{RisesBy};
+ghost use Rattle.ff_contract.specs.Rises.{RisesBy};
 ghost use Rattle.ff_contract.specs.Appending.{Appends};
 ghost use Rattle.ff_machine.specs.Answers.{Makes};
-ghost use Rattle.ff_machine.specs.Nodes as t;
+ghost use Rattle.ff_machine.specs.Nodes as nodes;
 ghost use Rattle.ff_machine.specs.Stores as s;
-ghost use Rattle.ff_machine.specs.Windows as w;
+ghost use Rattle.ff_machine.specs.Windows as windows;
 
 use crate::sending::put;
 use crate::stores::Stores;
 use crate::touched::Touched;
+use ff_contract::Steps;
 use ff_name::NoMemory;
-use ff_steps::Steps;
 use ff_value::{Body, Out, PageId, WinId};
 use std::sync::ledger::Ledger;
 
@@ -23,7 +23,9 @@ impl Stores {
         &mut self,
         copies: &mut Steps<C>,
     ) -> Result<Option<(PageId, Body)>, NoMemory>
-        ensures done { IfOk result (λ taken. MatchOption taken ((s.take_ready self.old ≡ None) × (self.new ≡ self.old)) (λ script. s.take_ready self.old ≡ Some ((script.0, script.1), self.new))) }
+        ensures done { IfOk result (λ taken. MatchOption taken
+            ((s.take_ready self.old ≡ None) × (self.new ≡ self.old))
+            (λ script. s.take_ready self.old ≡ Some ((script.0, script.1), self.new))) }
         ensures copies { RisesBy 17 copies.old copies.new }
     {
         match self.windows.ready() {
@@ -32,14 +34,16 @@ impl Stores {
         }
     }
 
-    // Takes the script that a page's queue begins with, if it does, out of the queue.
+    /// Takes the script that a page's queue begins with, if it does, out of the queue.
     fn pop_ready<C: Ledger>(
         &mut self,
         page: PageId,
         copies: &mut Steps<C>,
     ) -> Result<Option<(PageId, Body)>, NoMemory>
         requires { page.0 < length self.old.windows.pages }
-        ensures done { IfOk result (λ taken. MatchOption taken ((s.popped_of self.old (Some page) ≡ None) × (self.new ≡ self.old)) (λ script. s.popped_of self.old (Some page) ≡ Some ((script.0, script.1), self.new))) }
+        ensures done { IfOk result (λ taken. MatchOption taken
+            ((s.popped_of self.old (Some page) ≡ None) × (self.new ≡ self.old))
+            (λ script. s.popped_of self.old (Some page) ≡ Some ((script.0, script.1), self.new))) }
         ensures copies { RisesBy 17 copies.old copies.new }
     {
         match self.windows.pop_ready(page, copies) {
@@ -55,17 +59,19 @@ impl Stores {
     /// What was changed is put, as the user sees it, for the open windows in their order. Then
     /// nothing counts as changed.
     pub fn settle(&mut self, outs: &mut Vec<Out>) -> Result<(), NoMemory>
-        ensures step { Makes self.old self.new outs.old.items outs.new.items (s.settle self.old) result }
+        ensures step { Makes self.old self.new outs.old.items outs.new.items (s.settle self.old)
+            result }
     {
         self.put_changed(outs)?;
         self.touched = Touched::new(self.alloc);
         Ok(())
     }
 
-    // Puts what the user sees of the open windows whose pages were changed. Where none was, no
-    // window is asked.
+    /// Puts what the user sees of the open windows whose pages were changed. Where none was, no
+    /// window is asked.
     fn put_changed(&self, outs: &mut Vec<Out>) -> Result<(), NoMemory>
-        ensures { Appends result outs.old.items outs.new.items (s.updates_from self.now 0 self.now.windows.opened) }
+        ensures { Appends result outs.old.items outs.new.items
+            (s.updates_from self.now 0 self.now.windows.opened) }
     {
         if self.touched.is_empty() {
             return Ok(());
@@ -73,9 +79,10 @@ impl Stores {
         self.put_updates(outs)
     }
 
-    // Puts what the user sees of the open windows whose pages were changed, window by window.
+    /// Puts what the user sees of the open windows whose pages were changed, window by window.
     fn put_updates(&self, outs: &mut Vec<Out>) -> Result<(), NoMemory>
-        ensures { Appends result outs.old.items outs.new.items (s.updates_from self.now 0 self.now.windows.opened) }
+        ensures { Appends result outs.old.items outs.new.items
+            (s.updates_from self.now 0 self.now.windows.opened) }
     {
         let mut at = 0;
         while let Some(window) = self.windows.at(at) {
@@ -85,10 +92,15 @@ impl Stores {
         Ok(())
     }
 
-    // Puts what the user sees of a window at a place, if its page was changed.
+    /// Puts what the user sees of a window at a place, if its page was changed.
     fn put_update(&self, at: u32, window: WinId, outs: &mut Vec<Out>) -> Result<(), NoMemory>
         requires { window.0 < length self.now.windows.windows }
-        ensures done { OnOk result (outs.new.items ≡ outs.old.items ++ cond (finset.contains self.now.touched (w.window_at self.now.windows window).page.0) (Out.Updated at (t.shown self.now.nodes (w.page_at self.now.windows (w.window_at self.now.windows window).page).root) ∷ []) []) }
+        ensures done { OnOk result (outs.new.items
+            ≡ outs.old.items ++ cond (finset.contains self.now.touched
+            (windows.window_at self.now.windows window).page.0)
+            (Out.Updated at (nodes.shown self.now.nodes
+            (windows.page_at self.now.windows (windows.window_at self.now.windows
+            window).page).root) ∷ []) []) }
         ensures kept { OnErr result (outs.new.items ≡ outs.old.items) }
     {
         let page = self.windows.page(window);

@@ -1,17 +1,17 @@
 //! Variables and activations.
 ghost use Rattle.std.specs.Prelude.{◌≡◌, ◌+◌, ◌*◌, ◌<◌, length, IfOk, OnOk, All};
-ghost use Rattle.ff_steps.specs.Rises.{RisesBy};
+ghost use Rattle.ff_contract.specs.Rises.{RisesBy};
 ghost use Rattle.ff_operators.specs.Answers.{Answers, OnFault};
 ghost use Rattle.ff_tree.specs.Spelled.{IsVar, AreParams};
-ghost use Rattle.ff_machine.specs.Windows as w;
+ghost use Rattle.ff_machine.specs.Windows as windows;
 ghost use Rattle.ff_machine.specs.Reduction as red;
 ghost use Rattle.ff_machine.specs.References.{made};
 ghost use Rattle.ff_machine.specs.Valid.{IsVal};
 
 use crate::stores::Stores;
+use ff_contract::Steps;
 use ff_name::Name;
 use ff_operators::{Fail, fault_or_emptied};
-use ff_steps::Steps;
 use ff_value::{ActId, Names, Val};
 use std::sync::ledger::Ledger;
 
@@ -28,8 +28,9 @@ impl Stores {
         requires lives { a.0 < length self.old.windows.acts }
         requires name { IsVar x.now }
         requires value { IsVal (made self.old) v.now }
-        ensures done { OnOk result (self.new ≡ red.with_acts self.old (w.set_var self.old.windows.acts a x.now v.now)) }
-        ensures answer { Answers (w.declare_fault self.old.windows.acts a x.now) result }
+        ensures done { OnOk result (self.new ≡ red.with_acts self.old
+            (windows.set_var self.old.windows.acts a x.now v.now)) }
+        ensures answer { Answers (windows.declare_fault self.old.windows.acts a x.now) result }
         ensures kept { OnFault result (self.new ≡ self.old) }
         ensures copies { RisesBy 64 copies.old copies.new }
     {
@@ -47,8 +48,11 @@ impl Stores {
     ) -> Result<(), Fail>
         requires lives { a.0 < length self.old.windows.acts }
         requires value { IsVal (made self.old) v.now }
-        ensures done { OnOk result (self.new ≡ red.with_acts self.old (w.assigned self.old.windows.acts (w.holder self.old.windows.acts a x.now) x.now v.now)) }
-        ensures answer { Answers (w.assign_fault (w.holder self.old.windows.acts a x.now)) result }
+        ensures done { OnOk result (self.new ≡ red.with_acts self.old
+            (windows.assigned self.old.windows.acts (windows.holder self.old.windows.acts a x.now)
+            x.now v.now)) }
+        ensures answer { Answers (windows.assign_fault
+            (windows.holder self.old.windows.acts a x.now)) result }
         ensures kept { OnFault result (self.new ≡ self.old) }
         ensures copies { RisesBy 64 copies.old copies.new }
     {
@@ -68,9 +72,11 @@ impl Stores {
         requires lengths { length params.now ≡ length args.now }
         requires names { AreParams params.now }
         requires values { All (IsVal (made self.old)) args.now }
-        ensures done { OnOk result (self.new ≡ red.with_acts self.old (w.with_act self.old.windows.acts parent params.now args.now)) }
-        ensures number { IfOk result (λ n. n ≡ w.next_act self.old.windows) }
-        ensures answer { Answers (w.call_fault self.old.windows.acts (length params.now)) result }
+        ensures done { OnOk result (self.new ≡ red.with_acts self.old
+            (windows.with_act self.old.windows.acts parent params.now args.now)) }
+        ensures number { IfOk result (λ n. n ≡ windows.next_act self.old.windows) }
+        ensures answer { Answers (windows.call_fault self.old.windows.acts (length params.now))
+            result }
         ensures kept { OnFault result (self.new ≡ self.old) }
         ensures copies { RisesBy (64 * (length params.now + 1)) copies.old copies.new }
     {

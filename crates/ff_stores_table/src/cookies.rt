@@ -3,9 +3,9 @@
 use crate::reading::{domain, parted, text};
 use crate::words::ended;
 use anyhow::{Result, bail};
+use ff_contract::Steps;
 use ff_net::Jar;
 use ff_printing::print_pairs;
-use ff_steps::Steps;
 use std::alloc::Global;
 use std::sync::ledger::Ledger;
 

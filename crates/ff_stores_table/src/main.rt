@@ -2,6 +2,8 @@
 //! each line and what the call answered. A text `*N` is N times the letter `a`, and `*0` the empty
 //! one.
 //!
+//! Floor: beside. Nothing of the browser stands on it.
+//!
 //! - `# TEXT` begins a new case, with new stores, and `## TEXT` is a heading inside a case.
 //! - `each R S LINE` is that line for each pair of a number of the range R and one of S, with these
 //!   in the places of `%` and `&`. The last answer is printed. A range is `FIRST..LAST`, or one

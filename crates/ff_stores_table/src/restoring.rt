@@ -6,6 +6,7 @@ use crate::reading::{domain, name, number, parted, text, whole};
 use crate::requests::destination;
 use crate::stores::Stores;
 use anyhow::{Context, Result, bail};
+use ff_contract::Steps;
 use ff_machine::{Entry, Pending};
 use ff_net::{Jar, Requests};
 use ff_records::{
@@ -13,7 +14,6 @@ use ff_records::{
     Vars, WinIds, WinRec, WinRecs,
 };
 use ff_script::read_body;
-use ff_steps::Steps;
 use ff_value::{ActId, Code, Name, Names, NodeId, PageId, Url, Val, WinId};
 use ff_windows::Windows;
 use std::alloc::Global;

@@ -2,8 +2,8 @@
 
 use crate::restoring::Records;
 use anyhow::Result;
+use ff_contract::Steps;
 use ff_net::{Jar, Requests};
-use ff_steps::Steps;
 use ff_windows::Windows;
 use std::alloc::Global;
 use std::mem;

@@ -8,7 +8,7 @@ use crate::restoring::Records;
 use crate::stores::{Case, Stores};
 use crate::{cookies, queues, records, requests, restoring, variables, windows};
 use anyhow::{Result, bail};
-use ff_steps::Steps;
+use ff_contract::Steps;
 use std::alloc::Global;
 use std::sync::ledger::{Blank, Ledger};
 

@@ -3,8 +3,8 @@
 use crate::reading::{activation, of_letter, parted, variable, whole};
 use crate::words::{ended, refused};
 use anyhow::{Result, bail};
+use ff_contract::Steps;
 use ff_operators::Fail;
-use ff_steps::Steps;
 use ff_value::{ActId, Name, Names, NoMemory, Val};
 use ff_windows::Windows;
 use std::alloc::Global;

@@ -1,5 +1,5 @@
--- The bytes of a trace are read, where each line gives something: some items up to a first bad line,
--- or to their end.
+-- The bytes of a trace are read, where each line gives something: some items up to a first bad
+-- line, or to their end.
 use Rattle.std.proofs.Common.{◌≡◌, ℕ, zero, suc, ◌+◌, ◌==◌, ◌<◌, ◌≤◌, ◌⊎◌, inl, inr, Bool, true, false, cond, Option, Some, None, Result, Ok, Err, List, [], ◌∷◌, length, refl, ap, arith}
 use Rattle.std.proofs.lemmas.Bool.{cases_lt, false≢true}
 use Rattle.ff_io.specs.declared.lines.TheConstants.{MOST_LINE_BYTES, MOST_TRACE_BYTES}

@@ -9,8 +9,8 @@ ghost use Rattle.ff_stream.specs.Items.{ReadsItem, TakesItem, end_by};
 use crate::end::{BadLine, End, Fault};
 use crate::reader::Reader;
 use crate::taker::Taker;
+use ff_contract::Steps;
 use ff_io::{LineFail, Lines, Next, Port, put_all};
-use ff_steps::Steps;
 use std::alloc::Global;
 use std::sync::ledger::Ledger;
 
@@ -27,16 +27,16 @@ pub fn stream<R: Reader, T: Taker<Item = R::Item>, P: Port, C: Ledger, L: Ledger
     state: &mut T::State,
     port: &mut P,
     copies: &mut Steps<C>,
-    steps: &mut Steps<L>,
+    turns: &mut Steps<L>,
 ) -> End<R::Fault>
     requires start { (start : T.Start) × T.is_at taker.now start state.old [] }
     requires fits { (line : List ℕ) (item : R.Item)
         → R.gives reader.now line (Ok (Some item)) → T.accepts taker.now item }
     ensures streams { (start : T.Start) → T.is_at taker.now start state.old []
-        → Streams (R.gives reader.now) (T.entry taker.now start) (T.turns taker.now start)
+        → Streams (R.gives reader.now) (T.entry taker.now start) (T.turns_due taker.now start)
         (T.is_at taker.now start state.new) (P.log port.old) (P.log port.new) (P.rest port.old)
-        (P.rest port.new) steps.old steps.new result }
-    ensures later { steps.old ≤ steps.new }
+        (P.rest port.new) turns.old turns.new result }
+    ensures later { turns.old ≤ turns.new }
     ensures later_writes { P.write_faults port.old ≤ P.write_faults port.new }
     ensures later_copies { copies.old ≤ copies.new }
     ensures uncopied { T.copies_none taker.now → copies.new ≡ copies.old }
@@ -54,15 +54,15 @@ pub fn stream<R: Reader, T: Taker<Item = R::Item>, P: Port, C: Ledger, L: Ledger
             Ok(item) => item,
             Err(end) => return end,
         };
-        match take_item(alloc, taker, state, item, &mut text, port, copies, steps) {
+        match take_item(alloc, taker, state, item, &mut text, port, copies, turns) {
             Ok(()) => (),
             Err(end) => return end,
         }
     }
 }
 
-// Reads the next line and what it gives, and counts it: `number` becomes its number. An error is
-// how the trace ends here.
+/// Reads the next line and what it gives, and counts it: `number` becomes its number. An error is
+/// how the trace ends here.
 fn read_item<R: Reader, P: Port>(
     alloc: Global,
     reader: &R,
@@ -74,7 +74,8 @@ fn read_item<R: Reader, P: Port>(
     requires open { lines.old.failed ≡ false }
     requires few { number.old ≤ MOST_TRACE_BYTES }
     ensures counted { number.new ≡ number.old + 1 }
-    ensures reads { ReadsItem (R.gives reader.now) (P.log port.old) (P.log port.new) (P.rest port.old)
+    ensures reads { ReadsItem (R.gives reader.now) (P.log port.old) (P.log port.new)
+        (P.rest port.old)
         (P.rest port.new) number.new lines.old lines.new result }
     ensures later { P.read_faults port.old ≤ P.read_faults port.new }
     ensures cause { result ≡ Err End.ReadFault
@@ -100,7 +101,7 @@ fn read_item<R: Reader, P: Port>(
     }
 }
 
-// How a trace ends where its line of this number can't be given.
+/// How a trace ends where its line of this number can't be given.
 fn end_of<F>(number: u64, fail: LineFail) -> End<F>
     ensures { result ≡ end_by number fail }
 {
@@ -118,7 +119,7 @@ fn end_of<F>(number: u64, fail: LineFail) -> End<F>
     }
 }
 
-// Takes the item that a line gave, where it gave one, and writes its text.
+/// Takes the item that a line gave, where it gave one, and writes its text.
 fn take_item<F, T: Taker, P: Port, C: Ledger, L: Ledger>(
     alloc: Global,
     taker: &T,
@@ -127,16 +128,18 @@ fn take_item<F, T: Taker, P: Port, C: Ledger, L: Ledger>(
     text: &mut Vec<u8>,
     port: &mut P,
     copies: &mut Steps<C>,
-    steps: &mut Steps<L>,
+    turns: &mut Steps<L>,
 ) -> Result<(), End<F>>
     requires accepts { ForSome item (T.accepts taker.now) }
-    requires at { (start : T.Start) × (items : List T.Item) × T.is_at taker.now start state.old items }
-    ensures takes { (start : T.Start) → TakesItem (T.entry taker.now start) (T.turns taker.now start) (T.is_at taker.now start state.old)
+    requires at { (start : T.Start) × (items : List T.Item)
+        × T.is_at taker.now start state.old items }
+    ensures takes { (start : T.Start) → TakesItem (T.entry taker.now start)
+        (T.turns_due taker.now start) (T.is_at taker.now start state.old)
         (T.is_at taker.now start state.new) (P.log port.old) (P.log port.new) (P.rest port.old)
-        (P.rest port.new) item steps.old steps.new result }
+        (P.rest port.new) item turns.old turns.new result }
     ensures others { P.read_faults port.new ≡ P.read_faults port.old }
     ensures later { P.write_faults port.old ≤ P.write_faults port.new }
-    ensures later_turns { steps.old ≤ steps.new }
+    ensures later_turns { turns.old ≤ turns.new }
     ensures later_copies { copies.old ≤ copies.new }
     ensures uncopied { T.copies_none taker.now → copies.new ≡ copies.old }
     ensures no_read { result ≢ Err End.ReadFault }
@@ -147,7 +150,7 @@ fn take_item<F, T: Taker, P: Port, C: Ledger, L: Ledger>(
         return Ok(());
     };
     text.clear();
-    match taker.take(alloc, state, &item, text, copies, steps) {
+    match taker.take(alloc, state, &item, text, copies, turns) {
         Ok(()) => match put_all(port, text) {
             Ok(()) => Ok(()),
             Err(_) => Err(End::WriteFault),

@@ -1,8 +1,9 @@
 //! What reads a line.
 ghost use Rattle.std.specs.Prelude.{◌≡◌, ◌≤◌, ℕ, List, Option, Result, length, IfOk};
 
+use crate::NoMemory;
 use ff_io::MOST_LINE_BYTES;
-use std::alloc::{AllocError, Global};
+use std::alloc::Global;
 
 /// What reads a line by itself, whatever stands before it.
 pub trait Reader {
@@ -32,7 +33,7 @@ pub trait Reader {
         alloc: Global,
         room: &mut Self::Room,
         line: &[u8],
-    ) -> Result<Result<Option<Self::Item>, Self::Fault>, AllocError>
+    ) -> Result<Result<Option<Self::Item>, Self::Fault>, NoMemory>
         requires { length line.now ≤ MOST_LINE_BYTES }
         ensures { IfOk result (gives self.now line.now) };
 

@@ -6,7 +6,7 @@ use Rattle.ff_value.specs.declared.value.Val.{Val}
 use Rattle.ff_value.specs.declared.value.Val.TheVariants as val
 use Rattle.ff_term.specs.Running.{Running, Runnings, Done, Var, Let, Set, If, While, Do, And, Or, Make, Apply, Tree, Prim, Inside, none, more, is_value, are_values, begins_done, redex, redex_among, rewritten, rewritten_among, innermost, innermost_among, values, vals_of}
 use Rattle.ff_term.specs.Rows.{local_row, branch}
-use Rattle.ff_term.specs.Meets.{Conditions, Meets, MeetAll, how_many}
+use Rattle.ff_term.specs.Conditions.{Conditions, Satisfies, SatisfyAll, how_many}
 
 chosen : (b : Bool) (P : Running → Type 0) (x y : Running) → P x → P y → P (cond b x y)
 chosen true P x y p q = p
@@ -29,16 +29,16 @@ many f (more e es) =
 module _ (c : Conditions) where
   mutual
     -- the redex meets what the expression does
-    pub redex-meets : (e : Running) → Meets c e → Meets c (redex e)
-    redex-meets (Let x e) h = chosen (is_value e) (Meets c) (Let x e) (redex e) h (redex-meets e h.1)
-    redex-meets (Set x e) h = chosen (is_value e) (Meets c) (Set x e) (redex e) h (redex-meets e h.1)
-    redex-meets (If e f g) h = chosen (is_value e) (Meets c) (If e f g) (redex e) h (redex-meets e h.0)
-    redex-meets (Do es) h = chosen (begins_done es) (Meets c) (Do es) (redex_among es) h (redex-among-meets es h)
+    pub redex-meets : (e : Running) → Satisfies c e → Satisfies c (redex e)
+    redex-meets (Let x e) h = chosen (is_value e) (Satisfies c) (Let x e) (redex e) h (redex-meets e h.1)
+    redex-meets (Set x e) h = chosen (is_value e) (Satisfies c) (Set x e) (redex e) h (redex-meets e h.1)
+    redex-meets (If e f g) h = chosen (is_value e) (Satisfies c) (If e f g) (redex e) h (redex-meets e h.0)
+    redex-meets (Do es) h = chosen (begins_done es) (Satisfies c) (Do es) (redex_among es) h (redex-among-meets es h)
     redex-meets (Apply e es) h =
-        chosen (is_value e) (Meets c) (cond (are_values es) (Apply e es) (redex_among es)) (redex e)
-        (chosen (are_values es) (Meets c) (Apply e es) (redex_among es) h (redex-among-meets es h.1)) (redex-meets e h.0)
-    redex-meets (Prim op es) h = chosen (are_values es) (Meets c) (Prim op es) (redex_among es) h (redex-among-meets es h.1)
-    redex-meets (Inside a e) h = chosen (is_value e) (Meets c) (Inside a e) (redex e) h (redex-meets e h.1)
+        chosen (is_value e) (Satisfies c) (cond (are_values es) (Apply e es) (redex_among es)) (redex e)
+        (chosen (are_values es) (Satisfies c) (Apply e es) (redex_among es) h (redex-among-meets es h.1)) (redex-meets e h.0)
+    redex-meets (Prim op es) h = chosen (are_values es) (Satisfies c) (Prim op es) (redex_among es) h (redex-among-meets es h.1)
+    redex-meets (Inside a e) h = chosen (is_value e) (Satisfies c) (Inside a e) (redex e) h (redex-meets e h.1)
     redex-meets (Done v) h = h
     redex-meets (Var x) h = h
     redex-meets (While e f) h = h
@@ -47,9 +47,9 @@ module _ (c : Conditions) where
     redex-meets (Make xs e) h = h
     redex-meets (Tree d) h = h
 
-    redex-among-meets : (es : Runnings) → MeetAll c es → Meets c (redex_among es)
+    redex-among-meets : (es : Runnings) → SatisfyAll c es → Satisfies c (redex_among es)
     redex-among-meets none h = tt
-    redex-among-meets (more e es) h = chosen (is_value e) (Meets c) (redex_among es) (redex e) (redex-among-meets es h.1) (redex-meets e h.0)
+    redex-among-meets (more e es) h = chosen (is_value e) (Satisfies c) (redex_among es) (redex e) (redex-among-meets es h.1) (redex-meets e h.0)
 
   chosen_act : (b : Bool) (x y : ActId) → c.act x → c.act y → c.act (cond b x y)
   chosen_act true x y p q = p
@@ -57,7 +57,7 @@ module _ (c : Conditions) where
 
   mutual
     -- so does the innermost activation, where the one around all does
-    pub innermost-meets : (a : ActId) (e : Running) → c.act a → Meets c e → c.act (innermost a e)
+    pub innermost-meets : (a : ActId) (e : Running) → c.act a → Satisfies c e → c.act (innermost a e)
     innermost-meets a (Let x e) l h = innermost-meets a e l h.1
     innermost-meets a (Set x e) l h = innermost-meets a e l h.1
     innermost-meets a (If e f g) l h = innermost-meets a e l h.0
@@ -74,25 +74,25 @@ module _ (c : Conditions) where
     innermost-meets a (Make xs e) l h = l
     innermost-meets a (Tree d) l h = l
 
-    innermost-among-meets : (a : ActId) (es : Runnings) → c.act a → MeetAll c es → c.act (innermost_among a es)
+    innermost-among-meets : (a : ActId) (es : Runnings) → c.act a → SatisfyAll c es → c.act (innermost_among a es)
     innermost-among-meets a none l h = l
     innermost-among-meets a (more e es) l h =
         chosen_act (is_value e) (innermost_among a es) (innermost a e) (innermost-among-meets a es l h.1) (innermost-meets a e l h.0)
 
-  module _ (g : Running → Running) (keeps : (e : Running) → Meets c e → Meets c (g e)) where
+  module _ (g : Running → Running) (keeps : (e : Running) → Satisfies c e → Satisfies c (g e)) where
     mutual
-      pub rewritten-meets : (e : Running) → Meets c e → Meets c (rewritten g e)
-      rewritten-meets (Let x e) h = chosen (is_value e) (Meets c) (g (Let x e)) (Let x (rewritten g e)) (keeps (Let x e) h) (h.0, rewritten-meets e h.1)
-      rewritten-meets (Set x e) h = chosen (is_value e) (Meets c) (g (Set x e)) (Set x (rewritten g e)) (keeps (Set x e) h) (h.0, rewritten-meets e h.1)
-      rewritten-meets (If e f f') h = chosen (is_value e) (Meets c) (g (If e f f')) (If (rewritten g e) f f') (keeps (If e f f') h) (rewritten-meets e h.0, h.1, h.2)
-      rewritten-meets (Do es) h = chosen (begins_done es) (Meets c) (g (Do es)) (Do (rewritten_among g es)) (keeps (Do es) h) (rewritten-meet-all es h)
+      pub rewritten-meets : (e : Running) → Satisfies c e → Satisfies c (rewritten g e)
+      rewritten-meets (Let x e) h = chosen (is_value e) (Satisfies c) (g (Let x e)) (Let x (rewritten g e)) (keeps (Let x e) h) (h.0, rewritten-meets e h.1)
+      rewritten-meets (Set x e) h = chosen (is_value e) (Satisfies c) (g (Set x e)) (Set x (rewritten g e)) (keeps (Set x e) h) (h.0, rewritten-meets e h.1)
+      rewritten-meets (If e f f') h = chosen (is_value e) (Satisfies c) (g (If e f f')) (If (rewritten g e) f f') (keeps (If e f f') h) (rewritten-meets e h.0, h.1, h.2)
+      rewritten-meets (Do es) h = chosen (begins_done es) (Satisfies c) (g (Do es)) (Do (rewritten_among g es)) (keeps (Do es) h) (rewritten-meet-all es h)
       rewritten-meets (Apply e es) h =
-          chosen (is_value e) (Meets c) (cond (are_values es) (g (Apply e es)) (Apply e (rewritten_among g es))) (Apply (rewritten g e) es)
-          (chosen (are_values es) (Meets c) (g (Apply e es)) (Apply e (rewritten_among g es)) (keeps (Apply e es) h) (h.0, rewritten-meet-all es h.1))
+          chosen (is_value e) (Satisfies c) (cond (are_values es) (g (Apply e es)) (Apply e (rewritten_among g es))) (Apply (rewritten g e) es)
+          (chosen (are_values es) (Satisfies c) (g (Apply e es)) (Apply e (rewritten_among g es)) (keeps (Apply e es) h) (h.0, rewritten-meet-all es h.1))
           (rewritten-meets e h.0, h.1)
       rewritten-meets (Prim op es) h =
-          chosen (are_values es) (Meets c) (g (Prim op es)) (Prim op (rewritten_among g es)) (keeps (Prim op es) h) (rw (many g es) h.0, rewritten-meet-all es h.1)
-      rewritten-meets (Inside a e) h = chosen (is_value e) (Meets c) (g (Inside a e)) (Inside a (rewritten g e)) (keeps (Inside a e) h) (h.0, rewritten-meets e h.1)
+          chosen (are_values es) (Satisfies c) (g (Prim op es)) (Prim op (rewritten_among g es)) (keeps (Prim op es) h) (rw (many g es) h.0, rewritten-meet-all es h.1)
+      rewritten-meets (Inside a e) h = chosen (is_value e) (Satisfies c) (g (Inside a e)) (Inside a (rewritten g e)) (keeps (Inside a e) h) (h.0, rewritten-meets e h.1)
       rewritten-meets (Done v) h = h
       rewritten-meets (Var x) h = keeps (Var x) h
       rewritten-meets (While e f) h = keeps (While e f) h
@@ -101,15 +101,15 @@ module _ (c : Conditions) where
       rewritten-meets (Make xs e) h = keeps (Make xs e) h
       rewritten-meets (Tree d) h = keeps (Tree d) h
 
-      rewritten-meet-all : (es : Runnings) → MeetAll c es → MeetAll c (rewritten_among g es)
+      rewritten-meet-all : (es : Runnings) → SatisfyAll c es → SatisfyAll c (rewritten_among g es)
       rewritten-meet-all none h = tt
       rewritten-meet-all (more e es) h =
-          chosen_list (is_value e) (MeetAll c) (more e (rewritten_among g es)) (more (rewritten g e) es) (h.0, rewritten-meet-all es h.1) (rewritten-meets e h.0, h.1)
+          chosen_list (is_value e) (SatisfyAll c) (more e (rewritten_among g es)) (more (rewritten g e) es) (h.0, rewritten-meet-all es h.1) (rewritten-meets e h.0, h.1)
 
   -- the local rows need only that null and the truth values are fine
   module _ (null : c.val val.Null) (truth : (b : Bool) → c.val (val.Bool b)) where
     -- what a redex becomes that no store decides meets what it does
-    pub local-meets : (e : Running) → Meets c e → Meets c (local_row e)
+    pub local-meets : (e : Running) → Satisfies c e → Satisfies c (local_row e)
     local-meets (While e f) h = (h.0, (h.1, (h, tt)), null)
     local-meets (Do none) h = null
     local-meets (Do (more e none)) h = h.0
@@ -128,7 +128,7 @@ module _ (c : Conditions) where
     local-meets (Prim op es) h = h
 
   -- so does a branch
-  pub branch-meets : (b : Bool) (e : Running) → Meets c e → Meets c (branch b e)
+  pub branch-meets : (b : Bool) (e : Running) → Satisfies c e → Satisfies c (branch b e)
   branch-meets true (If e f g) h = h.1
   branch-meets false (If e f g) h = h.2
   branch-meets b (Done v) h = h

@@ -7,7 +7,7 @@ use Rattle.ff_tree.specs.declared.tree.Expr.{Expr}
 use Rattle.ff_value.specs.declared.ids.ActId.{ActId}
 use Rattle.ff_value.specs.declared.value.Val.{Val}
 use Rattle.ff_term.specs.Running.{Running, Runnings, Done, Var, Let, Set, If, While, Do, And, Or, Make, Apply, Tree, Prim, Inside, none, more, redex, values}
-use Rattle.ff_term.specs.Meets.{Conditions, Meets, MeetAll, how_many}
+use Rattle.ff_term.specs.Conditions.{Conditions, Satisfies, SatisfyAll, how_many}
 use Rattle.ff_term.specs.Redexes.{IsRedexOf, GivesSound}
 use Rattle.ff_term.specs.Redex.{Redex}
 use Rattle.ff_term.specs.Redex as read
@@ -25,7 +25,7 @@ pub record AreWeaker (c d : Conditions) : Type 0 where
 module _ (c d : Conditions) (w : AreWeaker c d) where
   mutual
     -- what meets the first conditions meets the second
-    pub weaker : (e : Running) → Meets c e → Meets d e
+    pub weaker : (e : Running) → Satisfies c e → Satisfies d e
     weaker (Done v) h = w.val v h
     weaker (Var x) h = w.var x h
     weaker (Let x e) h = (w.var x h.0, weaker e h.1)
@@ -42,18 +42,18 @@ module _ (c d : Conditions) (w : AreWeaker c d) where
     weaker (Inside a e) h = (w.act a h.0, weaker e h.1)
 
     -- the same of lists
-    pub weaker-all : (es : Runnings) → MeetAll c es → MeetAll d es
+    pub weaker-all : (es : Runnings) → SatisfyAll c es → SatisfyAll d es
     weaker-all none h = tt
     weaker-all (more e es) h = (weaker e h.0, weaker-all es h.1)
 
-values-meet : (c : Conditions) (vs : List Val) → MeetAll c (values vs) → All c.val vs
+values-meet : (c : Conditions) (vs : List Val) → SatisfyAll c (values vs) → All c.val vs
 values-meet c [] h = All-nil c.val
 values-meet c (v ∷ vs) h = All-cons c.val v vs h.0 (values-meet c vs h.1)
 
-along : (c : Conditions) {e f : Running} → e ≡ f → Meets c e → Meets c f
-along c p h = subst (Meets c) p h
+along : (c : Conditions) {e f : Running} → e ≡ f → Satisfies c e → Satisfies c f
+along c p h = subst (Satisfies c) p h
 
-gives : (c : Conditions) (r : Redex) (e : Running) → IsRedexOf r e → Meets c e → GivesSound c r
+gives : (c : Conditions) (r : Redex) (e : Running) → IsRedexOf r e → Satisfies c e → GivesSound c r
 gives c read.Local e is h = tt
 gives c (read.Test v) e is h = (along c is.1.1 h).0
 gives c (read.Var x) e is h = along c is h
@@ -66,5 +66,5 @@ gives c (read.Prim op vs) e is h =
 gives c (read.Tree d) e is h = along c is h
 
 -- what the redex of a sound expression hands out is sound
-pub gives-sound : (c : Conditions) (r : Redex) (e : Running) → IsRedexOf r (redex e) → Meets c e → GivesSound c r
+pub gives-sound : (c : Conditions) (r : Redex) (e : Running) → IsRedexOf r (redex e) → Satisfies c e → GivesSound c r
 gives-sound c r e is h = gives c r (redex e) is (redex-meets c e h)

@@ -12,7 +12,7 @@ use Rattle.ff_tree.specs.Spelled.{IsSpelledExpr, IsWellSpelledExpr, most, doc_ne
 use Rattle.ff_tree.proofs.Layers.{IsSpelledExpr-Lit, IsSpelledExpr-Var, IsSpelledExpr-Let, IsSpelledExpr-Set, IsSpelledExpr-If, IsSpelledExpr-While, IsSpelledExpr-Do, IsSpelledExpr-And, IsSpelledExpr-Or, IsSpelledExpr-Make, IsSpelledExpr-Apply, IsSpelledExpr-Tree, IsSpelledExpr-Prim}
 use Rattle.ff_term.specs.Running.{Running}
 use Rattle.ff_term.specs.Whole.{whole, wholes}
-use Rattle.ff_term.specs.Meets.{Conditions, Meets, MeetAll, how_many}
+use Rattle.ff_term.specs.Conditions.{Conditions, Satisfies, SatisfyAll, how_many}
 use Rattle.ff_term.specs.Sources.{TakesSources}
 use Rattle.ff_term.proofs.Forms.{whole-Lit, whole-Var, whole-Let, whole-Set, whole-If, whole-While, whole-Do, whole-And, whole-Or, whole-Make, whole-Apply, whole-Tree, whole-Prim}
 use Rattle.ff_term.proofs.Induction.{Each, ByForms, by_forms}
@@ -34,12 +34,12 @@ many-wholes (e ∷ es) = let p = many-wholes es in omega arith
 module _ (c : Conditions) (t : TakesSources c) where
   -- spelled in whatever depth, and in at most 64 layers
   abbrev Q : Expr → Type 0
-  Q e = IsSpelledExpr e → expr_depth e ≤ 64 → Meets c (whole e)
+  Q e = IsSpelledExpr e → expr_depth e ≤ 64 → Satisfies c (whole e)
 
-  at : {e f : Running} → e ≡ f → Meets c f → Meets c e
-  at {e} {f} p h = subst (Meets c) (sym p) h
+  at : {e f : Running} → e ≡ f → Satisfies c f → Satisfies c e
+  at {e} {f} p h = subst (Satisfies c) (sym p) h
 
-  all-spelled : (es : List Expr) → Each Q es → AllByRecursion IsSpelledExpr es → 1 + most (map expr_depth es) ≤ 64 → MeetAll c (wholes es)
+  all-spelled : (es : List Expr) → Each Q es → AllByRecursion IsSpelledExpr es → 1 + most (map expr_depth es) ≤ 64 → SatisfyAll c (wholes es)
   all-spelled [] q h d = tt
   all-spelled (e ∷ es) q h d = (q.0 h.0 (omega arith), all-spelled es q.1 h.1 (omega arith))
 
@@ -83,5 +83,5 @@ module _ (c : Conditions) (t : TakesSources c) where
   }
 
   -- a well spelled source meets the conditions
-  pub source-meets : (e : Expr) → IsWellSpelledExpr e → Meets c (whole e)
+  pub source-meets : (e : Expr) → IsWellSpelledExpr e → Satisfies c (whole e)
   source-meets e h = by_forms Q spelled_forms e h.spelled h.shallow

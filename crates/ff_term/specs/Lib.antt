@@ -3,7 +3,7 @@ pub mod Coding
 pub mod Calls
 pub mod Whole
 pub mod Rows
-pub mod Meets
+pub mod Conditions
 pub mod Sources
 pub mod Redex
 pub mod Redexes

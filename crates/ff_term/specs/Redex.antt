@@ -5,9 +5,10 @@ use Rattle.ff_tree.specs.declared.tree.Doc.{Doc}
 use Rattle.ff_tree.specs.declared.tree.Expr.{Expr}
 use Rattle.ff_value.specs.declared.value.Val.{Val}
 
--- `Local` where no store decides: a `while`, `do`, `and` or `or`, or the end of a call; `Test` of an
--- `if`; a variable to be read, declared or assigned; a function to be made of its parameters and its
--- body; a function and its arguments; a document to be made into nodes; an operator and its operands
+-- `Local` where no store decides: a `while`, `do`, `and` or `or`, or the end of a call; `Test` of
+-- an `if`; a variable to be read, declared or assigned; a function to be made of its parameters and
+-- its body; a function and its arguments; a document to be made into nodes; an operator and its
+-- operands
 pub data Redex : Type 0 where
   Local : Redex
   Test : Val → Redex

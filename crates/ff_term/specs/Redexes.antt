@@ -4,7 +4,7 @@ use Rattle.ff_value.specs.declared.value.Val.{Val}
 use Rattle.ff_value.specs.declared.value.Val.TheVariants as val
 use Rattle.ff_term.specs.Running.{Running, Done, Var, Let, Set, If, Make, Apply, Tree, Prim, values, vals_of}
 use Rattle.ff_term.specs.Rows.{IsLocal}
-use Rattle.ff_term.specs.Meets.{Conditions}
+use Rattle.ff_term.specs.Conditions.{Conditions}
 use Rattle.ff_term.specs.Redex.{Redex}
 use Rattle.ff_term.specs.Redex as redex
 

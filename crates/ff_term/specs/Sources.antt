@@ -7,7 +7,7 @@ use Rattle.ff_tree.specs.declared.tree.Doc.{Doc}
 use Rattle.ff_tree.specs.declared.tree.Expr.{Expr}
 use Rattle.ff_tree.specs.declared.tree.Lit.{Lit}
 use Rattle.ff_term.specs.Whole.{literal}
-use Rattle.ff_term.specs.Meets.{Conditions}
+use Rattle.ff_term.specs.Conditions.{Conditions}
 
 -- what is spelled meets its condition
 pub record TakesSources (c : Conditions) : Type 0 where

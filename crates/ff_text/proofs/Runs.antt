@@ -19,7 +19,8 @@ use Rattle.ff_text.specs.declared.reader.Mode.{Mode}
 use Rattle.ff_text.specs.declared.reader.Mode.TheVariants as mode
 use Rattle.ff_text.specs.Bytes.{is_word_byte, is_plain_byte}
 use Rattle.ff_text.specs.Classes.{class_of, in_str_of}
-use Rattle.ff_text.specs.Machine.{HasDigit, MakesSome, advance, step, step_in, start, outside, end_str, string_put, word_run, word_put, word_ended, span, value_run, GoesOn, verdict, verdict_of, finish, finish_in, end_items}
+use Rattle.ff_text.specs.Machine.{HasDigit, MakesSome, advance, step, step_in, start, outside, end_str, string_put, word_run, word_put, word_ended, value_run, GoesOn, verdict, verdict_of, finish, finish_in, end_items}
+use Rattle.ff_text.specs.Notation.{span}
 use Rattle.ff_text.proofs.ClassLemmas.{class_of-word}
 use Rattle.ff_text.proofs.Room.{Grows, step_grows}
 use Rattle.ff_text.proofs.Standing.{advance-append, advance-err, advance-none, advance-one}

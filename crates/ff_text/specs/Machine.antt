@@ -1,6 +1,7 @@
 -- The reader as a fold over the bytes. Only private contracts cite it.
 use Rattle.std.specs.Prelude.{◌≡◌, ◌<◌, ◌≤◌, ◌+◌, ◌*◌, ◌⊎◌, ℕ, if◌then◌else◌, nat_lt, Option, Some, None, Result, Ok, Err, List, [], ◌∷◌, ◌++◌, length, drop}
 use Rattle.std.specs.Str.{is_utf8}
+use Rattle.ff_text.specs.Notation.{span}
 use Rattle.ff_text.specs.declared.items.Span.{Span}
 use Rattle.ff_text.specs.declared.items.Sexp.{Sexp}
 use Rattle.ff_text.specs.declared.items.Sexp.TheVariants as sexp
@@ -36,9 +37,6 @@ HasDigit (mode.Digit from slash high) = high < 8
 
 abbrev pub start : Reader
 start = record { opened = []; items = []; at = 0; mode = mode.Between; word = []; value = [] }
-
-abbrev pub span : ℕ → ℕ → Span
-span from to = record { from = from; to = to }
 
 abbrev pub with_item : Reader → Sexp → Reader
 with_item r item = record r { items = r.items ++ item ∷ [] }

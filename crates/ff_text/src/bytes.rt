@@ -51,7 +51,8 @@ pub(crate) fn is_word_byte(b: u8) -> bool
 pub(crate) fn word_front(text: &[u8]) -> usize
     ensures bound { result ≤ length text.now }
     ensures word { IsTrue (list_all bytes.is_word_byte (take result text.now)) }
-    ensures longest { result < length text.now → bytes.is_word_byte (get_or text.now result 0) ≡ false }
+    ensures longest { result < length text.now
+        → bytes.is_word_byte (get_or text.now result 0) ≡ false }
 {
     let mut n = 0;
     while n < text.len() && is_word_byte(text[n]) {
@@ -64,7 +65,8 @@ pub(crate) fn word_front(text: &[u8]) -> usize
 pub(crate) fn plain_front(text: &[u8]) -> usize
     ensures bound { result ≤ length text.now }
     ensures plain { IsTrue (list_all bytes.is_plain_byte (take result text.now)) }
-    ensures longest { result < length text.now → bytes.is_plain_byte (get_or text.now result 0) ≡ false }
+    ensures longest { result < length text.now
+        → bytes.is_plain_byte (get_or text.now result 0) ≡ false }
 {
     let mut n = 0;
     while n < text.len() && is_plain(text[n]) {

@@ -38,7 +38,8 @@ fn print_item(item: &Sexp, out: &mut Vec<u8>) -> Result<(), NoMemory>
 /// Appends the items with a blank between each two.
 #[cycle(print)]
 fn print_parts(parts: &[Sexp], out: &mut Vec<u8>) -> Result<(), NoMemory>
-    ensures { Appends result out.old.items out.new.items (join_with_byte 32 (map spelled parts.now)) }
+    ensures { Appends result out.old.items out.new.items
+        (join_with_byte 32 (map spelled parts.now)) }
 {
     for (i, part) in parts.iter().enumerate() {
         put_blank(i, out)?;
@@ -59,7 +60,8 @@ fn put_blank(at: usize, out: &mut Vec<u8>) -> Result<(), NoMemory>
 pub fn quote(text: &Text, out: &mut Vec<u8>) -> Result<(), NoMemory>
     ensures appends { Appends result out.old.items out.new.items (quoted text.now) }
     // What is printed is read back, and its places are known.
-    ensures again { SpellsItems (quoted text.now) (Str (span 0 (length (quoted text.now))) text.now ∷ []) }
+    ensures again { SpellsItems (quoted text.now)
+        (Str (span 0 (length (quoted text.now))) text.now ∷ []) }
 {
     print_str(text.as_bytes(), out)
 }
@@ -82,7 +84,8 @@ fn put_some(left: &[u8], out: &mut Vec<u8>) -> Result<usize, NoMemory>
     requires { 0 < length left.now }
     ensures some { IfOk result (λ n. 0 < n) }
     ensures within { IfOk result (λ n. n ≤ length left.now) }
-    ensures put { IfOk result (λ n. out.new.items ≡ out.old.items ++ flat_map spelled_byte (take n left.now)) }
+    ensures put { IfOk result (λ n. out.new.items
+        ≡ out.old.items ++ flat_map spelled_byte (take n left.now)) }
     ensures refused { OnErr result (out.new.items ≡ out.old.items) }
 {
     let n = plain_front(left);

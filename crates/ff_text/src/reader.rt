@@ -10,8 +10,8 @@ use crate::bytes::{
     slashed_of, word_front,
 };
 use crate::escaped::is_plain;
+use crate::growing_list::{GrowingList, Stack, WordBytes};
 use crate::items::{Items, Sexp, Span, TextFault};
-use crate::rows::{Row, Stack, WordBytes};
 use ff_name::{MOST_DEPTH, Text};
 use std::alloc::Global;
 
@@ -19,7 +19,7 @@ use std::alloc::Global;
 #[derive(Drop)]
 pub(crate) struct Opened {
     from: u32,
-    before: Row<Sexp>,
+    before: GrowingList<Sexp>,
 }
 
 /// Where the reader stands.
@@ -44,16 +44,16 @@ pub(crate) enum Mode {
 #[derive(Drop)]
 pub(crate) struct Reader {
     opened: Stack<Opened>,
-    items: Row<Sexp>,
+    items: GrowingList<Sexp>,
     at: u32,
     mode: Mode,
     word: WordBytes,
-    value: Row<u8>,
+    value: GrowingList<u8>,
 }
 
 impl Reader {
     /// A reader that puts its items where there are none yet.
-    pub(crate) fn new(alloc: Global, items: Row<Sexp>) -> Reader
+    pub(crate) fn new(alloc: Global, items: GrowingList<Sexp>) -> Reader
         requires { items ≡ [] }
         ensures { result ≡ machine.start }
     {
@@ -63,12 +63,12 @@ impl Reader {
             at: 0,
             mode: Mode::Between,
             word: WordBytes::new(alloc),
-            value: Row::new(alloc),
+            value: GrowingList::new(alloc),
         }
     }
 
-    /// Reads some bytes from the front of all that are left: a word with the byte after it, a string
-    /// without escapes, a run of a string's plain bytes, or else one byte. Answers how many.
+    /// Reads some bytes from the front of all that are left: a word with the byte after it, a
+    /// string without escapes, a run of a string's plain bytes, or else one byte. Answers how many.
     pub(crate) fn take_some(&mut self, alloc: Global, left: &[u8]) -> Result<usize, TextFault>
         requires some { 0 < length left.now }
         requires at { self.old.at + length left.now < 2 ^ 32 }

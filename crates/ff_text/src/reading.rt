@@ -7,9 +7,9 @@ ghost use Rattle.ff_text.specs.Machine.{one_in, one_of, verdict};
 ghost use Rattle.ff_text.specs.Notation.{SpellsItems};
 ghost use Rattle.ff_text.specs.Printed.{AreWellSpelled, IsWellSpelled};
 
+use crate::growing_list::GrowingList;
 use crate::items::{Items, Sexp, TextFault};
 use crate::reader::Reader;
-use crate::rows::Row;
 use std::alloc::Global;
 
 /// The most bytes that a text may have.
@@ -21,11 +21,14 @@ pub fn read_items(alloc: Global, bytes: &[u8]) -> Result<Items, TextFault>
     requires { length bytes.now ≤ MOST_BYTES }
     ensures found { IfOk result (SpellsItems bytes.now) }
     ensures well_spelled { IfOk result AreWellSpelled }
-    ensures only { (items : List Sexp) → SpellsItems bytes.now items → Answers result (Ok items) (Err TextFault.NoMemory) }
-    ensures fault { IfErr result (λ fault. (fault ≡ TextFault.NoMemory) ⊎ FirstFault bytes.now fault) }
-    ensures exact { (fault : TextFault) → FirstFault bytes.now fault → Answers result (Err fault) (Err TextFault.NoMemory) }
+    ensures only { (items : List Sexp) → SpellsItems bytes.now items
+        → Answers result (Ok items) (Err TextFault.NoMemory) }
+    ensures fault { IfErr result (λ fault. (fault ≡ TextFault.NoMemory)
+        ⊎ FirstFault bytes.now fault) }
+    ensures exact { (fault : TextFault) → FirstFault bytes.now fault
+        → Answers result (Err fault) (Err TextFault.NoMemory) }
 {
-    read_whole(alloc, Row::new(alloc), bytes)
+    read_whole(alloc, GrowingList::new(alloc), bytes)
 }
 
 /// Reads all items of a text as `read_items` does, in the room of a list whose items go: who reads
@@ -34,11 +37,14 @@ pub fn read_items_in(alloc: Global, room: Items, bytes: &[u8]) -> Result<Items, 
     requires { length bytes.now ≤ MOST_BYTES }
     ensures found { IfOk result (SpellsItems bytes.now) }
     ensures well_spelled { IfOk result AreWellSpelled }
-    ensures only { (items : List Sexp) → SpellsItems bytes.now items → Answers result (Ok items) (Err TextFault.NoMemory) }
-    ensures fault { IfErr result (λ fault. (fault ≡ TextFault.NoMemory) ⊎ FirstFault bytes.now fault) }
-    ensures exact { (fault : TextFault) → FirstFault bytes.now fault → Answers result (Err fault) (Err TextFault.NoMemory) }
+    ensures only { (items : List Sexp) → SpellsItems bytes.now items
+        → Answers result (Ok items) (Err TextFault.NoMemory) }
+    ensures fault { IfErr result (λ fault. (fault ≡ TextFault.NoMemory)
+        ⊎ FirstFault bytes.now fault) }
+    ensures exact { (fault : TextFault) → FirstFault bytes.now fault
+        → Answers result (Err fault) (Err TextFault.NoMemory) }
 {
-    read_whole(alloc, Row::in_room_of(room), bytes)
+    read_whole(alloc, GrowingList::in_room_of(room), bytes)
 }
 
 /// Reads a text that is one item. After the faults of the text come `Empty`, and `Extra` at the
@@ -47,9 +53,12 @@ pub fn read(alloc: Global, bytes: &[u8]) -> Result<Sexp, TextFault>
     requires { length bytes.now ≤ MOST_BYTES }
     ensures found { IfOk result (λ item. SpellsItems bytes.now (item ∷ [])) }
     ensures well_spelled { IfOk result IsWellSpelled }
-    ensures only { (item : Sexp) → SpellsItems bytes.now (item ∷ []) → Answers result (Ok item) (Err TextFault.NoMemory) }
-    ensures fault { IfErr result (λ fault. (fault ≡ TextFault.NoMemory) ⊎ SingleFault bytes.now fault) }
-    ensures exact { (fault : TextFault) → SingleFault bytes.now fault → Answers result (Err fault) (Err TextFault.NoMemory) }
+    ensures only { (item : Sexp) → SpellsItems bytes.now (item ∷ [])
+        → Answers result (Ok item) (Err TextFault.NoMemory) }
+    ensures fault { IfErr result (λ fault. (fault ≡ TextFault.NoMemory)
+        ⊎ SingleFault bytes.now fault) }
+    ensures exact { (fault : TextFault) → SingleFault bytes.now fault
+        → Answers result (Err fault) (Err TextFault.NoMemory) }
 {
     read_single(alloc, bytes)
 }
@@ -58,7 +67,7 @@ fn read_single(alloc: Global, bytes: &[u8]) -> Result<Sexp, TextFault>
     requires { length bytes.now ≤ MOST_BYTES }
     ensures { Answers result (one_in (verdict bytes.now)) (Err TextFault.NoMemory) }
 {
-    match read_whole(alloc, Row::new(alloc), bytes) {
+    match read_whole(alloc, GrowingList::new(alloc), bytes) {
         Ok(items) => single(items),
         Err(fault) => Err(fault),
     }
@@ -89,7 +98,7 @@ fn place_of(item: &Sexp) -> u32
     }
 }
 
-fn read_whole(alloc: Global, items: Row<Sexp>, bytes: &[u8]) -> Result<Items, TextFault>
+fn read_whole(alloc: Global, items: GrowingList<Sexp>, bytes: &[u8]) -> Result<Items, TextFault>
     requires bytes { length bytes.now ≤ MOST_BYTES }
     requires none { items ≡ [] }
     ensures { Answers result (verdict bytes.now) (Err TextFault.NoMemory) }

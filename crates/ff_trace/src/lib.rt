@@ -1,5 +1,15 @@
 //! The lines of a trace, which are inputs, and the lines that the program writes, which are
 //! outputs.
+//!
+//! Floor: notation. It knows not what a machine makes of what is read.
+//!
+//! ```text
+//! let mut room = Room::new(alloc);
+//! match read_input(alloc, &mut room, b"click 0 0", policy.lattice())? {
+//!     Some(input) => print_input(&input, policy.lattice(), &mut text)?,
+//!     None => {} // a comment, or blanks alone
+//! }
+//! ```
 #![tactic(auto)]
 
 mod acts;

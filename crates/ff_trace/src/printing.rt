@@ -18,17 +18,21 @@ use ff_value::{Act, Input, Out, Pairs, Worded};
 /// Appends an input as a line with its newline. After `NoMemory` a front of it was appended.
 pub fn print_input(input: &Input, lattice: &Lattice, out: &mut Vec<u8>) -> Result<(), NoMemory>
     requires { IsTag lattice.now input.now.tag }
-    ensures appends { Appends result out.old.items out.new.items (input_line lattice.now input.now) }
+    ensures appends { Appends result out.old.items out.new.items
+        (input_line lattice.now input.now) }
     // What is printed is read back as the same input.
-    ensures again { IsWellSpelledInput input.now → ReadsLine lattice.now (input_text lattice.now input.now) (Ok (Some input.now)) }
-    ensures one_line { IsWellSpelledInput input.now → All (λ b. b ≢ 10) (input_text lattice.now input.now) }
+    ensures again { IsWellSpelledInput input.now
+        → ReadsLine lattice.now (input_text lattice.now input.now) (Ok (Some input.now)) }
+    ensures one_line { IsWellSpelledInput input.now
+        → All (λ b. b ≢ 10) (input_text lattice.now input.now) }
 {
     print_input_line(input, lattice, out)
 }
 
 fn print_input_line(input: &Input, lattice: &Lattice, out: &mut Vec<u8>) -> Result<(), NoMemory>
     requires { IsTag lattice.now input.now.tag }
-    ensures appends { Appends result out.old.items out.new.items (input_line lattice.now input.now) }
+    ensures appends { Appends result out.old.items out.new.items
+        (input_line lattice.now input.now) }
     ensures known { IfSome input.now.tag (λ _. IsOrder lattice.now) }
 {
     print_tag(input.tag, lattice, out)?;
@@ -51,7 +55,8 @@ fn print_tag(tag: Option<Level>, lattice: &Lattice, out: &mut Vec<u8>) -> Result
 /// Appends `@`, the name of a level and a blank.
 fn print_at(level: Level, lattice: &Lattice, out: &mut Vec<u8>) -> Result<(), NoMemory>
     requires { level.0 < size lattice.now }
-    ensures appends { Appends result out.old.items out.new.items (64 ∷ (name lattice.now level.0 ++ 32 ∷ [])) }
+    ensures appends { Appends result out.old.items out.new.items
+        (64 ∷ (name lattice.now level.0 ++ 32 ∷ [])) }
     ensures known { IsOrder lattice.now }
 {
     let name = lattice.name(level);
@@ -63,7 +68,8 @@ fn print_at(level: Level, lattice: &Lattice, out: &mut Vec<u8>) -> Result<(), No
 /// Appends the name of a level and a blank.
 fn print_name(level: Level, lattice: &Lattice, out: &mut Vec<u8>) -> Result<(), NoMemory>
     requires { level.0 < size lattice.now }
-    ensures appends { Appends result out.old.items out.new.items (name lattice.now level.0 ++ 32 ∷ []) }
+    ensures appends { Appends result out.old.items out.new.items
+        (name lattice.now level.0 ++ 32 ∷ []) }
     ensures known { IsOrder lattice.now }
 {
     put_all(lattice.name(level).as_bytes(), out)?;
@@ -79,7 +85,8 @@ fn print_act(act: &Act, out: &mut Vec<u8>) -> Result<(), NoMemory>
 
 /// Appends a word and the parts of an act.
 fn print_kind<'a>(head: &'a [u8], act: &'a Act, out: &mut Vec<u8>) -> Result<(), NoMemory>
-    ensures { Appends result out.old.items out.new.items (joined (word head.now ∷ act_parts act.now)) }
+    ensures { Appends result out.old.items out.new.items
+        (joined (word head.now ∷ act_parts act.now)) }
 {
     match act {
         Act::Opens(url) => print_parts(&[Part::Word(head), Part::Address(url)], out),
@@ -127,10 +134,13 @@ pub fn print_out(
     out: &mut Vec<u8>,
 ) -> Result<(), NoMemory>
     requires { level.0 < size lattice.now }
-    ensures appends { Appends result out.old.items out.new.items (out_line lattice.now level.0 one.now) }
-    ensures one_line { IsWellSpelledOut one.now → All (λ b. b ≢ 10) (headed lattice.now level.0 one.now) }
+    ensures appends { Appends result out.old.items out.new.items
+        (out_line lattice.now level.0 one.now) }
+    ensures one_line { IsWellSpelledOut one.now
+        → All (λ b. b ≢ 10) (headed lattice.now level.0 one.now) }
     // The name of the level is what stands before the first blank of the line.
-    ensures headed { take_while (λ b. not (b == 32)) (out_line lattice.now level.0 one.now) ≡ name lattice.now level.0 }
+    ensures headed { take_while (λ b. not (b == 32)) (out_line lattice.now level.0 one.now)
+        ≡ name lattice.now level.0 }
 {
     print_out_line(level, lattice, one, out)
 }
@@ -142,7 +152,8 @@ fn print_out_line(
     out: &mut Vec<u8>,
 ) -> Result<(), NoMemory>
     requires { level.0 < size lattice.now }
-    ensures appends { Appends result out.old.items out.new.items (out_line lattice.now level.0 one.now) }
+    ensures appends { Appends result out.old.items out.new.items
+        (out_line lattice.now level.0 one.now) }
     ensures known { IsOrder lattice.now }
 {
     print_name(level, lattice, out)?;
@@ -195,7 +206,8 @@ fn print_send<'a>(
     body: &'a Text,
     out: &mut Vec<u8>,
 ) -> Result<(), NoMemory>
-    ensures { Appends result out.old.items out.new.items (out_text (sent.Send domain.now request.now cookies.now body.now)) }
+    ensures { Appends result out.old.items out.new.items
+        (out_text (sent.Send domain.now request.now cookies.now body.now)) }
 {
     let cookies = in_key_order(*out.allocator(), cookies.as_slice())?;
     print_parts(

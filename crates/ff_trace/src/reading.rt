@@ -63,15 +63,19 @@ pub fn read_input(
     ensures found { IfOk result (λ answer. ReadsLine lattice.now line.now (Ok answer)) }
     ensures well_spelled { IfOk result (λ answer. IfSome answer (IsInputOf lattice.now)) }
     // What is spelled so is read.
-    ensures only { (answer : Option Input) → ReadsLine lattice.now line.now (Ok answer) → Gives result (Ok answer) }
-    ensures fault { IfErr result (λ which. (which ≡ LineFault.NoMemory) ⊎ ReadsLine lattice.now line.now (Err which)) }
+    ensures only { (answer : Option Input) → ReadsLine lattice.now line.now (Ok answer)
+        → Gives result (Ok answer) }
+    ensures fault { IfErr result (λ which. (which ≡ LineFault.NoMemory)
+        ⊎ ReadsLine lattice.now line.now (Err which)) }
     // Where this is the first fault, it is answered.
-    ensures exact { (which : LineFault) → ReadsLine lattice.now line.now (Err which) → Gives result (Err which) }
+    ensures exact { (which : LineFault) → ReadsLine lattice.now line.now (Err which)
+        → Gives result (Err which) }
 {
     first_read(alloc, room, line, lattice)
 }
 
-/// The input or the first fault.
+/// The input or the first fault. It stands apart for the prover alone: `read_input` says more of
+/// its answer.
 fn first_read(
     alloc: Global,
     room: &mut Room,
@@ -113,7 +117,8 @@ pub fn is_silent(line: &[u8]) -> bool
 /// The input of a line's items: a tag or none, and an act.
 fn read_tagged(alloc: Global, items: &[Sexp], lattice: &Lattice) -> Result<Option<Input>, LineFault>
     ensures value { Gives result (input_in lattice.now items.now) }
-    ensures well_spelled { AreWellSpelled items.now → IfOk result (λ answer. IfSome answer (IsInputOf lattice.now)) }
+    ensures well_spelled { AreWellSpelled items.now
+        → IfOk result (λ answer. IfSome answer (IsInputOf lattice.now)) }
 {
     match items.split_first() {
         Some((first, rest)) => match tag_of(first) {
@@ -138,7 +143,8 @@ fn read_tagged(alloc: Global, items: &[Sexp], lattice: &Lattice) -> Result<Optio
 
 /// What follows the `@` of a tag, or `None` where the item is no tag.
 fn tag_of(item: &Sexp) -> Option<&[u8]>
-    ensures { MatchOption result (lines.tag_of item.now ≡ None) (λ name. lines.tag_of item.now ≡ Some name.now) }
+    ensures { MatchOption result (lines.tag_of item.now ≡ None)
+        (λ name. lines.tag_of item.now ≡ Some name.now) }
 {
     match item {
         Sexp::Word(_, text) => text.as_bytes().strip_prefix(b"@"),

@@ -2,10 +2,10 @@
 use Rattle.std.proofs.Common.{◌≡◌, ℕ, ◌+◌, ◌<◌, Some, List, [], ◌∷◌, ◌++◌, length, map, All, refl, sym, ap, ap₂, subst, ◌∙◌, arith}
 use Rattle.std.proofs.lemmas.List.Elements.{All-nil, All-push, All-pop}
 use Rattle.std.proofs.lemmas.List.{length-map}
-use Rattle.ff_reactive.specs.Worlds as worlds
-use Rattle.ff_reactive.specs.Worlds.{AreOffers, copy_at, levels, world_arrive, world_turn, world_drain, world_left}
-use Rattle.ff_reactive.proofs.Below.{length-each}
-use Rattle.ff_reactive.proofs.Worlds.{copy-new, levels-new, leaders-turn, leaders-drain}
+use Rattle.ff_confinement.specs.Worlds as worlds
+use Rattle.ff_confinement.specs.Worlds.{AreOffers, copy_at, levels, world_arrive, world_turn, world_drain, world_left}
+use Rattle.ff_confinement.proofs.Below.{length-each}
+use Rattle.ff_confinement.proofs.Worlds.{copy-new, levels-new, leaders-turn, leaders-drain}
 use Rattle.ff_lattice.specs.Order.{size}
 use Rattle.ff_name.specs.declared.levels.Level.{Level}
 use Rattle.ff_value.specs.Spelled.{IsWellSpelledInput}
@@ -22,8 +22,8 @@ use Rattle.ff_session.proofs.Feeding.{seen_fit}
 use Rattle.ff_travel.specs.Beside.{Kept, HasGathered, ArePartsFor, IsKeptFor, IsPoolFor, behind, cut, history_of, kept_now, kept_worlds, none_put, under}
 use Rattle.ff_travel.specs.Force.{first_world, stepped, step_turns, without_last, last_or}
 use Rattle.ff_travel.specs.Travelled.{moved, taken_back}
-use Rattle.ff_commands.specs.declared.command.Command.{Command}
-use Rattle.ff_commands.specs.declared.command.Command.TheVariants.{Arrive, Turn, Drain}
+use Rattle.ff_travel.specs.declared.command.Command.{Command}
+use Rattle.ff_travel.specs.declared.command.Command.TheVariants.{Arrive, Turn, Drain}
 use Rattle.ff_travel.proofs.Beside.{behind-arrive, behind-turn, behind-drain, behind-new, copy-behind, left-behind, cut_again, kept_push}
 use Rattle.ff_travel.proofs.Force.{without_last_push, last_or_push}
 

@@ -1,8 +1,8 @@
 -- Histories of commands in force, and what one command more makes of them.
 use Rattle.std.proofs.Common.{◌≡◌, List, [], ◌∷◌, ◌++◌, refl, sym, ap, ap₂, ◌∙◌}
 use Rattle.ff_policy.specs.Assignment.{Assignment}
-use Rattle.ff_commands.specs.declared.command.Command.{Command}
-use Rattle.ff_commands.specs.declared.command.Command.TheVariants.{Arrive, Turn, Drain, Back, Show}
+use Rattle.ff_travel.specs.declared.command.Command.{Command}
+use Rattle.ff_travel.specs.declared.command.Command.TheVariants.{Arrive, Turn, Drain, Back, Show}
 use Rattle.ff_travel.specs.Force.{Copies, without_last, last_or, force_after, force_from, in_force, stepped, step_turns, first_world, world_from, replay, world_after}
 use Rattle.ff_travel.specs.Shown.{text_at, travel_entry, travel_turns}
 use Rattle.ff_travel.specs.Travelled.{History, Travelled, applied, happened, history_after, new_travel, worlds_before, IsTravelAt}

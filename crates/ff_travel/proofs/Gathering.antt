@@ -4,10 +4,11 @@ use Rattle.std.proofs.lemmas.Bool.{eqb-true, eqb-false}
 use Rattle.ff_machine.specs.Machine.{reactor}
 use Rattle.ff_pool.specs.Pooled as pooled
 use Rattle.ff_pool.specs.Pooled.{Pooled, taken, copy_of}
-use Rattle.ff_reactive.specs.Worlds.{emptied}
-use Rattle.ff_reactive.proofs.Worlds.{copy-take, leaders-take}
-use Rattle.ff_stream.specs.Owed.{Begins}
-use Rattle.ff_travel.specs.Beside.{put_at, under}
+use Rattle.ff_confinement.specs.Worlds.{emptied}
+use Rattle.ff_confinement.proofs.Worlds.{copy-take, leaders-take}
+use Rattle.ff_contract.specs.Lists.{Begins}
+use Rattle.ff_travel.specs.Beside.{under}
+use Rattle.ff_pool.specs.Heads.{outputs_at}
 use Rattle.ff_travel.proofs.Beside.{behind-take}
 use Rattle.ff_value.specs.declared.output.Out.{Out}
 
@@ -19,16 +20,16 @@ pub record IsGathering (before : Pooled) (puts_before : List (List Out)) (now : 
   pub unspent : now.spent ≡ before.spent
   pub levels : pooled.size now ≡ pooled.size before
   pub count : length puts_now ≡ length puts_before
-  pub more : (k : ℕ) → k < length puts_before → Begins (put_at puts_now k) (put_at puts_before k)
+  pub more : (k : ℕ) → k < length puts_before → Begins (outputs_at puts_now k) (outputs_at puts_before k)
 
 module _ (before : Pooled) (puts_before : List (List Out)) (now next : Pooled) (puts_now puts_next : List (List Out)) (l : ℕ) (outs : List Out)
     (at : IsGathering before puts_before now puts_now l) (in_it : l < pooled.size now) (counts : length puts_before ≡ pooled.size before)
-    (made : next ≡ taken now l) (took : outs ≡ (copy_of now l).outputs) (laid : puts_next ≡ set puts_now l (put_at puts_now l ++ outs)) where
+    (made : next ≡ taken now l) (took : outs ≡ (copy_of now l).outputs) (laid : puts_next ≡ set puts_now l (outputs_at puts_now l ++ outs)) where
   in_puts : l < length puts_now
   in_puts = let e = at.levels in let f = at.count in omega (arith, e, f, counts, in_it)
 
-  laid_is : puts_next ≡ set puts_now l (put_at puts_now l ++ (copy_of now l).outputs)
-  laid_is = laid ∙ ap (λ os. set puts_now l (put_at puts_now l ++ os)) took
+  laid_is : puts_next ≡ set puts_now l (outputs_at puts_now l ++ (copy_of now l).outputs)
+  laid_is = laid ∙ ap (λ os. set puts_now l (outputs_at puts_now l ++ os)) took
 
   levels_are : pooled.size next ≡ pooled.size now
   levels_are = ap pooled.size made ∙ ap length (leaders-take (reactor now.fuel) now.world l)
@@ -37,13 +38,13 @@ module _ (before : Pooled) (puts_before : List (List Out)) (now next : Pooled) (
   empty_at k true e lt below = refl
   empty_at k false e lt below = let other = eqb-false k l e in at.taken k (omega (arith, other, lt)) below
 
-  more_at : (k : ℕ) (b : Bool) → (k == l) ≡ b → Begins (put_at puts_now k) (put_at puts_before k) → Begins (put_at (set puts_now l (put_at puts_now l ++ outs)) k) (put_at puts_before k)
+  more_at : (k : ℕ) (b : Bool) → (k == l) ≡ b → Begins (outputs_at puts_now k) (outputs_at puts_before k) → Begins (outputs_at (set puts_now l (outputs_at puts_now l ++ outs)) k) (outputs_at puts_before k)
   more_at k true e begins =
       let same = eqb-true k l e in
-      let longer : put_at (set puts_now l (put_at puts_now l ++ outs)) k ≡ put_at puts_now k ++ outs =
-      ap (λ j. put_at (set puts_now l (put_at puts_now l ++ outs)) j) same ∙ get_or-set_same puts_now l (put_at puts_now l ++ outs) [] in_puts ∙ ap (λ j. put_at puts_now j ++ outs) (sym same) in
-      (begins.0 ++ outs, longer ∙ ap (λ os. os ++ outs) begins.1 ∙ append_assoc (put_at puts_before k) begins.0 outs)
-  more_at k false e begins = (begins.0, get_or-set_other puts_now l k (put_at puts_now l ++ outs) [] (eqb-false k l e) ∙ begins.1)
+      let longer : outputs_at (set puts_now l (outputs_at puts_now l ++ outs)) k ≡ outputs_at puts_now k ++ outs =
+      ap (λ j. outputs_at (set puts_now l (outputs_at puts_now l ++ outs)) j) same ∙ get_or-set_same puts_now l (outputs_at puts_now l ++ outs) [] in_puts ∙ ap (λ j. outputs_at puts_now j ++ outs) (sym same) in
+      (begins.0 ++ outs, longer ∙ ap (λ os. os ++ outs) begins.1 ∙ append_assoc (outputs_at puts_before k) begins.0 outs)
+  more_at k false e begins = (begins.0, get_or-set_other puts_now l k (outputs_at puts_now l ++ outs) [] (eqb-false k l e) ∙ begins.1)
 
   -- one level more
   pub gather_step : IsGathering before puts_before next puts_next (l + 1)
@@ -55,6 +56,6 @@ module _ (before : Pooled) (puts_before : List (List Out)) (now next : Pooled) (
     fuel = ap (λ q. q.fuel) made ∙ at.fuel;
     unspent = ap (λ q. q.spent) made ∙ at.unspent;
     levels = levels_are ∙ at.levels;
-    count = ap length laid ∙ length-set puts_now l (put_at puts_now l ++ outs) ∙ at.count;
-    more = λ k lt. subst (λ ps. Begins (put_at ps k) (put_at puts_before k)) (sym laid) (more_at k (k == l) refl (at.more k lt));
+    count = ap length laid ∙ length-set puts_now l (outputs_at puts_now l ++ outs) ∙ at.count;
+    more = λ k lt. subst (λ ps. Begins (outputs_at ps k) (outputs_at puts_before k)) (sym laid) (more_at k (k == l) refl (at.more k lt));
   }

@@ -8,3 +8,7 @@ pub mod Worlds
 pub mod Owing
 mod Playing
 pub mod Telling
+pub mod Ends
+pub mod Finding
+pub mod Giving
+pub mod Whole

@@ -4,23 +4,25 @@ use Rattle.std.proofs.lemmas.Bool.{lt-ltb}
 use Rattle.std.proofs.lemmas.Grind.{flat_map-append}
 use Rattle.std.proofs.lemmas.List.Concat.{flat_map-cons}
 use Rattle.std.proofs.lemmas.List.Elements.{filter-append}
-use Rattle.ff_reactive.specs.Copies.{below, at_level}
-use Rattle.ff_reactive.specs.Text.{text_of}
-use Rattle.ff_reactive.specs.Worlds.{leader, copy_at, has_work}
+use Rattle.ff_confinement.specs.Copies.{at_level}
+use Rattle.ff_contract.specs.Lists.{below}
+use Rattle.ff_confinement.specs.Text.{text_of}
+use Rattle.ff_confinement.specs.Worlds.{leader, copy_at, has_work}
 use Rattle.ff_lattice.specs.Order.{Order, size, name}
 use Rattle.ff_lattice.specs.LevelSet.{has}
 use Rattle.ff_lattice.specs.declared.names.TheConstants.{MOST_LEVELS}
 use Rattle.ff_lattice.proofs.LevelSets.{has_in_range}
 use Rattle.ff_value.specs.declared.output.Out.{Out}
 use Rattle.ff_machine.specs.Machine.{reactor}
-use Rattle.ff_classes.specs.Classes as classes
+use Rattle.ff_pool.specs.Classes as classes
 use Rattle.ff_pool.specs.Pooled as pooled
 use Rattle.ff_pool.specs.Pooled.{Pooled}
 use Rattle.ff_policy.specs.Assignment.{Assignment}
 use Rattle.ff_session.specs.Levels.{levels}
 use Rattle.ff_travel.specs.Force.{Copies}
 use Rattle.ff_travel.specs.Shown.{names_text, class_of, class_line, lines_put, show_line, shown, work_text}
-use Rattle.ff_travel.specs.Beside.{IsPoolFor, put_at, put_before, under}
+use Rattle.ff_travel.specs.Beside.{IsPoolFor, put_before, under}
+use Rattle.ff_pool.specs.Heads.{outputs_at}
 use Rattle.ff_travel.proofs.Beside.{copy-behind, leaders-behind}
 
 -- two tests that agree on the numbers below n keep the same of them
@@ -99,22 +101,22 @@ module _ (p : Assignment) (puts : List (List Out)) (pool : Pooled) (l : ℕ) (is
   within : l < pooled.size pool
   within = let e = is.levels in omega (arith, e, lt)
 
-  copy_is : copy_at (reactor p.fuel) (under puts pool) l ≡ put_before (put_at puts l) (copy_at (reactor pool.fuel) pool.world l)
+  copy_is : copy_at (reactor p.fuel) (under puts pool) l ≡ put_before (outputs_at puts l) (copy_at (reactor pool.fuel) pool.world l)
   copy_is = ap (λ f. copy_at (reactor f) (under puts pool) l) (sym is.fuel) ∙ copy-behind pool.fuel puts pool.world l within
 
-  lines_beside : text_of (levels p) (at_level (levels p) l (put_at puts l)) ≡ lines_put p (under puts pool) l
+  lines_beside : text_of (levels p) (at_level (levels p) l (outputs_at puts l)) ≡ lines_put p (under puts pool) l
   lines_beside =
       ap (λ os. text_of (levels p) (at_level (levels p) l os))
-      (sym (ap (λ c. c.outputs) copy_is ∙ ap (λ os. put_at puts l ++ os) (is.taken l within) ∙ append-nil (put_at puts l)))
+      (sym (ap (λ c. c.outputs) copy_is ∙ ap (λ os. outputs_at puts l ++ os) (is.taken l within) ∙ append-nil (outputs_at puts l)))
 
   class_beside : class_line p pool.world l ≡ class_line p (under puts pool) l
   class_beside =
       ap₂ (λ ls b. codes "class" ++ (names_text p.order ls ++ (work_text b ++ 10 ∷ [])))
       (ap (λ ls. filter (λ k. leader ls k == leader ls l) (below (length ls))) (sym (leaders-behind pool.fuel puts pool.world)))
-      (sym (ap (has_work (reactor p.fuel)) copy_is ∙ ap (λ f. has_work (reactor p.fuel) (put_before (put_at puts l) (copy_at (reactor f) pool.world l))) is.fuel))
+      (sym (ap (has_work (reactor p.fuel)) copy_is ∙ ap (λ f. has_work (reactor p.fuel) (put_before (outputs_at puts l) (copy_at (reactor f) pool.world l))) is.fuel))
 
   -- the lines together
-  pub shown_printed : (outs : List Out) → outs ≡ put_at puts l → (out a b d : List ℕ) → a ≡ out ++ show_line p.order l → b ≡ a ++ text_of (levels p) (at_level (levels p) l outs) → d ≡ b ++ class_line p pool.world l
+  pub shown_printed : (outs : List Out) → outs ≡ outputs_at puts l → (out a b d : List ℕ) → a ≡ out ++ show_line p.order l → b ≡ a ++ text_of (levels p) (at_level (levels p) l outs) → d ≡ b ++ class_line p pool.world l
       → d ≡ out ++ shown p (under puts pool) l
   unfolding shown
   shown_printed outs outs_are out a b d a_is b_is d_is =

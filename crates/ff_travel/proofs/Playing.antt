@@ -2,15 +2,16 @@
 use Rattle.std.proofs.Common.{◌≡◌, ℕ, ◌+◌, ◌<◌, Bool, true, false, cond, ◌==◌, Option, Some, None, List, [], ◌∷◌, ◌++◌, All, refl, sym, ap, subst, ◌∙◌, append_assoc, append-nil, arith}
 use Rattle.std.specs.List.{cons_option}
 use Rattle.std.proofs.lemmas.List.Elements.{All-nil, All-head, All-tail, filter-append}
-use Rattle.ff_reactive.specs.Copies.{at_level, seen}
-use Rattle.ff_reactive.specs.Runs.{joined, plain}
-use Rattle.ff_reactive.specs.Text.{BeginsWith, text_of}
-use Rattle.ff_reactive.specs.Worlds.{Copy, copy_at, finish, has_work, leader, levels, offer, step_copy}
-use Rattle.ff_reactive.proofs.Below.{get_or-each}
-use Rattle.ff_reactive.proofs.Finishing.{finish_begins, finish_ok, finish_rest, finish_step}
-use Rattle.ff_reactive.proofs.Schedules.{end_of, finish_new_end, finish_offered_end}
-use Rattle.ff_reactive.proofs.Text.{text_of_begins}
-use Rattle.ff_reactive.proofs.Worlds.{copy-arrive, copy-drain, copy-new, copy-turn}
+use Rattle.ff_confinement.specs.Copies.{at_level, seen}
+use Rattle.ff_confinement.specs.Runs.{joined, plain}
+use Rattle.ff_confinement.specs.Text.{text_of}
+use Rattle.ff_contract.specs.Lists.{Begins}
+use Rattle.ff_confinement.specs.Worlds.{Copy, copy_at, finish, has_work, leader, levels, offer, step_copy}
+use Rattle.ff_confinement.proofs.Below.{get_or-each}
+use Rattle.ff_confinement.proofs.Finishing.{finish_begins, finish_ok, finish_rest, finish_step}
+use Rattle.ff_confinement.proofs.Schedules.{end_of, finish_new_end, finish_offered_end}
+use Rattle.ff_confinement.proofs.Text.{text_of_begins}
+use Rattle.ff_confinement.proofs.Worlds.{copy-arrive, copy-drain, copy-new, copy-turn}
 use Rattle.ff_lattice.specs.Order.{size}
 use Rattle.ff_machine.specs.Machine.{reactor}
 use Rattle.ff_machine.specs.State.{State}
@@ -21,9 +22,9 @@ use Rattle.ff_value.specs.Same.{same_input}
 use Rattle.ff_value.specs.declared.input.Input.{Input}
 use Rattle.ff_value.specs.declared.output.Out.{Out}
 use Rattle.ff_session.specs.Levels as session
-use Rattle.ff_commands.specs.Commands.{IsCommandOf}
-use Rattle.ff_commands.specs.declared.command.Command.{Command}
-use Rattle.ff_commands.specs.declared.command.Command.TheVariants.{Arrive, Turn, Drain, Back, Show}
+use Rattle.ff_travel.specs.Commands.{IsCommandOf}
+use Rattle.ff_travel.specs.declared.command.Command.{Command}
+use Rattle.ff_travel.specs.declared.command.Command.TheVariants.{Arrive, Turn, Drain, Back, Show}
 use Rattle.ff_travel.specs.Force.{Copies, arrivals, first_world, in_force, stepped, world_after, world_from}
 use Rattle.ff_travel.specs.Shown.{lines_put, plain_put}
 use Rattle.ff_travel.proofs.Worlds.{AreCopies, all_from, first_copies, stepped_copies}
@@ -103,16 +104,16 @@ module _ (p : Assignment) where
       come_from (first_world p) [] (in_force commands) (all_from (IsCommandOf p.order) [] commands (All-nil (IsCommandOf p.order)) all) come_first
 
   -- the outputs at a level of a longer list begin with those of a shorter one
-  part_begins : (l : ℕ) (whole part : List Out) → BeginsWith whole part → BeginsWith (at_level (session.levels p) l whole) (at_level (session.levels p) l part)
+  part_begins : (l : ℕ) (whole part : List Out) → Begins whole part → Begins (at_level (session.levels p) l whole) (at_level (session.levels p) l part)
   part_begins l whole part begins = (at_level (session.levels p) l begins.0, ap (at_level (session.levels p) l) begins.1 ∙ filter-append (λ o. (session.levels p).level_out o == l) part begins.0)
 
   module _ (commands : List Command) (l : ℕ) (all : All (IsCommandOf p.order) commands) (lt : l < size p.order) where
-    pub shown_begins : BeginsWith (plain_put p l (arrivals (in_force commands))) (lines_put p (world_after p commands) l)
+    pub shown_begins : Begins (plain_put p l (arrivals (in_force commands))) (lines_put p (world_after p commands) l)
     shown_begins =
         text_of_begins (session.levels p) (at_level (session.levels p) l (joined (plain (session.machine p) (seen (session.levels p) l (arrivals (in_force commands))))))
         (at_level (session.levels p) l (copy_at (reactor p.fuel) (world_after p commands) l).outputs)
         (part_begins l (joined (plain (session.machine p) (seen (session.levels p) l (arrivals (in_force commands))))) (copy_at (reactor p.fuel) (world_after p commands) l).outputs
-        (subst (λ c. BeginsWith c.outputs (copy_at (reactor p.fuel) (world_after p commands) l).outputs) ((come_after commands all).come l lt)
+        (subst (λ c. Begins c.outputs (copy_at (reactor p.fuel) (world_after p commands) l).outputs) ((come_after commands all).come l lt)
         (finish_begins (reactor p.fuel) (p.fuel + 1) (copy_at (reactor p.fuel) (world_after p commands) l))))
 
     pub shown_all : has_work (reactor p.fuel) (copy_at (reactor p.fuel) (world_after p commands) l) ≡ false → lines_put p (world_after p commands) l ≡ plain_put p l (arrivals (in_force commands))

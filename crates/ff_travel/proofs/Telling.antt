@@ -14,12 +14,12 @@ use Rattle.ff_stream.specs.declared.end.BadLine.{BadLine}
 use Rattle.ff_stream.proofs.Laws.{reads_each, trace_once}
 use Rattle.ff_session.specs.Claims.{IsAnswered}
 use Rattle.ff_session.specs.Works.{Exchanged, IsOwed, IsWritten}
-use Rattle.ff_commands.specs.Commands.{IsCommandOf}
-use Rattle.ff_commands.specs.Giving as commands
-use Rattle.ff_commands.specs.Once.{gives_once}
-use Rattle.ff_commands.specs.declared.command.Command.{Command}
-use Rattle.ff_commands.specs.declared.command.Command.TheVariants.{Show}
-use Rattle.ff_commands.proofs.Giving.{is_given}
+use Rattle.ff_travel.specs.Commands.{IsCommandOf}
+use Rattle.ff_travel.specs.Giving as giving
+use Rattle.ff_travel.specs.Once.{gives_once}
+use Rattle.ff_travel.specs.declared.command.Command.{Command}
+use Rattle.ff_travel.specs.declared.command.Command.TheVariants.{Show}
+use Rattle.ff_travel.proofs.Giving.{is_given}
 use Rattle.ff_travel.specs.Owed.{travel_duty}
 use Rattle.ff_travel.specs.Shown.{travel_entry}
 use Rattle.ff_travel.specs.Told.{Tells}
@@ -45,14 +45,14 @@ module _ (p : Assignment) (all before after : List Command) (level : Level) (fit
   level_fit : IsCommandOf p.order (Show level)
   level_fit = All-head (IsCommandOf p.order) (Show level) after (all_right (IsCommandOf p.order) before (Show level ∷ after) parted)
 
-module _ {before now : Told} {turns_before turns_now : ℕ} (p : Assignment) (s : Status) (run : Exchanged (commands.Gives p.order) (travel_duty p) before now turns_before turns_now s) where
-  text_so : {holds : List Command → Type 0} (other bad : Option (BadLine TraceFault)) (paid : IsOwed (commands.Gives p.order) (travel_duty p) run.pieces other turns_before turns_now holds) (all : List Command)
-      → IsTrace (commands.Gives p.order) (has_end run.pieces) (got_of run.pieces) all bad → put_of run.pieces ≡ text_of (travel_entry p) all
+module _ {before now : Told} {turns_before turns_now : ℕ} (p : Assignment) (s : Status) (run : Exchanged (giving.Gives p.order) (travel_duty p) before now turns_before turns_now s) where
+  text_so : {holds : List Command → Type 0} (other bad : Option (BadLine TraceFault)) (paid : IsOwed (giving.Gives p.order) (travel_duty p) run.pieces other turns_before turns_now holds) (all : List Command)
+      → IsTrace (giving.Gives p.order) (has_end run.pieces) (got_of run.pieces) all bad → put_of run.pieces ≡ text_of (travel_entry p) all
   text_so other bad paid all reads =
       paid.text_is ∙ ap (text_of (travel_entry p)) (trace_once (gives_once p.order) (has_end run.pieces) (got_of run.pieces) paid.items all other bad paid.read reads).0
 
-  text : (t : Status) → IsAnswered t → IsWritten (commands.Gives p.order) (travel_duty p) t run.pieces turns_before turns_now → (all : List Command) (bad : Option (BadLine TraceFault))
-      → IsTrace (commands.Gives p.order) (has_end run.pieces) (got_of run.pieces) all bad → put_of run.pieces ≡ text_of (travel_entry p) all
+  text : (t : Status) → IsAnswered t → IsWritten (giving.Gives p.order) (travel_duty p) t run.pieces turns_before turns_now → (all : List Command) (bad : Option (BadLine TraceFault))
+      → IsTrace (giving.Gives p.order) (has_end run.pieces) (got_of run.pieces) all bad → put_of run.pieces ≡ text_of (travel_entry p) all
   text Done answered written all bad reads = text_so None bad written.1 all reads
   text Leaks answered written all bad reads = text_so None bad written.1 all reads
   text (Trace number fault) answered written all bad reads = text_so _ bad written.owed_is all reads

@@ -2,24 +2,24 @@
 use Rattle.std.proofs.Common.{◌≡◌, ℕ, ◌+◌, ◌<◌, Bool, true, false, cond, not, ◌||◌, ◌==◌, List, [], ◌∷◌, ◌++◌, length, All, refl, sym, ap, ap₂, ◌∙◌, append-nil, arith}
 use Rattle.std.proofs.lemmas.Bool.{eqb-true, true≢false}
 use Rattle.std.proofs.lemmas.List.Elements.{All-nil, All-cons, All-head, All-tail, All-push}
-use Rattle.ff_reactive.specs.Turns.{Reactor}
-use Rattle.ff_reactive.specs.Worlds.{Copy, World, leader, levels, copy_at, step_copy, waits, works, has_work, world_turn, Ends, IsWorld}
-use Rattle.ff_reactive.proofs.Below.{each_agree}
-use Rattle.ff_reactive.proofs.Classes.{length-split}
-use Rattle.ff_reactive.proofs.Worlds.{new_world_ok, arrive_ok, turn_ok, drain_ok, copies_are, states_same, inboxes_same, levels-new, leaders-arrive, leaders-turn, leaders-drain}
+use Rattle.ff_confinement.specs.Turns.{Reactor}
+use Rattle.ff_confinement.specs.Worlds.{Copy, World, leader, levels, copy_at, step_copy, waits, works, has_work, world_turn, Ends, IsWorld}
+use Rattle.ff_confinement.proofs.Below.{each_agree}
+use Rattle.ff_confinement.proofs.Classes.{length-split}
+use Rattle.ff_confinement.proofs.Worlds.{new_world_ok, arrive_ok, turn_ok, drain_ok, copies_are, states_same, inboxes_same, levels-new, leaders-arrive, leaders-turn, leaders-drain}
 use Rattle.ff_lattice.specs.Order.{size}
 use Rattle.ff_name.specs.declared.levels.Level.{Level}
 use Rattle.ff_machine.specs.Machine.{reactor}
 use Rattle.ff_value.specs.Same.{same_input}
 use Rattle.ff_pool.specs.Heads.{IsWorldOf}
-use Rattle.ff_classes.proofs.Parting.{same_input_decides}
+use Rattle.ff_pool.proofs.Parting.{same_input_decides}
 use Rattle.ff_pool.proofs.Gathering.{ends}
 use Rattle.ff_policy.specs.Assignment.{Assignment}
 use Rattle.ff_route.specs.Route.{offers}
-use Rattle.ff_commands.specs.Commands.{IsCommandOf}
+use Rattle.ff_travel.specs.Commands.{IsCommandOf}
 use Rattle.ff_travel.specs.Force.{Copies, without_last, force_after, force_from, in_force, stepped, first_world, world_from, replay, world_after}
-use Rattle.ff_commands.specs.declared.command.Command.{Command}
-use Rattle.ff_commands.specs.declared.command.Command.TheVariants.{Arrive, Turn, Drain, Back, Show}
+use Rattle.ff_travel.specs.declared.command.Command.{Command}
+use Rattle.ff_travel.specs.declared.command.Command.TheVariants.{Arrive, Turn, Drain, Back, Show}
 use Rattle.ff_travel.proofs.Force.{in_force_push, world_from_push}
 use Rattle.ff_travel.proofs.Carrying.{offers_fit}
 

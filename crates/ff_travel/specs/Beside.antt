@@ -6,10 +6,11 @@ use Rattle.ff_lattice.specs.Order.{size}
 use Rattle.ff_machine.specs.Machine.{reactor}
 use Rattle.ff_machine.specs.State.{State}
 use Rattle.ff_policy.specs.Assignment.{Assignment}
+use Rattle.ff_pool.specs.Heads.{outputs_at}
 use Rattle.ff_pool.specs.Pooled as pooled
 use Rattle.ff_pool.specs.Pooled.{Pooled, coded_pooled}
-use Rattle.ff_reactive.specs.Worlds.{Copy, copy_at, each, levels}
-use Rattle.ff_stream.specs.Owed.{Begins}
+use Rattle.ff_confinement.specs.Worlds.{Copy, copy_at, each, levels}
+use Rattle.ff_contract.specs.Lists.{Begins}
 use Rattle.ff_travel.specs.Force.{Copies}
 use Rattle.ff_travel.specs.Travelled.{History}
 use Rattle.ff_value.specs.declared.input.Input.{Input}
@@ -23,17 +24,13 @@ pub record Kept : Type 0 where
 abbrev pub coded_kept : Coded Kept
 coded_kept = code_by (Pooled × List ℕ) (coded× coded_pooled (coded_list coded_ℕ)) (λ k. (k.pool, k.counts)) (λ p. record { pool = p.0; counts = p.1 }) (λ _. refl)
 
--- the outputs of a level that lie beside
-abbrev pub put_at : List (List Out) → ℕ → List Out
-put_at puts l = slice_index_or puts l []
-
 -- a copy whose outputs stand behind these
 abbrev pub put_before : List Out → Copy Input Out State → Copy Input Out State
 put_before outs c = record { state = c.state; inbox = c.inbox; outputs = outs ++ c.outputs }
 
 -- the copies of a world, each with its outputs behind those that lie beside
 unfoldable pub behind : ℕ → List (List Out) → Copies → Copies
-behind fuel puts w = record { copies = each (λ l. put_before (put_at puts l) (copy_at (reactor fuel) w l)) (levels w); leaders = w.leaders }
+behind fuel puts w = record { copies = each (λ l. put_before (outputs_at puts l) (copy_at (reactor fuel) w l)) (levels w); leaders = w.leaders }
 
 -- the copies of a pool, with what lies beside it
 abbrev pub under : List (List Out) → Pooled → Copies
@@ -41,7 +38,7 @@ under puts pool = behind pool.fuel puts pool.world
 
 -- so many outputs of each level, the first ones
 unfoldable pub cut : List ℕ → List (List Out) → List (List Out)
-cut counts puts = each (λ l. take (slice_index_or counts l 0) (put_at puts l)) (length puts)
+cut counts puts = each (λ l. take (slice_index_or counts l 0) (outputs_at puts l)) (length puts)
 
 -- what lay beside before the first of these steps, and the copies before each of them
 abbrev pub cuts : List Kept → List (List Out) → List (List Out)
@@ -96,4 +93,4 @@ pub record HasGathered (before : Pooled) (puts_before : List (List Out)) (now : 
   pub unspent : now.spent ≡ before.spent
   pub levels : pooled.size now ≡ pooled.size before
   pub count : length puts_now ≡ length puts_before
-  pub more : (l : ℕ) → l < length puts_before → Begins (put_at puts_now l) (put_at puts_before l)
+  pub more : (l : ℕ) → l < length puts_before → Begins (outputs_at puts_now l) (outputs_at puts_before l)

@@ -4,3 +4,8 @@ pub mod Travelled
 pub mod Beside
 pub mod Owed
 pub mod Told
+pub mod Verbs
+pub mod Commands
+pub mod Found
+pub mod Giving
+pub mod Once

@@ -1,18 +1,19 @@
 -- What `show` writes.
 use Rattle.std.specs.Prelude.{ℕ, Bool, true, false, ◌==◌, List, [], ◌∷◌, ◌++◌, codes, filter, flat_map}
-use Rattle.ff_reactive.specs.Copies.{below, at_level, seen}
-use Rattle.ff_reactive.specs.Runs.{joined, plain}
+use Rattle.ff_confinement.specs.Copies.{at_level, seen}
+use Rattle.ff_contract.specs.Lists.{below}
+use Rattle.ff_confinement.specs.Runs.{joined, plain}
 use Rattle.ff_value.specs.declared.input.Input.{Input}
-use Rattle.ff_reactive.specs.Text.{text_of}
-use Rattle.ff_reactive.specs.Worlds as worlds
-use Rattle.ff_reactive.specs.Worlds.{leader, copy_at, has_work}
+use Rattle.ff_confinement.specs.Text.{text_of}
+use Rattle.ff_confinement.specs.Worlds as worlds
+use Rattle.ff_confinement.specs.Worlds.{leader, copy_at, has_work}
 use Rattle.ff_lattice.specs.Order.{Order, name}
 use Rattle.ff_machine.specs.Machine.{reactor}
 use Rattle.ff_policy.specs.Assignment.{Assignment}
 use Rattle.ff_session.specs.Levels.{levels, machine}
 use Rattle.ff_travel.specs.Force.{Copies, world_after, step_turns}
-use Rattle.ff_commands.specs.declared.command.Command.{Command}
-use Rattle.ff_commands.specs.declared.command.Command.TheVariants.{Arrive, Turn, Drain, Back, Show}
+use Rattle.ff_travel.specs.declared.command.Command.{Command}
+use Rattle.ff_travel.specs.declared.command.Command.TheVariants.{Arrive, Turn, Drain, Back, Show}
 
 -- the levels of a level's class, in their order
 abbrev pub class_of : Copies → ℕ → List ℕ

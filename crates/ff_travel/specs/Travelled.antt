@@ -5,8 +5,8 @@ use Rattle.ff_policy.specs.Assignment.{Assignment}
 use Rattle.ff_pool.specs.Pooled.{Pooled, coded_pooled}
 use Rattle.ff_policy.specs.contracts.policy.Policy as policy
 use Rattle.ff_travel.specs.Force.{Copies, without_last, last_or, stepped, in_force, first_world, replay}
-use Rattle.ff_commands.specs.declared.command.Command.{Command}
-use Rattle.ff_commands.specs.declared.command.Command.TheVariants.{Arrive, Turn, Drain, Back, Show}
+use Rattle.ff_travel.specs.declared.command.Command.{Command}
+use Rattle.ff_travel.specs.declared.command.Command.TheVariants.{Arrive, Turn, Drain, Back, Show}
 
 -- the copies as they are, and as they were before each command in force, the first one's first
 pub record History : Type 0 where

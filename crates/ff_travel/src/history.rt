@@ -2,25 +2,23 @@
 ghost use Rattle.std.specs.Prelude.{◌≡◌, ◌≤◌, ◌+◌, ◌++◌, false, true, length, IfOk, OnOk, OnErr};
 ghost use Rattle.ff_contract.specs.Appending.{Appends};
 ghost use Rattle.ff_travel.specs.Beside.{ArePartsFor, history_of, under};
-ghost use Rattle.ff_commands.specs.Commands.{IsCommandOf, MakesNoTurn};
+ghost use Rattle.ff_travel.specs.Commands.{IsCommandOf, MakesNoTurn};
 ghost use Rattle.ff_travel.specs.Force.{step_turns};
 ghost use Rattle.ff_travel.specs.Shown.{text_at};
 ghost use Rattle.ff_travel.specs.Travelled.{applied, happened, new_travel};
 
+use crate::command::Command;
 use crate::kept::Kept;
 use crate::outputs::Outputs;
 use crate::showing::show;
 use crate::steps::{arrive, gather, go_back, keep, new_pool, no_outputs};
-use ff_commands::Command;
+use ff_contract::Steps;
 use ff_policy::Policy;
 use ff_pool::{NoMemory, Pool, Reactor};
-use ff_steps::Steps;
+use ff_session::USUAL_SLICE;
 use std::alloc::{AllocError, Global};
 use std::marker::Model;
 use std::sync::ledger::Ledger;
-
-/// How many steps a class makes at a time where all are drained.
-const SLICE: u32 = 1_000;
 
 /// The copies of a browser `B` for a policy's levels, as they are and as they were before each
 /// command in force.
@@ -50,13 +48,19 @@ impl<'a, B: Reactor> Model for Travel<'a, B> {
 
     ghost coded = { coded_travelled };
 
-    ghost view = { λ t. record { policy = t.policy.now; spent = t.spent; history = history_of t.kept.items t.puts.items t.pool } };
+    ghost view = { λ t. record {
+      policy = t.policy.now;
+      spent = t.spent;
+      history = history_of
+          t.kept.items t.puts.items t.pool;
+    } };
 
-    ghost invariant = { λ t. t.spent ≡ false → ArePartsFor t.policy.now t.kept.items t.puts.items t.pool };
+    ghost invariant = { λ t. t.spent ≡ false
+        → ArePartsFor t.policy.now t.kept.items t.puts.items t.pool };
 }
 
 impl<'a, B: Reactor> Travel<'a, B> {
-    /// A travel under a policy, to which nothing came yet. Its one refusal is want of memory.
+    /// A travel under a policy, to which nothing came yet.
     pub fn new(alloc: Global, policy: &'a Policy) -> Result<Travel<'a, B>, NoMemory>
         ensures { IfOk result (λ travel. travel ≡ new_travel policy.now) }
     {
@@ -108,11 +112,14 @@ impl<'a, B: Reactor> Travel<'a, B> {
         requires { self.old.spent ≡ false → IsCommandOf self.old.policy.order command.now }
         ensures unspent { OnOk result (self.old.spent ≡ false) }
         ensures done { OnOk result (self.new ≡ applied self.old command.now) }
-        ensures text { Appends result out.old.items out.new.items (text_at self.old.policy self.old.history.world command.now) }
+        ensures text { Appends result out.old.items out.new.items
+            (text_at self.old.policy self.old.history.world command.now) }
         ensures spent { OnErr result (self.new.spent ≡ true) }
         ensures policy { self.new.policy ≡ self.old.policy }
-        ensures count { OnOk result (turns.new ≡ turns.old + step_turns self.old.policy self.old.history.world command.now) }
-        ensures most { turns.new ≤ turns.old + step_turns self.old.policy self.old.history.world command.now }
+        ensures count { OnOk result (turns.new
+            ≡ turns.old + step_turns self.old.policy self.old.history.world command.now) }
+        ensures most { turns.new ≤ turns.old + step_turns self.old.policy self.old.history.world
+            command.now }
         ensures turns_later { turns.old ≤ turns.new }
         ensures later { copies.old ≤ copies.new }
         ensures uncopied { MakesNoTurn command.now → copies.new ≡ copies.old }
@@ -155,10 +162,14 @@ fn carry_out<B: Reactor, C: Ledger, L: Ledger>(
     requires parts { ArePartsFor policy.now kept.old.items puts.old.items pool.old }
     requires command { IsCommandOf policy.now.order command.now }
     ensures parts { OnOk result (ArePartsFor policy.now kept.new.items puts.new.items pool.new) }
-    ensures done { OnOk result (history_of kept.new.items puts.new.items pool.new ≡ happened policy.now (history_of kept.old.items puts.old.items pool.old) command.now) }
-    ensures text { OnOk result (out.new.items ≡ out.old.items ++ text_at policy.now (under puts.old.items pool.old) command.now) }
-    ensures count { OnOk result (turns.new ≡ turns.old + step_turns policy.now (under puts.old.items pool.old) command.now) }
-    ensures most { turns.new ≤ turns.old + step_turns policy.now (under puts.old.items pool.old) command.now }
+    ensures done { OnOk result (history_of kept.new.items puts.new.items pool.new
+        ≡ happened policy.now (history_of kept.old.items puts.old.items pool.old) command.now) }
+    ensures text { OnOk result (out.new.items
+        ≡ out.old.items ++ text_at policy.now (under puts.old.items pool.old) command.now) }
+    ensures count { OnOk result (turns.new ≡ turns.old
+        + step_turns policy.now (under puts.old.items pool.old) command.now) }
+    ensures most { turns.new ≤ turns.old + step_turns policy.now (under puts.old.items pool.old)
+        command.now }
     ensures turns_later { turns.old ≤ turns.new }
     ensures later { copies.old ≤ copies.new }
     ensures uncopied { MakesNoTurn command.now → copies.new ≡ copies.old }
@@ -176,7 +187,7 @@ fn carry_out<B: Reactor, C: Ledger, L: Ledger>(
         }
         Command::Drain => {
             keep(alloc, kept, puts.as_slice(), pool, copies)?;
-            pool.drain(SLICE, copies, turns)?;
+            pool.drain(USUAL_SLICE, copies, turns)?;
             gather(pool, puts)
         }
         Command::Back => {

@@ -1,6 +1,6 @@
 //! What `show` writes.
 ghost use Rattle.std.specs.Prelude.{◌≡◌, ◌<◌, ◌++◌, [], ◌∷◌, cond, filter, length, OnOk};
-ghost use Rattle.ff_reactive.specs.Copies.{below};
+ghost use Rattle.ff_contract.specs.Lists.{below};
 ghost use Rattle.ff_lattice.specs.Order.{name, size};
 ghost use Rattle.ff_lattice.specs.LevelSet.{has};
 ghost use Rattle.ff_travel.specs.Beside.{IsPoolFor, under};
@@ -24,7 +24,8 @@ pub(crate) fn show<B: Reactor>(
     requires pool { IsPoolFor policy.now pool.now }
     requires puts { length puts.now ≡ size policy.now.order }
     requires level { level.0 < size policy.now.order }
-    ensures { OnOk result (out.new.items ≡ out.old.items ++ shown policy.now (under puts.now pool.now) level.0) }
+    ensures { OnOk result (out.new.items ≡ out.old.items
+        ++ shown policy.now (under puts.now pool.now) level.0) }
 {
     print_head(policy.lattice(), level, out)?;
     print_level(policy, level, puts[usize::from(level.0)].as_slice(), out)?;
@@ -51,7 +52,8 @@ fn print_class<B: Reactor>(
 ) -> Result<(), NoMemory>
     requires pool { IsPoolFor policy.now pool.now }
     requires level { level.0 < size policy.now.order }
-    ensures { OnOk result (out.new.items ≡ out.old.items ++ class_line policy.now pool.now.world level.0) }
+    ensures { OnOk result (out.new.items ≡ out.old.items
+        ++ class_line policy.now pool.now.world level.0) }
 {
     let class = pool.members(level);
     out.extend_from_slice(b"class")?;
@@ -71,7 +73,8 @@ fn work_of(works: bool) -> &'static [u8]
 /// Appends the names of the levels of a set, each after a blank.
 #[tactic(auto, using(crate::proofs::Naming::names_start, crate::proofs::Naming::names_next, crate::proofs::Naming::names_done))]
 fn print_names(lattice: &Lattice, class: LevelSet, out: &mut Vec<u8>) -> Result<(), NoMemory>
-    ensures { OnOk result (out.new.items ≡ out.old.items ++ names_text lattice.now (filter (has class) (below (size lattice.now)))) }
+    ensures { OnOk result (out.new.items ≡ out.old.items
+        ++ names_text lattice.now (filter (has class) (below (size lattice.now)))) }
 {
     for number in 0..lattice.size() {
         print_if_in(lattice, class, Level(number), out)?;
@@ -87,7 +90,8 @@ fn print_if_in(
     out: &mut Vec<u8>,
 ) -> Result<(), NoMemory>
     requires { level.0 < size lattice.now }
-    ensures { OnOk result (out.new.items ≡ out.old.items ++ cond (has class level.0) (32 ∷ name lattice.now level.0) []) }
+    ensures { OnOk result (out.new.items ≡ out.old.items
+        ++ cond (has class level.0) (32 ∷ name lattice.now level.0) []) }
 {
     let name = lattice.name(level);
     if !class.has(level) {

@@ -10,17 +10,18 @@ ghost use Rattle.ff_route.specs.Route.{offers as offers_for};
 
 use crate::kept::Kept;
 use crate::outputs::Outputs;
+use ff_contract::Steps;
 use ff_policy::Policy;
 use ff_pool::{NoMemory, Pool, Reactor};
 use ff_route::offers;
-use ff_steps::Steps;
 use ff_value::{Input, Level};
 use std::alloc::Global;
 use std::sync::ledger::Ledger;
 
 /// A pool for the levels of a policy, in which nothing came to any of them yet.
 pub(crate) fn new_pool<B: Reactor>(alloc: Global, policy: &Policy) -> Result<Pool<B>, NoMemory>
-    ensures { IfOk result (λ pool. (pool.world ≡ first_world policy.now) × IsPoolFor policy.now pool) }
+    ensures { IfOk result (λ pool. (pool.world ≡ first_world policy.now)
+        × IsPoolFor policy.now pool) }
 {
     Pool::new(alloc, policy.lattice().size(), policy.fuel())
 }
@@ -44,7 +45,8 @@ pub(crate) fn keep<B: Reactor, C: Ledger>(
     pool: &Pool<B>,
     copies: &mut Steps<C>,
 ) -> Result<(), NoMemory>
-    ensures done { OnOk result (kept.new.items ≡ kept.old.items ++ kept_now puts.now pool.now ∷ []) }
+    ensures done { OnOk result (kept.new.items
+        ≡ kept.old.items ++ kept_now puts.now pool.now ∷ []) }
     ensures copies { copies.new ≡ copies.old }
 {
     let fork = pool.fork(copies)?;
@@ -73,7 +75,8 @@ pub(crate) fn arrive<B: Reactor, C: Ledger>(
 ) -> Result<(), NoMemory>
     requires pool { IsPoolFor policy.now pool.old }
     requires input { IsInputOf policy.now.order input.now }
-    ensures done { OnOk result (pool.new ≡ pooled.arrived pool.old (offers_for policy.now input.now)) }
+    ensures done { OnOk result (pool.new ≡ pooled.arrived pool.old
+        (offers_for policy.now input.now)) }
     ensures levels { pooled.size pool.new ≡ pooled.size pool.old }
     ensures copies { copies.new ≡ copies.old }
 {
@@ -105,8 +108,10 @@ pub(crate) fn go_back<B: Reactor>(
     pool: &mut Pool<B>,
 )
     requires { (p : Assignment) × ArePartsFor p kept.old.items puts.old.items pool.old }
-    ensures done { history_of kept.new.items puts.new.items pool.new ≡ taken_back (history_of kept.old.items puts.old.items pool.old) }
-    ensures parts { (p : Assignment) → ArePartsFor p kept.old.items puts.old.items pool.old → ArePartsFor p kept.new.items puts.new.items pool.new }
+    ensures done { history_of kept.new.items puts.new.items pool.new
+        ≡ taken_back (history_of kept.old.items puts.old.items pool.old) }
+    ensures parts { (p : Assignment) → ArePartsFor p kept.old.items puts.old.items pool.old
+        → ArePartsFor p kept.new.items puts.new.items pool.new }
 {
     if let Some(last) = kept.pop() {
         cut_all(puts, last.counts());

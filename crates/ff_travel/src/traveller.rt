@@ -1,18 +1,20 @@
 ghost use Rattle.std.specs.Prelude.{◌≤◌};
 ghost use Rattle.ff_session.specs.Works.{Exchanged};
-ghost use Rattle.ff_commands.specs.Giving.{Gives};
+ghost use Rattle.ff_travel.specs.Giving.{Gives};
 ghost use Rattle.ff_travel.specs.Owed.{travel_duty};
 
+use crate::NoMemory;
+use crate::command::Command;
+use crate::command_reader::CommandReader;
 use crate::history::Travel;
-use ff_commands::{Command, CommandReader};
+use ff_contract::Steps;
 use ff_io::Port;
 use ff_policy::Policy;
 use ff_pool::Reactor;
 use ff_session::status_of;
 use ff_status::Status;
-use ff_steps::Steps;
 use ff_stream::{Taker, stream};
-use std::alloc::{AllocError, Global};
+use std::alloc::Global;
 use std::marker::PhantomData;
 use std::sync::ledger::Ledger;
 
@@ -26,7 +28,7 @@ pub(crate) struct Traveller<'a, B: Reactor> {
 }
 
 impl<'a, B: Reactor> Taker for Traveller<'a, B> {
-    ghost use Rattle.ff_commands.specs.Commands.{IsCommandOf};
+    ghost use Rattle.ff_travel.specs.Commands.{IsCommandOf};
     ghost use Rattle.ff_travel.specs.Shown.{travel_entry, travel_turns};
     ghost use Rattle.ff_travel.specs.Travelled.{IsTravelAt};
 
@@ -38,7 +40,7 @@ impl<'a, B: Reactor> Taker for Traveller<'a, B> {
 
     ghost entry = { λ taker start. travel_entry taker.policy.now };
 
-    ghost turns = { λ taker start. travel_turns taker.policy.now };
+    ghost turns_due = { λ taker start. travel_turns taker.policy.now };
 
     ghost is_at = { λ taker start. IsTravelAt taker.policy.now };
 
@@ -51,9 +53,9 @@ impl<'a, B: Reactor> Taker for Traveller<'a, B> {
         item: &Command,
         text: &mut Vec<u8>,
         copies: &mut Steps<C>,
-        steps: &mut Steps<L>,
-    ) -> Result<(), AllocError> {
-        state.apply(item, text, copies, steps)
+        turns: &mut Steps<L>,
+    ) -> Result<(), NoMemory> {
+        state.apply(item, text, copies, turns)
     }
 }
 
@@ -61,7 +63,7 @@ impl<'a, B: Reactor> Taker for Traveller<'a, B> {
 /// line: before the port is read again, all that the lines that were got show is written. `turns`
 /// counts the turns that turns and drains make, also of those that are taken back later, and
 /// `copies` the cells that are copied.
-#[tactic(auto, using(ff_commands::proofs::Giving::is_given, crate::proofs::Force::fresh_travel))]
+#[tactic(auto, using(crate::proofs::Giving::is_given, crate::proofs::Force::fresh_travel))]
 pub fn travel<B: Reactor, P: Port, C: Ledger, L: Ledger>(
     alloc: Global,
     policy: &Policy,
@@ -69,7 +71,8 @@ pub fn travel<B: Reactor, P: Port, C: Ledger, L: Ledger>(
     copies: &mut Steps<C>,
     turns: &mut Steps<L>,
 ) -> Status
-    ensures exchanged { Exchanged (Gives policy.now.order) (travel_duty policy.now) (P.told port.old) (P.told port.new) turns.old turns.new result }
+    ensures exchanged { Exchanged (Gives policy.now.order) (travel_duty policy.now)
+        (P.told port.old) (P.told port.new) turns.old turns.new result }
     ensures later_copies { copies.old ≤ copies.new }
 {
     let lattice = policy.lattice();

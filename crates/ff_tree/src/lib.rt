@@ -1,4 +1,6 @@
 //! Expressions, documents and operators: the trees that scripts and pages are written in.
+//!
+//! Floor: words. It knows not how they are written in a trace, and not who may see them.
 #![tactic(auto)]
 
 mod limits;

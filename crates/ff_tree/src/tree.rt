@@ -22,9 +22,13 @@ pub type Docs = SharedList<Doc>;
 /// A literal.
 #[derive(Debug, PartialEq, Eq)]
 pub enum Lit {
+    /// `null`.
     Null,
+    /// `true` or `false`.
     Bool(bool),
+    /// A number of 64 bits, in decimal.
     Num(i64),
+    /// A text in quotation marks.
     Str(Text),
 }
 
@@ -114,7 +118,9 @@ impl Expr {
 #[cycle(ast)]
 #[derive(Debug, Drop)]
 pub struct Handler {
+    /// Its one parameter: a VAR.
     pub param: Name,
+    /// What runs where the node is typed into or clicked.
     pub body: Body,
 }
 

@@ -79,7 +79,9 @@ impl Act {
 /// One input: an act, and the level that it was tagged with, if any.
 #[derive(Debug, Drop)]
 pub struct Input {
+    /// The level that `@LEVEL` names, with which its levels are joined.
     pub tag: Option<Level>,
+    /// What happens.
     pub act: Act,
 }
 

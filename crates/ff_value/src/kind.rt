@@ -3,12 +3,19 @@ use ff_name::Worded;
 /// What an input does: the word of its line after the tag, and a key for its level in a policy.
 #[derive(Clone, Copy, Debug, PartialEq, Eq)]
 pub enum Kind {
+    /// `open`.
     Open,
+    /// `go`.
     Go,
+    /// `link`.
     Link,
+    /// `close`.
     Close,
+    /// `type`.
     Type,
+    /// `click`.
     Click,
+    /// `reply`.
     Reply,
 }
 

@@ -82,7 +82,8 @@ impl<'a> Offers<'a> {
     pub fn same(&self, k: usize, l: usize) -> bool
         requires first { k < length self.now }
         requires second { l < length self.now }
-        ensures { result ≡ option_eq same_input (slice_index_or self.now k None) (slice_index_or self.now l None) }
+        ensures { result ≡ option_eq same_input (slice_index_or self.now k None)
+            (slice_index_or self.now l None) }
     {
         same_offer(self.input, &self.offers[k], &self.offers[l])
     }

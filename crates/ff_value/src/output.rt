@@ -8,10 +8,13 @@ use std::cmp::{Eq, PartialEq};
 /// What the user is shown of a node.
 #[derive(Debug, Drop)]
 pub enum ShownPart {
+    /// A text.
     Text(Text),
     /// A link with its address and its label.
     Link(Url, Text),
+    /// A text box, with its text.
     TextBox(Text),
+    /// A button, with its label.
     Button(Text),
     /// A division with what is shown of its parts.
     Div(Shown),
@@ -38,7 +41,9 @@ impl ShownPart {
 /// A key and its value, as of a cookie.
 #[derive(Debug, Drop)]
 pub struct Pair {
+    /// A cookie's key.
     pub key: Text,
+    /// Its value.
     pub value: Text,
 }
 

@@ -42,8 +42,11 @@ impl CookieOp {
 /// What a server answers: its cookie entries and a page, a script or a text.
 #[derive(Debug)]
 pub enum Resp {
+    /// A page of these documents, after these cookies.
     Page(Cookies, Docs),
+    /// A script.
     Script(Cookies, Body),
+    /// Bytes for a callback: a text.
     Data(Cookies, Text),
 }
 

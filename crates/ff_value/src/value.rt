@@ -12,8 +12,11 @@ pub type Codes = SharedList<Code>;
 /// A function: its parameters, its body, and the activation in which it was made.
 #[derive(Debug)]
 pub struct Code {
+    /// Its parameters: VARs, none twice.
     pub params: Names,
+    /// What a call runs.
     pub body: Body,
+    /// The activation that it was made in.
     pub env: ActId,
 }
 
@@ -44,13 +47,19 @@ impl Code {
 /// What an expression of a script becomes.
 #[derive(Debug)]
 pub enum Val {
+    /// Nothing.
     Null,
+    /// A truth value.
     Bool(bool),
+    /// A number of 64 bits.
     Num(i64),
+    /// A text.
     Str(Text),
     /// A window, open or closed.
     Win(WinId),
+    /// A reference to a node.
     Node(NodeId),
+    /// A function.
     Code(Code),
 }
 

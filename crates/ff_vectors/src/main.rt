@@ -2,6 +2,8 @@
 //! ends: the status, what was put and what was reported. The input has one line for each thing that
 //! is said of a case, so anyone can add one.
 //!
+//! Floor: beside. Nothing of the browser stands on it.
+//!
 //! | Line | What it says |
 //! |---|---|
 //! | `# TEXT` | a heading, which begins a new case |
@@ -28,18 +30,21 @@
 //! | `each fetch` | the same for its fetches of files |
 //! | `each report` | whether all else stays where each write of its report fails in turn |
 //! | `each cut` | how it ends where the trace is cut after each of its bytes |
-//! | `each stop` | whether a resumed run is the unbroken one where it stops after each of its lines, is saved and goes on |
+//! | `each stop` | whether it is the unbroken run where it stops after each line and goes on |
 //!
 //! What is said of a case holds for all that is shown after it, up to the next heading. Blank lines
 //! are passed over.
 #![tactic(auto)]
 
+mod case;
 mod ended;
+mod ending;
 mod stops;
 mod sweeps;
+mod texts;
 
+use crate::case::{Case, Part};
 use anyhow::{Context, Result};
-use ff_cases::{Case, Part};
 
 fn main(rt: HostRuntime) -> Result<()> {
     let mut case = Case::new(rt.alloc());

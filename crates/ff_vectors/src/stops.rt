@@ -1,7 +1,9 @@
 //! A resumed run that stops after each line of its trace, is saved there, and goes on.
-use crate::ended::end;
+use crate::case::Case;
+use crate::ended::Ended;
+use crate::ending::end;
+use crate::texts::{is_stop, parts_of};
 use anyhow::Result;
-use ff_cases::{Case, Ended, is_stop, parts_of};
 use std::alloc::{AllocError, Global};
 
 /// How many stops there are, and after how many of them the case goes on as it should.

@@ -1,8 +1,10 @@
 //! A case as it stands, without its attack, over an outside each of whose calls fails in turn, and
 //! over a trace that is cut at each place.
-use crate::ended::end;
+use crate::case::{Case, Part};
+use crate::ended::Ended;
+use crate::ending::end;
+use crate::texts::{count_lines, lines_of, without_last_line};
 use anyhow::Result;
-use ff_cases::{Case, Ended, Part, count_lines, lines_of, without_last_line};
 use std::alloc::{AllocError, Global};
 
 /// How the case ends over its whole trace.

@@ -82,7 +82,8 @@ module _ (recs : WindowsRecs) (v : Windows) (are : AreWindows v) (has : windows_
   pub own_valid : AreOwn (map window_of recs.wins) (map page_of recs.pages)
   own_valid = subst (λ ps. AreOwn (map window_of recs.wins) ps) pages_are (subst (λ (ws : List Window). AreOwn ws v.pages) windows_are are.own)
 
--- The windows that are made of records: where the records are valid, so are they, and they have the records.
+-- The windows that are made of records: where the records are valid, so are they, and they have the
+-- records.
 module _ (acts : List Activation) (recs : WindowsRecs) (valid : AreActs acts) (has : act_recs acts ≡ recs.acts) (pages : ArePages (length acts) (map page_of recs.pages)) (windows : All (IsWindow (length recs.wins) (length recs.pages)) (map window_of recs.wins))
     (opened : AreOpen (length recs.wins) recs.opened) (own : AreOwn (map window_of recs.wins) (map page_of recs.pages)) where
   made : Windows

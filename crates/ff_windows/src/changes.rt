@@ -1,7 +1,7 @@
 //! Pages and windows that are made, shown and closed.
 ghost use Rattle.std.specs.Prelude.{◌≡◌, ◌<◌, ◌≤◌, length, IsTrue, IfOk, OnOk};
 ghost use Rattle.std.specs.Option.{option_copied, ForSome};
-ghost use Rattle.ff_steps.specs.Rises.{RisesBy};
+ghost use Rattle.ff_contract.specs.Rises.{RisesBy};
 ghost use Rattle.ff_machine.specs.Windows as w;
 ghost use Rattle.ff_name.specs.Address.{IsWellSpelled};
 ghost use Rattle.ff_operators.specs.Answers.{Answers, OnFault};
@@ -9,18 +9,18 @@ ghost use Rattle.ff_operators.specs.Answers.{Answers, OnFault};
 use crate::page::PageCell;
 use crate::window::WinCell;
 use crate::windows::Windows;
+use ff_contract::Steps;
 use ff_cow::Cell;
 use ff_machine::MOST_WINDOWS;
 use ff_name::{NoMemory, Text, Url};
 use ff_operators::Fail;
-use ff_steps::Steps;
 use ff_value::{Fault, NodeId, PageId, WinId};
 use std::sync::ledger::Ledger;
 
 impl Windows {
     /// Makes a page, with an activation of its own that has no parent. Its window is one that there
-    /// is or the next one, and its address is well spelled. It is refused with `Limit` exactly where
-    /// there is no room for a page or an activation, and then nothing has changed.
+    /// is or the next one, and its address is well spelled. It is refused with `Limit` exactly
+    /// where there is no room for a page or an activation, and then nothing has changed.
     pub fn add_page<C: Ledger>(
         &mut self,
         url: &Url,
@@ -46,9 +46,9 @@ impl Windows {
         Ok(page)
     }
 
-    /// Opens a window with a page, the last of the open ones. Its opener, if it has one, is a window
-    /// that there is, and its page one whose window is the next one. It is refused with `Limit`
-    /// exactly where 64 windows are open, and then nothing has changed.
+    /// Opens a window with a page, the last of the open ones. Its opener, if it has one, is a
+    /// window that there is, and its page one whose window is the next one. It is refused with
+    /// `Limit` exactly where 64 windows are open, and then nothing has changed.
     pub fn add_window<C: Ledger>(
         &mut self,
         name: Option<&Text>,
@@ -59,7 +59,8 @@ impl Windows {
         requires lives { page.0 < length self.old.pages }
         requires opener_lives { ForSome opener (λ o. o.0 < length self.old.windows) }
         requires of_it { (w.page_at self.old page).win ≡ w.next_win self.old }
-        ensures done { OnOk result (self.new ≡ w.with_window self.old (option_copied name.entry) opener page) }
+        ensures done { OnOk result (self.new ≡ w.with_window self.old (option_copied name.entry)
+            opener page) }
         ensures number { IfOk result (λ n. n ≡ w.next_win self.old) }
         ensures answer { Answers (w.window_fault self.old) result }
         ensures kept { OnFault result (self.new ≡ self.old) }

@@ -1,5 +1,7 @@
 //! Windows, pages with their queues of scripts, and the activations in which scripts run.
 //!
+//! Floor: one browser. It knows of no levels.
+//!
 //! [`Windows`] is seen as the record of that name of the written machine: windows, pages and
 //! activations by their numbers, and the open windows in order of opening. It is valid by itself at
 //! all times, also after want of memory; then it may hold less than before, down to nothing.
@@ -23,4 +25,10 @@ mod restoring;
 mod window;
 mod windows;
 
+pub use ff_machine::Entry;
+pub use ff_name::NoMemory;
+pub use ff_operators::Fail as WinFail;
+pub use ff_records::{
+    ActRec, ActRecs, Entries, PageRec, PageRecs, Variable, Vars, WinIds, WinRec, WinRecs,
+};
 pub use windows::Windows;

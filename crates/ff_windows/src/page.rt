@@ -2,7 +2,7 @@
 ghost use Rattle.std.specs.Prelude.{◌≡◌, ◌<◌, ◌≤◌, suc, [], ◌∷◌, ◌++◌, map, drop, length, filter_map, nat_eq, is_some, IfOk, OnOk};
 ghost use Rattle.std.specs.List.{IsDistinct, list_any};
 ghost use Rattle.std.specs.Option.{option_copied};
-ghost use Rattle.ff_steps.specs.Rises.{RisesBy};
+ghost use Rattle.ff_contract.specs.Rises.{RisesBy};
 ghost use Rattle.ff_machine.specs.Alone.{waiting};
 ghost use Rattle.ff_machine.specs.Windows.{new_page, fill_entry, is_slot, first_ready};
 ghost use Rattle.ff_machine.specs.declared.records.Entry.TheVariants.{Ready, Wait};
@@ -10,11 +10,11 @@ ghost use Rattle.ff_records.specs.Records.{page_rec};
 ghost use Rattle.ff_windows.specs.Recorded.{page_of};
 
 use crate::queue::Queue;
+use ff_contract::Steps;
 use ff_cow::{Cell, Edit};
 use ff_machine::{Entry, MOST_SLOTS};
 use ff_name::{NoMemory, Url};
 use ff_records::PageRec;
-use ff_steps::Steps;
 use ff_value::{ActId, Body, NodeId, WinId};
 use std::alloc::Global;
 use std::marker::Model;
@@ -40,7 +40,15 @@ impl Model for PageCell {
 
     ghost coded = { coded_page };
 
-    ghost view = { λ p. record { url = p.url; win = p.win; root = p.root; act = p.act; next = p.next; queue = p.queue } };
+    ghost view = { λ p. record {
+      url = p.url;
+      win = p.win;
+      root = p.root;
+      act = p.act;
+      next =
+          p.next;
+      queue = p.queue;
+    } };
 }
 
 impl PageCell {
@@ -157,7 +165,8 @@ impl PageCell {
         body: &Body,
         copies: &mut Steps<C>,
     ) -> Result<(), NoMemory>
-        ensures done { OnOk result (self.new ≡ record self.old { queue = self.old.queue ++ Ready body.now ∷ [] }) }
+        ensures done { OnOk result (self.new ≡ record self.old
+            { queue = self.old.queue ++ Ready body.now ∷ [] }) }
         ensures copies { RisesBy 15 copies.old copies.new }
     {
         self.queue.push(Entry::Ready(body.copy()?), copies)
@@ -167,7 +176,8 @@ impl PageCell {
     /// of memory.
     pub(crate) fn push_slot<C: Ledger>(&mut self, copies: &mut Steps<C>) -> Result<(), NoMemory>
         requires { self.old.next < MOST_SLOTS }
-        ensures done { OnOk result (self.new ≡ record self.old { queue = self.old.queue ++ Wait self.old.next ∷ []; next = suc self.old.next }) }
+        ensures done { OnOk result (self.new ≡ record self.old
+            { queue = self.old.queue ++ Wait self.old.next ∷ []; next = suc self.old.next }) }
         ensures copies { RisesBy 15 copies.old copies.new }
     {
         self.queue.push(Entry::Wait(self.next), copies)?;
@@ -183,7 +193,8 @@ impl PageCell {
         copies: &mut Steps<C>,
     ) -> Result<bool, NoMemory>
         requires { IsDistinct nat_eq (filter_map waiting self.old.queue) }
-        ensures done { OnOk result (self.new ≡ record self.old { queue = map (fill_entry slot body.now) self.old.queue }) }
+        ensures done { OnOk result (self.new ≡ record self.old
+            { queue = map (fill_entry slot body.now) self.old.queue }) }
         ensures waits { IfOk result (λ b. b ≡ list_any (is_slot slot) self.old.queue) }
         ensures copies { RisesBy 16 copies.old copies.new }
     {

@@ -1,14 +1,14 @@
 //! The pages, and how many of their queues begin with a script.
 ghost use Rattle.std.specs.Prelude.{◌≡◌, ◌+◌, ◌-◌, ◌^◌, ◌<◌, ◌≤◌, ℕ, false, [], ◌∷◌, ◌++◌, Some, is_some, length, IfOk, OnErr, OnOk, slice_get, slice_index_or, slice_set};
 ghost use Rattle.std.specs.Option.{option_copied};
-ghost use Rattle.ff_steps.specs.Rises.{RisesBy};
+ghost use Rattle.ff_contract.specs.Rises.{RisesBy};
 ghost use Rattle.ff_machine.specs.Windows.{Page, no_page, first_ready};
 ghost use Rattle.ff_windows.specs.Queues.{count_ready, one_if};
 
 use crate::page::PageCell;
+use ff_contract::Steps;
 use ff_cow::{CowVec, Edit};
 use ff_name::NoMemory;
-use ff_steps::Steps;
 use std::alloc::{AllocError, Global};
 use std::marker::Model;
 use std::sync::ledger::Ledger;
@@ -64,7 +64,8 @@ impl Pages {
 
     /// Whether the queue of a page begins with a script, of any page, that of a closed window too.
     pub(crate) fn any_ready(&self) -> bool
-        ensures none { result ≡ false → (i : ℕ) → is_some (first_ready (slice_index_or self.now i no_page).queue) ≡ false }
+        ensures none { result ≡ false → (i : ℕ)
+            → is_some (first_ready (slice_index_or self.now i no_page).queue) ≡ false }
     {
         self.ready > 0
     }
@@ -88,7 +89,8 @@ impl Pages {
         Ok(())
     }
 
-    /// Puts another page at a number that there is. After want of memory the pages are as they were.
+    /// Puts another page at a number that there is. After want of memory the pages are as they
+    /// were.
     pub(crate) fn set<C: Ledger>(
         &mut self,
         i: u32,
@@ -118,7 +120,8 @@ impl Pages {
         copies: &mut Steps<C>,
     ) -> Result<(), NoMemory>
         requires { i < length self.old }
-        ensures done { OnOk result (self.new ≡ slice_set self.old i (E.edited edit (slice_index_or self.old i no_page))) }
+        ensures done { OnOk result (self.new ≡ slice_set self.old i
+            (E.edited edit (slice_index_or self.old i no_page))) }
         ensures kept { OnErr result (self.new ≡ self.old) }
         ensures copies { RisesBy 16 copies.old copies.new }
     {

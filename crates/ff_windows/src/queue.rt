@@ -6,16 +6,16 @@
 ghost use Rattle.std.specs.Prelude.{◌≡◌, ◌<◌, ◌≤◌, Some, [], ◌∷◌, ◌++◌, map, drop, length, filter_map, nat_eq, slice_get, slice_set, IfOk, OnOk};
 ghost use Rattle.std.specs.List.{IsDistinct, list_any, position_or_len};
 ghost use Rattle.std.specs.Option.{option_copied};
-ghost use Rattle.ff_steps.specs.Rises.{RisesBy};
+ghost use Rattle.ff_contract.specs.Rises.{RisesBy};
 ghost use Rattle.ff_machine.specs.Alone.{waiting};
 ghost use Rattle.ff_machine.specs.Windows.{fill_entry, is_slot};
 ghost use Rattle.ff_machine.specs.declared.records.Entry.TheVariants.{Ready};
 
+use ff_contract::Steps;
 use ff_cow::{Cell, CowVec, MOST_CELLS};
 use ff_machine::Entry;
 use ff_name::NoMemory;
 use ff_records::Entries;
-use ff_steps::Steps;
 use ff_value::Body;
 use std::alloc::{AllocError, Global};
 use std::marker::Model;

@@ -1,6 +1,6 @@
 //! The queues of scripts.
 ghost use Rattle.std.specs.Prelude.{◌≡◌, ◌<◌, false, length, MatchOption, IfOk, OnOk};
-ghost use Rattle.ff_steps.specs.Rises.{RisesBy};
+ghost use Rattle.ff_contract.specs.Rises.{RisesBy};
 ghost use Rattle.ff_machine.specs.Windows as w;
 ghost use Rattle.ff_machine.specs.Windows.{first_ready};
 ghost use Rattle.ff_machine.specs.declared.records.Entry.TheVariants.{Ready};
@@ -9,10 +9,10 @@ ghost use Rattle.ff_windows.specs.Queues.{count_entries};
 
 use crate::page::Pop;
 use crate::windows::Windows;
+use ff_contract::Steps;
 use ff_cow::Cell;
 use ff_machine::{MOST_ENTRIES, MOST_SLOTS};
 use ff_name::NoMemory;
-use ff_steps::Steps;
 use ff_value::{Body, PageId};
 use std::sync::ledger::Ledger;
 
@@ -37,8 +37,8 @@ impl Windows {
     }
 
     /// Puts a slot that waits for its script at the end of a page's queue, where all queues
-    /// together have room for an entry and the page for a slot, and answers the slot's number. It is
-    /// refused only for want of memory.
+    /// together have room for an entry and the page for a slot, and answers the slot's number. It
+    /// is refused only for want of memory.
     pub fn push_wait<C: Ledger>(
         &mut self,
         page: PageId,
@@ -82,17 +82,19 @@ impl Windows {
         Ok(waits)
     }
 
-    /// Takes out the script that a page's queue begins with. `None` exactly where the queue is empty
-    /// or begins with a slot that waits; then nothing has changed. It is refused only for want of
-    /// memory.
+    /// Takes out the script that a page's queue begins with. `None` exactly where the queue is
+    /// empty or begins with a slot that waits; then nothing has changed. It is refused only for
+    /// want of memory.
     pub fn pop_ready<C: Ledger>(
         &mut self,
         page: PageId,
         copies: &mut Steps<C>,
     ) -> Result<Option<Body>, NoMemory>
         requires { page.0 < length self.old.pages }
-        ensures value { IfOk result (λ script. script ≡ first_ready (w.page_at self.old page).queue) }
-        ensures done { IfOk result (λ script. MatchOption script (self.new ≡ self.old) (λ _. self.new ≡ w.popped self.old page)) }
+        ensures value { IfOk result (λ script. script
+            ≡ first_ready (w.page_at self.old page).queue) }
+        ensures done { IfOk result (λ script. MatchOption script (self.new ≡ self.old)
+            (λ _. self.new ≡ w.popped self.old page)) }
         ensures copies { RisesBy 17 copies.old copies.new }
     {
         let Some(first) = self.page_of(page).first_ready() else {

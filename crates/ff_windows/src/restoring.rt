@@ -11,16 +11,17 @@ use crate::pages::Pages;
 use crate::window::WinCell;
 use crate::windows::Windows;
 use ff_acts::Acts;
+use ff_contract::Steps;
 use ff_cow::CowVec;
 use ff_name::NoMemory;
 use ff_records::{ActRecs, PageRec, PageRecs, WinIds, WinRec, WinRecs};
-use ff_steps::Steps;
 use std::alloc::{AllocError, Global};
 use std::sync::ledger::Ledger;
 
 impl Windows {
     /// The windows, pages and activations that have these records, whose names, addresses, scripts
-    /// and values they share, with these windows open. `None` exactly where no valid ones have them.
+    /// and values they share, with these windows open. `None` exactly where no valid ones have
+    /// them.
     pub fn restore<C: Ledger>(
         alloc: Global,
         acts: &ActRecs,
@@ -29,7 +30,8 @@ impl Windows {
         opened: &WinIds,
         copies: &mut Steps<C>,
     ) -> Result<Option<Windows>, NoMemory>
-        ensures value { IfOk result (Restores AreWindows windows_recs (record { acts = acts.now; pages = pages.now; wins = wins.now; opened = opened.now })) }
+        ensures value { IfOk result (Restores AreWindows windows_recs
+            (record { acts = acts.now; pages = pages.now; wins = wins.now; opened = opened.now })) }
         ensures later { copies.old ≤ copies.new }
     {
         let Some(acts) = Acts::restore(alloc, acts, copies)? else {

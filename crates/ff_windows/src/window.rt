@@ -5,10 +5,10 @@ ghost use Rattle.std.specs.Str.{IsUtf8};
 ghost use Rattle.ff_machine.specs.Nodes.{is_name};
 ghost use Rattle.ff_records.specs.Records.{win_rec};
 
+use ff_contract::Steps;
 use ff_cow::Cell;
 use ff_name::{NoMemory, Text};
 use ff_records::WinRec;
-use ff_steps::Steps;
 use ff_value::{PageId, WinId};
 use std::marker::Model;
 use std::sync::ledger::Ledger;
@@ -39,7 +39,8 @@ impl WinCell {
         opener: Option<WinId>,
         page: PageId,
     ) -> Result<WinCell, NoMemory>
-        ensures value { IfOk result (λ w. w ≡ record { name = option_copied name.entry; opener = opener; page = page }) }
+        ensures value { IfOk result (λ w. w ≡ record
+            { name = option_copied name.entry; opener = opener; page = page }) }
         ensures named { ForSome (option_copied name.entry) IsUtf8 }
     {
         let name = match name {

@@ -1,6 +1,6 @@
 //! The store of windows, pages and activations, and how it is read and changed underneath.
 ghost use Rattle.std.specs.Prelude.{◌≡◌, ◌<◌, [], ◌∷◌, ◌++◌, length, filter, not, false, is_some, IfOk, OnOk};
-ghost use Rattle.ff_steps.specs.Rises.{RisesBy};
+ghost use Rattle.ff_contract.specs.Rises.{RisesBy};
 ghost use Rattle.ff_machine.specs.Alone.{AreWindows};
 ghost use Rattle.ff_machine.specs.Windows as w;
 ghost use Rattle.ff_machine.specs.Windows.{first_ready};
@@ -10,10 +10,10 @@ use crate::page::PageCell;
 use crate::pages::Pages;
 use crate::window::WinCell;
 use ff_acts::Acts;
+use ff_contract::Steps;
 use ff_cow::{CowVec, Edit};
 use ff_machine::MOST_ACTS;
 use ff_name::NoMemory;
-use ff_steps::Steps;
 use ff_value::{ActId, PageId, WinId};
 use std::alloc::{AllocError, Global};
 use std::marker::Model;
@@ -41,9 +41,15 @@ impl Model for Windows {
 
     ghost use Rattle.ff_machine.specs.Alone.{AreWindows};
 
-    ghost view = { λ s. record { windows = s.windows; opened = s.opened.items; pages = s.pages; acts = s.acts } };
+    ghost view = { λ s. record {
+      windows = s.windows;
+      opened = s.opened.items;
+      pages = s.pages;
+      acts = s.acts;
+    } };
 
-    ghost invariant = { λ s. AreWindows (record { windows = s.windows; opened = s.opened.items; pages = s.pages; acts = s.acts }) };
+    ghost invariant = { λ s. AreWindows (record
+        { windows = s.windows; opened = s.opened.items; pages = s.pages; acts = s.acts }) };
 }
 
 impl Windows {
@@ -68,8 +74,19 @@ impl Windows {
         pages: Pages,
         acts: Acts,
     ) -> Windows
-        requires { AreWindows (record { windows = windows; opened = opened.items; pages = pages; acts = acts }) }
-        ensures { result ≡ record { windows = windows; opened = opened.items; pages = pages; acts = acts } }
+        requires { AreWindows (record {
+          windows = windows;
+          opened = opened.items;
+          pages = pages;
+          acts = acts;
+        }) }
+        ensures { result ≡ record {
+          windows = windows;
+          opened = opened.items;
+          pages = pages;
+          acts =
+              acts;
+        } }
     {
         Windows {
             alloc,
@@ -133,7 +150,8 @@ impl Windows {
 
     /// Whether the queue of a page begins with a script, of any page, that of a closed window too.
     pub(crate) fn any_ready(&self) -> bool
-        ensures none { result ≡ false → (p : PageId) → is_some (first_ready (w.page_at self.now p).queue) ≡ false }
+        ensures none { result ≡ false → (p : PageId)
+            → is_some (first_ready (w.page_at self.now p).queue) ≡ false }
     {
         self.pages.any_ready()
     }
@@ -204,8 +222,10 @@ impl Windows {
         copies: &mut Steps<C>,
     ) -> Result<(), NoMemory>
         requires there { page.0 < length self.old.pages }
-        requires keeps { AreWindows (w.set_page self.old page (E.edited edit (w.page_at self.old page))) }
-        ensures done { OnOk result (self.new ≡ w.set_page self.old page (E.edited edit (w.page_at self.old page))) }
+        requires keeps { AreWindows (w.set_page self.old page
+            (E.edited edit (w.page_at self.old page))) }
+        ensures done { OnOk result (self.new ≡ w.set_page self.old page
+            (E.edited edit (w.page_at self.old page))) }
         ensures copies { RisesBy 16 copies.old copies.new }
     {
         let Ok(()) = self.pages.edit(page.0, edit, copies) else {
@@ -221,8 +241,10 @@ impl Windows {
         cell: WinCell,
         copies: &mut Steps<C>,
     ) -> Result<(), NoMemory>
-        requires keeps { AreWindows (record self.old { windows = self.old.windows ++ cell ∷ []; opened = self.old.opened ++ n ∷ [] }) }
-        ensures done { OnOk result (self.new ≡ record self.old { windows = self.old.windows ++ cell ∷ []; opened = self.old.opened ++ n ∷ [] }) }
+        requires keeps { AreWindows (record self.old
+            { windows = self.old.windows ++ cell ∷ []; opened = self.old.opened ++ n ∷ [] }) }
+        ensures done { OnOk result (self.new ≡ record self.old
+            { windows = self.old.windows ++ cell ∷ []; opened = self.old.opened ++ n ∷ [] }) }
         ensures copies { RisesBy 15 copies.old copies.new }
     {
         let Ok(()) = self.opened.push(n) else {
@@ -242,8 +264,10 @@ impl Windows {
         copies: &mut Steps<C>,
     ) -> Result<(), NoMemory>
         requires room { length self.old.acts < MOST_ACTS }
-        requires keeps { AreWindows (record self.old { pages = self.old.pages ++ cell ∷ []; acts = self.old.acts ++ w.no_act ∷ [] }) }
-        ensures done { OnOk result (self.new ≡ record self.old { pages = self.old.pages ++ cell ∷ []; acts = self.old.acts ++ w.no_act ∷ [] }) }
+        requires keeps { AreWindows (record self.old
+            { pages = self.old.pages ++ cell ∷ []; acts = self.old.acts ++ w.no_act ∷ [] }) }
+        ensures done { OnOk result (self.new ≡ record self.old
+            { pages = self.old.pages ++ cell ∷ []; acts = self.old.acts ++ w.no_act ∷ [] }) }
         ensures copies { RisesBy 30 copies.old copies.new }
     {
         let Ok(()) = self.pages.push(cell, copies) else {

@@ -3,7 +3,7 @@ use Rattle.std.proofs.Common.{◌≡◌, ℕ, ◌+◌, suc, Bool, true, false, c
 use Rattle.std.proofs.lemmas.Grind.{flat_map-append}
 use Rattle.std.proofs.lemmas.List.Concat.{flat_map-cons}
 use Rattle.std.proofs.lemmas.List.Elements.{filter-append}
-use Rattle.ff_reactive.specs.Copies.{below}
+use Rattle.ff_contract.specs.Lists.{below}
 use Rattle.ff_lattice.specs.Order.{Order, size, leq, name}
 use Rattle.ff_writing.specs.Checked.{level_line, check_text}
 

@@ -2,15 +2,15 @@
 use Rattle.std.proofs.Common.{◌≡◌, ℕ, zero, suc, ◌+◌, ◌<◌, ◌≤◌, ◌⊎◌, inl, inr, Option, Some, None, Result, Ok, Err, IfOk, IfErr, Vec, Global, List, [], ◌∷◌, ◌++◌, refl, sym, ap, ap₂, subst, ◌∙◌, append_assoc, append-nil, arith}
 use Rattle.std.proofs.lemmas.Bool.{cases_eq}
 use Rattle.std.proofs.lemmas.Option.{same_Some}
-use Rattle.ff_reactive.proofs.Lines.{text_start, text_more}
-use Rattle.ff_reactive.proofs.Sharing.{work_start, work_more, work_grows}
+use Rattle.ff_confinement.proofs.Lines.{text_start, text_more}
+use Rattle.ff_confinement.proofs.Sharing.{work_start, work_more, work_grows}
 use Rattle.ff_lattice.specs.Order.{Order}
 use Rattle.ff_value.specs.declared.input.Input.{Input}
 use Rattle.ff_value.specs.Same.{same_input}
 use Rattle.ff_pool.specs.Pooled.{Pooled}
-use Rattle.ff_reactive.specs.Standings.{fresh}
-use Rattle.ff_reactive.specs.Text.{text_of}
-use Rattle.ff_reactive.proofs.Standings.{puts_fresh, turns_fresh}
+use Rattle.ff_confinement.specs.Standings.{fresh}
+use Rattle.ff_confinement.specs.Text.{text_of}
+use Rattle.ff_confinement.proofs.Standings.{puts_fresh, turns_fresh}
 use Rattle.ff_policy.specs.Assignment.{Assignment}
 use Rattle.ff_gen.specs.Workload.{following, number_at}
 use Rattle.ff_session.specs.Levels.{levels, machine}

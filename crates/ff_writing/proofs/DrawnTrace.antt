@@ -1,5 +1,5 @@
--- Each drawn line is that of an input under the built-in policy, and the bytes of the generator are a
--- trace of exactly these inputs.
+-- Each drawn line is that of an input under the built-in policy, and the bytes of the generator are
+-- a trace of exactly these inputs.
 use Rattle.std.proofs.Common.{◌≡◌, ℕ, zero, suc, ◌+◌, ◌*◌, ◌==◌, ◌%◌, ◌<◌, ◌≤◌, ◌^◌, inl, Bool, true, false, if◌then◌else◌, Option, Some, None, Ok, List, [], ◌∷◌, ◌++◌, length, map, codes, refl, sym, ap, subst, ◌∙◌, append-nil, append_assoc, length-append, arith}
 use Rattle.std.specs.List.{AllByRecursion, flat_map, list_all}
 use Rattle.std.specs.Char.{is_ascii_digit}

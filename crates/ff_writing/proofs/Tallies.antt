@@ -2,11 +2,11 @@
 use Rattle.std.proofs.Common.{◌≡◌, ℕ, suc, ◌+◌, ◌≤◌, List, [], ◌∷◌, ◌++◌, length, flat_map, codes, sym, ap, ◌∙◌, append_assoc, append-nil, arith}
 use Rattle.std.proofs.lemmas.Grind.{flat_map-append}
 use Rattle.std.proofs.lemmas.List.Concat.{flat_map-cons}
-use Rattle.ff_reactive.specs.Runs.{joined}
-use Rattle.ff_reactive.specs.Copies.{below}
+use Rattle.ff_confinement.specs.Runs.{joined}
+use Rattle.ff_contract.specs.Lists.{below}
 use Rattle.ff_number.specs.Decimal.{nat_text}
 use Rattle.ff_lattice.specs.Order.{Order, size}
-use Rattle.ff_lines.specs.OwnLines.{own_lines}
+use Rattle.ff_session.specs.OwnLines.{own_lines}
 use Rattle.ff_writing.specs.Generated.{tally_line, summary}
 
 -- Where the loop over the lines stands: those of the rest are still to be counted.

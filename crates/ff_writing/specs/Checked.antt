@@ -4,7 +4,7 @@ use Rattle.ff_io.specs.Counts.{Rose}
 use Rattle.ff_io.specs.Pieces.{Piece, put_of, AllPut}
 use Rattle.ff_io.specs.Port.{Told, Passes}
 use Rattle.ff_io.specs.Fronts.{IsProperFront}
-use Rattle.ff_reactive.specs.Copies.{below}
+use Rattle.ff_contract.specs.Lists.{below}
 use Rattle.ff_lattice.specs.Order.{Order, size, leq, name}
 use Rattle.ff_status.specs.declared.status.Status.{Status}
 use Rattle.ff_status.specs.declared.status.Status.TheVariants.{Done, WriteFault, NoMemory}

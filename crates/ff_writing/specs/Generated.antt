@@ -2,15 +2,15 @@
 -- each level has, and how many bytes.
 use Rattle.std.specs.Prelude.{◌≡◌, ℕ, zero, suc, ◌+◌, ◌≤◌, Some, Ok, List, [], ◌∷◌, ◌++◌, length, flat_map, codes}
 use Rattle.ff_io.specs.Port.{Told}
-use Rattle.ff_reactive.specs.Runs.{joined}
-use Rattle.ff_reactive.specs.Copies.{below}
+use Rattle.ff_confinement.specs.Runs.{joined}
+use Rattle.ff_contract.specs.Lists.{below}
 use Rattle.ff_number.specs.Decimal.{nat_text}
 use Rattle.ff_lattice.specs.Order.{Order, size, name}
 use Rattle.ff_value.specs.declared.input.Input.{Input}
 use Rattle.ff_policy.specs.Assignment.{Assignment}
 use Rattle.ff_gen.specs.Workload.{line_of, draw_of, number_at}
 use Rattle.ff_session.specs.Giving.{Gives}
-use Rattle.ff_lines.specs.OwnLines.{own_lines}
+use Rattle.ff_session.specs.OwnLines.{own_lines}
 use Rattle.ff_session.specs.Multi.{multi_text, multi_turns}
 use Rattle.ff_status.specs.declared.status.Status.{Status}
 use Rattle.ff_status.specs.declared.status.Status.TheVariants.{Done, WriteFault, NoMemory}

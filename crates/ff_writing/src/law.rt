@@ -12,5 +12,6 @@ use ff_gen::MOST_LINES;
 /// command asks for are a trace of exactly the inputs that they give, without a bad line.
 pub fn drawn_lines_are_a_trace()
     ensures line { (number : ℕ) → number < 2 ^ 32 → (i : Input) × IsDrawn builtin.order number i }
-    ensures trace { (start n : ℕ) → n ≤ MOST_LINES → (is : List Input) × AreDrawn builtin.order start n is × IsTraceFor builtin true (workload start n) is None }
+    ensures trace { (start n : ℕ) → n ≤ MOST_LINES → (is : List Input)
+        × AreDrawn builtin.order start n is × IsTraceFor builtin true (workload start n) is None }
 {}

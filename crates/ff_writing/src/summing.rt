@@ -4,15 +4,16 @@ ghost use Rattle.ff_gen.specs.Workload.{following};
 ghost use Rattle.ff_trace.specs.Lines.{IsInputOf};
 ghost use Rattle.ff_writing.specs.Generated.{IsDrawn, RanDrawn, AtMostDrawn, Generates, summary};
 
+use crate::NoMemory;
 use crate::tally::print_summary;
 use crate::whole::write;
+use ff_contract::Steps;
 use ff_gen::Draws;
 use ff_io::Port;
 use ff_lattice::Lattice;
 use ff_policy::Policy;
 use ff_session::{Copies, InputReader, Reactor, new_pool};
 use ff_status::Status;
-use ff_steps::Steps;
 use ff_stream::{Reader, Taker};
 use ff_trace::Room;
 use ff_value::Input;
@@ -35,7 +36,8 @@ pub fn generate<B: Reactor, P: Port, C: Ledger, L: Ledger>(
     turns: &mut Steps<L>,
 ) -> Status
     requires { 0 < slice }
-    ensures generates { Generates policy.now start inputs (P.told port.old) (P.told port.new) turns.old turns.new result }
+    ensures generates { Generates policy.now start inputs (P.told port.old) (P.told port.new)
+        turns.old turns.new result }
     ensures later_copies { copies.old ≤ copies.new }
 {
     write(
@@ -53,9 +55,10 @@ fn summed<B: Reactor, C: Ledger, L: Ledger>(
     inputs: u32,
     copies: &mut Steps<C>,
     turns: &mut Steps<L>,
-) -> Result<Vec<u8>, AllocError>
+) -> Result<Vec<u8>, NoMemory>
     requires { 0 < slice }
-    ensures ran { IfOk result (λ sum. RanDrawn policy.now start inputs turns.old turns.new (λ text. sum.items ≡ summary policy.now.order inputs text)) }
+    ensures ran { IfOk result (λ sum. RanDrawn policy.now start inputs turns.old turns.new
+        (λ text. sum.items ≡ summary policy.now.order inputs text)) }
     ensures most { AtMostDrawn policy.now start inputs turns.old turns.new }
     ensures later_copies { copies.old ≤ copies.new }
 {
@@ -74,9 +77,10 @@ fn ran<B: Reactor, C: Ledger, L: Ledger>(
     inputs: u32,
     copies: &mut Steps<C>,
     turns: &mut Steps<L>,
-) -> Result<Vec<u8>, AllocError>
+) -> Result<Vec<u8>, NoMemory>
     requires { 0 < slice }
-    ensures ran { IfOk result (λ bytes. RanDrawn policy.now start inputs turns.old turns.new (λ text. bytes.items ≡ text)) }
+    ensures ran { IfOk result (λ bytes. RanDrawn policy.now start inputs turns.old turns.new
+        (λ text. bytes.items ≡ text)) }
     ensures most { AtMostDrawn policy.now start inputs turns.old turns.new }
     ensures later_copies { copies.old ≤ copies.new }
 {
@@ -103,7 +107,7 @@ fn next_input(
     lattice: &Lattice,
     room: &mut Room,
     draws: &mut Draws,
-) -> Result<Input, AllocError>
+) -> Result<Input, NoMemory>
     ensures following { draws.new ≡ following draws.old }
     ensures drawn { IfOk result (IsDrawn lattice.now draws.new) }
     ensures input { IfOk result (IsInputOf lattice.now) }

@@ -1,15 +1,15 @@
 //! The lines of a text by the levels that head them.
 ghost use Rattle.std.specs.Prelude.{◌≡◌, ◌≤◌, ◌<◌, ◌+◌, ◌++◌, ◌∷◌, length, bytes_eq, OnOk};
-ghost use Rattle.ff_reactive.specs.Runs.{joined};
+ghost use Rattle.ff_confinement.specs.Runs.{joined};
 ghost use Rattle.ff_lattice.specs.Order.{size};
-ghost use Rattle.ff_lines.specs.OwnLines.{own_lines};
+ghost use Rattle.ff_session.specs.OwnLines.{own_lines};
 ghost use Rattle.ff_writing.specs.Generated.{tally_line, summary};
 
+use crate::NoMemory;
 use ff_lattice::Lattice;
-use ff_lines::{is_headed, split_inclusive};
 use ff_name::Level;
 use ff_number::print_nat;
-use std::alloc::AllocError;
+use ff_session::{is_headed, split_inclusive};
 
 /// How many lines there are, and how many bytes they have together.
 #[derive(Clone, Copy)]
@@ -26,7 +26,7 @@ pub fn print_summary(
     inputs: u32,
     text: &[u8],
     out: &mut Vec<u8>,
-) -> Result<(), AllocError>
+) -> Result<(), NoMemory>
     ensures { OnOk result (out.new.items ≡ out.old.items ++ summary lattice.now inputs text.now) }
 {
     out.extend_from_slice(b"inputs ")?;
@@ -44,9 +44,10 @@ fn print_tally(
     level: Level,
     text: &[u8],
     out: &mut Vec<u8>,
-) -> Result<(), AllocError>
+) -> Result<(), NoMemory>
     requires { level.0 < size lattice.now }
-    ensures { OnOk result (out.new.items ≡ out.old.items ++ tally_line lattice.now text.now level.0) }
+    ensures { OnOk result (out.new.items ≡ out.old.items
+        ++ tally_line lattice.now text.now level.0) }
 {
     let name = lattice.name(level).as_bytes();
     let tally = tally_of(text, name);

@@ -2,11 +2,12 @@ ghost use Rattle.std.specs.Prelude.{◌≡◌, IfOk};
 ghost use Rattle.ff_writing.specs.Checked.{IsPut};
 ghost use Rattle.ff_writing.specs.Upgraded.{upgrade_text};
 
+use crate::NoMemory;
 use crate::whole::write;
 use ff_io::Port;
 use ff_policy::Policy;
 use ff_status::Status;
-use std::alloc::{AllocError, Global};
+use std::alloc::Global;
 
 /// Writes the policy as version 2, and a newline. The port is never read.
 #[tactic(auto, using(crate::proofs::Writing::put_made))]
@@ -17,7 +18,7 @@ pub fn upgrade<P: Port>(alloc: Global, policy: &Policy, port: &mut P) -> Status
 }
 
 /// The policy as version 2, and a newline.
-fn upgraded(alloc: Global, policy: &Policy) -> Result<Vec<u8>, AllocError>
+fn upgraded(alloc: Global, policy: &Policy) -> Result<Vec<u8>, NoMemory>
     ensures { IfOk result (λ text. text.items ≡ upgrade_text policy.now) }
 {
     let mut text = Vec::new(alloc);

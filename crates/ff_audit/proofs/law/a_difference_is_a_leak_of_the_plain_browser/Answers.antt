@@ -1,5 +1,5 @@
 use Rattle.std.proofs.Common.{sym, ◌∙◌}
-use Rattle.ff_lines.proofs.Telling.{found_equal, found_other}
+use Rattle.ff_audit.proofs.Verdicts.{found_equal, found_other}
 use Rattle.ff_audit.specs.Audited.{plain_lines, multi_lines}
 use Rattle.ff_audit.proofs.Witness.{multi_is_plain_seen, plain_where_same, seen_again, seen_inputs, none_found}
 use Rattle.ff_audit.proofs.law.a_difference_is_a_leak_of_the_plain_browser.Goals as goal

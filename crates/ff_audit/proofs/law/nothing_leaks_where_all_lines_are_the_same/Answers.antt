@@ -1,6 +1,6 @@
 use Rattle.ff_lattice.specs.Order.{size}
 use Rattle.ff_audit.specs.Audited.{plain_lines, multi_lines}
-use Rattle.ff_lines.proofs.Telling.{none_differ}
+use Rattle.ff_audit.proofs.Verdicts.{none_differ}
 use Rattle.ff_audit.proofs.law.nothing_leaks_where_all_lines_are_the_same.Goals as goal
 
 pub returns-clause-none : goal.returns-clause-none

@@ -1,6 +1,6 @@
 use Rattle.std.proofs.Common.{ℕ, subst, length}
 use Rattle.ff_lattice.specs.Bounds.{AreCyclic, HasJoin, NoPair, EachPair}
-use Rattle.ff_lattice.specs.Rows.{Related}
+use Rattle.ff_lattice.specs.Relation.{Related}
 use Rattle.ff_lattice.proofs.Orders.{IsLeastPair-turned, IsLattice-from_checks}
 use Rattle.ff_lattice.proofs.bounds.check_order.Goals as goal
 

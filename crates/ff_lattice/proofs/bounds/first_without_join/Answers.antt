@@ -1,6 +1,6 @@
 use Rattle.std.proofs.Common.{◌≤◌, length, not, ◌∙◌, ap, arith}
 use Rattle.ff_lattice.specs.Bounds.{HasJoin}
-use Rattle.ff_lattice.specs.Rows.{Related}
+use Rattle.ff_lattice.specs.Relation.{Related}
 use Rattle.ff_lattice.proofs.Orders.{pairs_more, seconds_more, HasJoin-from_some}
 use Rattle.ff_lattice.proofs.bounds.first_without_join.Goals as goal
 

@@ -1,6 +1,6 @@
 use Rattle.std.proofs.Common.{ℕ, ◌<◌, length}
 use Rattle.ff_lattice.specs.Bounds.{HasJoin}
-use Rattle.ff_lattice.specs.Rows.{Related}
+use Rattle.ff_lattice.specs.Relation.{Related}
 use Rattle.ff_lattice.proofs.bounds.first_without_join.Given as goal
 
 abbrev pub invariant-loop-a : goal.invariant-loop-a

@@ -1,4 +1,4 @@
-use Rattle.ff_machine.proofs.Rows.{loads_once}
+use Rattle.ff_machine.proofs.Worked.{loads_once}
 use Rattle.ff_machine.proofs.traces.a_page_is_loaded_once.Goals as goal
 
 pub returns : goal.returns

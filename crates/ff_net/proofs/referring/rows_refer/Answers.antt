@@ -6,7 +6,7 @@ use Rattle.std.proofs.lemmas.Option.{get_or_from_slice_get, slice_get_within}
 use Rattle.ff_machine.specs.References.{DstRefers}
 use Rattle.ff_machine.specs.declared.records.Pending.{Pending}
 use Rattle.ff_records.specs.Counted.{made}
-use Rattle.ff_net.proofs.AskRows.{Row}
+use Rattle.ff_net.proofs.AskLists.{Row}
 use Rattle.ff_net.proofs.referring.rows_refer.Goals as goal
 
 pub loop-i-init : goal.loop-i-init

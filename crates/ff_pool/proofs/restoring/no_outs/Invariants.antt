@@ -1,6 +1,6 @@
 use Rattle.std.proofs.Common.{◌≡◌, List, []}
 use Rattle.ff_value.specs.declared.output.Out.{Out}
-use Rattle.ff_reactive.specs.Worlds.{each}
+use Rattle.ff_confinement.specs.Worlds.{each}
 use Rattle.ff_pool.proofs.restoring.no_outs.Given as goal
 
 abbrev pub invariant-loop-level : goal.invariant-loop-level

@@ -1,10 +1,10 @@
 use Rattle.std.proofs.Common.{◌∙◌, ap, sym, length, arith}
 use Rattle.std.proofs.lemmas.Result.{on_ok_weaker}
-use Rattle.ff_reactive.specs.Worlds.{leader, offer}
-use Rattle.ff_reactive.proofs.Classes.{length-split}
+use Rattle.ff_confinement.specs.Worlds.{leader, offer}
+use Rattle.ff_confinement.proofs.Classes.{length-split}
 use Rattle.ff_value.specs.Same.{same_input}
 use Rattle.ff_pool.specs.Heads.{offer_head}
-use Rattle.ff_classes.proofs.Parting.{same_input_decides}
+use Rattle.ff_pool.proofs.Parting.{same_input_decides}
 use Rattle.ff_pool.proofs.steps.arrive_heads.Goals as goal
 
 pub offer_heads-requires-clause-heads : goal.offer_heads-requires-clause-heads

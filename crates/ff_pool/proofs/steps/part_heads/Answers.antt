@@ -1,8 +1,8 @@
 use Rattle.std.proofs.Common.{◌∙◌, ap, sym, length}
-use Rattle.ff_reactive.specs.Worlds.{split}
-use Rattle.ff_reactive.proofs.Classes.{length-split}
+use Rattle.ff_confinement.specs.Worlds.{split}
+use Rattle.ff_confinement.proofs.Classes.{length-split}
 use Rattle.ff_value.specs.Same.{same_input}
-use Rattle.ff_classes.proofs.Parting.{same_input_decides}
+use Rattle.ff_pool.proofs.Parting.{same_input_decides}
 use Rattle.ff_pool.proofs.steps.part_heads.Goals as goal
 
 pub fork_heads-requires-clause-count : goal.fork_heads-requires-clause-count

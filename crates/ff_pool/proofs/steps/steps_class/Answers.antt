@@ -1,6 +1,6 @@
 use Rattle.std.proofs.Common.{◌∙◌, refl, ap}
 use Rattle.std.proofs.lemmas.Result.{on_ok_weaker}
-use Rattle.ff_reactive.specs.Worlds.{leader}
+use Rattle.ff_confinement.specs.Worlds.{leader}
 use Rattle.ff_pool.specs.Heads.{given}
 use Rattle.ff_pool.proofs.Slicing.{may_of_class, on_err, stepped_counts, stepped_of_class}
 use Rattle.ff_pool.proofs.steps.steps_class.Goals as goal

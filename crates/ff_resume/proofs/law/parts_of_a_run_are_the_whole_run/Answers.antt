@@ -1,6 +1,6 @@
 use Rattle.std.proofs.Common.{ap}
-use Rattle.ff_reactive.specs.Text.{text_out}
-use Rattle.ff_reactive.proofs.Standings.{run_fresh}
+use Rattle.ff_confinement.specs.Text.{text_out}
+use Rattle.ff_confinement.proofs.Standings.{run_fresh}
 use Rattle.ff_session.specs.Levels.{levels, machine}
 use Rattle.ff_resume.proofs.GoingOn.{parts_saved, parts_text}
 use Rattle.ff_resume.proofs.Stood.{parts_stand}

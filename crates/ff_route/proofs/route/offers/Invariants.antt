@@ -1,5 +1,5 @@
 use Rattle.std.proofs.Common.{◌≡◌, map}
-use Rattle.ff_reactive.specs.Copies.{below}
+use Rattle.ff_contract.specs.Lists.{below}
 use Rattle.ff_value.specs.Offers.{all_offered}
 use Rattle.ff_route.specs.Route.{sees}
 use Rattle.ff_route.proofs.route.offers.Given as goal

@@ -1,7 +1,8 @@
 use Rattle.std.proofs.Common.{◌+◌, Ok, length, arith, sym, ap, subst}
 use Rattle.std.specs.Option.{IfSome}
 use Rattle.std.proofs.lemmas.Result.{err_from_is_err_and}
-use Rattle.ff_rules.specs.Lines.{GivesRule, IsRuleOf}
+use Rattle.ff_rules.specs.Lines.{GivesRule}
+use Rattle.ff_route.specs.Offering.{IsRuleOf}
 use Rattle.ff_rules.proofs.Reading.{IsReading, large, all_lines, found_bad, reading_none, reading_rule, reading_many, reading_done, nothing_left, something_left}
 use Rattle.ff_rules.proofs.rules.first_read.Goals as goal
 use Rattle.ff_rules.proofs.rules.first_read.Goals.{in-Some+else-as_slice-ge-MOST_RULES+in_ok-push-in-Some, in-None}

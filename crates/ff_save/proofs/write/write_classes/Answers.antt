@@ -1,8 +1,8 @@
 use Rattle.std.proofs.Common.{◌≡◌, flat_map, ap, arith}
 use Rattle.ff_lattice.specs.Order.{size}
 use Rattle.ff_printing.proofs.Printing.{nothing, prints_as}
-use Rattle.ff_reactive.specs.Copies.{below}
-use Rattle.ff_saved.specs.Rows.{rows_text}
+use Rattle.ff_contract.specs.Lists.{below}
+use Rattle.ff_saved_rows.specs.Rows.{rows_text}
 use Rattle.ff_save.specs.LevelByLevel.{level_rows}
 use Rattle.ff_save.proofs.LevelRows.{level_more}
 use Rattle.ff_save.proofs.write.write_classes.Goals as goal

@@ -2,7 +2,7 @@ use Rattle.std.proofs.Common.{◌<◌, ◌+◌, ◌∷◌, [], ◌++◌, ap, ◌
 use Rattle.std.proofs.lemmas.Result.{on_ok_weaker}
 use Rattle.ff_lattice.specs.Order.{size}
 use Rattle.ff_travel.specs.Beside.{kept_now}
-use Rattle.ff_commands.specs.declared.command.Command.TheVariants.{Arrive, Turn, Drain}
+use Rattle.ff_travel.specs.declared.command.Command.TheVariants.{Arrive, Turn, Drain}
 use Rattle.ff_travel.proofs.Carrying.{arrived_is, turned_is, drained_is, turn_counts, drain_counts, step_kept, parts_kept}
 use Rattle.ff_travel.proofs.history.carry_out.Goals as goal
 

@@ -3,7 +3,7 @@ use Rattle.std.proofs.lemmas.List.{take_at}
 use Rattle.std.proofs.lemmas.Result.{err_from_is_err_and}
 use Rattle.ff_lattice.specs.Bounds.{IsLattice}
 use Rattle.ff_lattice.specs.Levels.{AreApart, IsFault, IsOrderFault, IsLatticeOf}
-use Rattle.ff_lattice.specs.Rows.{Related, HoldPairs, Closes, AreTurned, IsKept}
+use Rattle.ff_lattice.specs.Relation.{Related, HoldPairs, Closes, AreTurned, IsKept}
 use Rattle.ff_lattice.proofs.Built.{fault_from_order, kept_is, lattice_is}
 use Rattle.ff_lattice.proofs.lattice.Lattice.of_named.Goals as goal
 

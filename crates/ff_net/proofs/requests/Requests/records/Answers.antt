@@ -1,6 +1,6 @@
 use Rattle.std.proofs.Common.{◌++◌, sym, ap, ◌∙◌}
 use Rattle.ff_records.specs.Records.{asks_of}
-use Rattle.ff_net.proofs.AskRows.{flat_more}
+use Rattle.ff_net.proofs.AskLists.{flat_more}
 use Rattle.ff_net.proofs.requests.Requests.records.Goals as goal
 
 pub loop-domain-preserved : goal.loop-domain-preserved

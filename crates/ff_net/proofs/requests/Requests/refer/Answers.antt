@@ -2,7 +2,7 @@ use Rattle.std.proofs.Common.{sym, subst}
 use Rattle.ff_machine.specs.Net.{Requests}
 use Rattle.ff_machine.specs.References.{DstRefers, RequestsRefer}
 use Rattle.ff_records.specs.Counted.{made}
-use Rattle.ff_net.proofs.RowsOf.{by_rows, of_rows}
+use Rattle.ff_net.proofs.ShrinkingLists.{by_rows, of_rows}
 use Rattle.ff_net.proofs.requests.Requests.refer.Goals as goal
 
 pub returns-clause-value : goal.returns-clause-value

@@ -9,7 +9,7 @@ use Rattle.ff_machine.specs.Alone.{AreRequests}
 use Rattle.ff_machine.specs.Net.{with_ask}
 use Rattle.ff_machine.proofs.Maps.{entries-empty}
 use Rattle.ff_machine.proofs.Empty.{empty_valid}
-use Rattle.ff_net.proofs.AskRows.{flat, ask_valid, requests_climb, is_pending, has_room, one_ask_more}
+use Rattle.ff_net.proofs.AskLists.{flat, ask_valid, requests_climb, is_pending, has_room, one_ask_more}
 use Rattle.ff_net.proofs.requests.Requests.restore.Goals as goal
 
 pub returns-then-not-climb-clause-value : goal.returns-then-not-climb-clause-value

@@ -1,5 +1,5 @@
 use Rattle.std.proofs.Common.{◌≡◌, ◌≤◌, ◌<◌, ℕ, false}
-use Rattle.ff_reactive.specs.Worlds.{leader}
+use Rattle.ff_confinement.specs.Worlds.{leader}
 use Rattle.ff_pool.specs.Pooled.{has_work}
 use Rattle.ff_pool.proofs.pool.Pool.first_work.Given as goal
 

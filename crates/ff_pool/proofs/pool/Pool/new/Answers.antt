@@ -1,6 +1,6 @@
 use Rattle.std.proofs.Common.{◌≡◌, ◌∙◌, ◌++◌, ◌∷◌, [], ap, false, arith}
 use Rattle.ff_machine.specs.Machine.{reactor}
-use Rattle.ff_reactive.specs.Worlds.{new_world}
+use Rattle.ff_confinement.specs.Worlds.{new_world}
 use Rattle.ff_pool.specs.Heads.{new_head}
 use Rattle.ff_pool.proofs.Gathering.{gathered-new, kept-new}
 use Rattle.ff_pool.proofs.Making.{made_more}

@@ -1,6 +1,6 @@
 use Rattle.std.proofs.Common.{◌≡◌, ℕ, List, []}
 use Rattle.ff_value.specs.declared.output.Out.{Out}
-use Rattle.ff_reactive.specs.Worlds.{each}
+use Rattle.ff_confinement.specs.Worlds.{each}
 use Rattle.ff_pool.specs.Heads.{new_head}
 use Rattle.ff_pool.proofs.pool.Pool.new.Given as goal
 

@@ -1,5 +1,5 @@
 use Rattle.std.proofs.Common.{map, ◌∙◌, List, ℕ, sym, subst}
-use Rattle.ff_classes.specs.Classes.{LedBy, AreLed}
+use Rattle.ff_pool.specs.Classes.{LedBy, AreLed}
 use Rattle.ff_pool.specs.Restored.{HaveBrowsers}
 use Rattle.ff_pool.proofs.Gathering.{kept-rest, rests, rest_recs}
 use Rattle.ff_pool.proofs.pool.Pool.restore.Goals as goal

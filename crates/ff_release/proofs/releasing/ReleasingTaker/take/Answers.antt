@@ -1,7 +1,7 @@
 use Rattle.std.proofs.lemmas.Result.{on_ok_weaker}
 use Rattle.ff_release.specs.Releasing.{offered_by}
 use Rattle.ff_session.specs.Levels.{machine}
-use Rattle.ff_reactive.specs.Standings.{fresh}
+use Rattle.ff_confinement.specs.Standings.{fresh}
 use Rattle.ff_release.proofs.Taking.{left_fit, offers_fit, offered_so, goes_on}
 use Rattle.ff_release.proofs.releasing.ReleasingTaker.take.Goals as goal
 

@@ -2,9 +2,9 @@ use Rattle.std.proofs.Common.{◌≡◌, ◌∙◌, ◌<◌, inl, inr, true, fal
 use Rattle.std.proofs.lemmas.Bool.{cases_lt}
 use Rattle.std.proofs.lemmas.List.{get_or_default}
 use Rattle.std.proofs.lemmas.Result.{IfOk-weaker}
-use Rattle.ff_rules.specs.Offering.{is_of_use, rule_offers, one_less}
-use Rattle.ff_rules.specs.declared.rule.Rule.{Rule}
-use Rattle.ff_rules.proofs.Making.{offers_at, left_at, offers_none, left_none, whatever}
+use Rattle.ff_route.specs.Offering.{is_of_use, rule_offers, one_less}
+use Rattle.ff_route.specs.declared.rule.Rule.{Rule}
+use Rattle.ff_route.proofs.Making.{offers_at, left_at, offers_none, left_none, whatever}
 use Rattle.ff_rules.proofs.release.Release.offers.Goals as goal
 
 pub returns-then-branch-clause-offers : goal.returns-then-branch-clause-offers

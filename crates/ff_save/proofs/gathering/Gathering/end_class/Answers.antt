@@ -1,6 +1,6 @@
 use Rattle.std.proofs.Common.{◌∙◌, ◌==◌, [], ◌∷◌, map, refl, ap}
 use Rattle.std.proofs.lemmas.List.{map-append}
-use Rattle.ff_saved.specs.Drafted.{so_far, recs_of}
+use Rattle.ff_saved_rows.specs.Drafted.{so_far, recs_of}
 use Rattle.ff_save.specs.Holding.{held_by}
 use Rattle.ff_save.proofs.Collecting.{class_ended, spoiled_by}
 use Rattle.ff_save.proofs.gathering.Gathering.end_class.Goals as goal

@@ -2,7 +2,7 @@ use Rattle.std.proofs.Common.{Some, ◌≡◌, ◌<◌, sym, ◌∙◌, refl, ap
 use Rattle.std.proofs.lemmas.Result.{err_from_is_err_and}
 use Rattle.ff_value.specs.declared.output.Out.{Out}
 use Rattle.ff_term.specs.Running.{Evaluation}
-use Rattle.ff_machine.specs.Stores as s
+use Rattle.ff_machine.specs.Stores as stores
 use Rattle.ff_machine.specs.State.{Task}
 use Rattle.ff_machine.specs.Windows.{is_live}
 use Rattle.ff_machine.specs.Turns as turns
@@ -31,7 +31,7 @@ put_error-requires g c =
     let is : IsTask c.args.stores.now task = subst (λ (t : Task). IsTask c.args.stores.now t) (sym c.self.view_is) c.requires in
     let h = rw (c.in-Err-Fault.is, c.in-Err-Fault.field-0-is) at c.reduce_redex.ensures.reduces in
     let stays = failed_stays c.args.stores.now task.page task.running c.in-Err-Fault.fault (sym h.0) in
-    subst (λ (t : s.Stores). task.page.0 < length t.windows.pages) (sym (h.2 ∙ stays.after_is)) is.page
+    subst (λ (t : stores.Stores). task.page.0 < length t.windows.pages) (sym (h.2 ∙ stays.after_is)) is.page
 
 pub returns-clause-works : goal.returns-clause-works
 returns-clause-works g c =

@@ -1,5 +1,5 @@
 use Rattle.std.proofs.Common.{◌<◌, subst, sym, length}
-use Rattle.ff_machine.specs.Stores as s
+use Rattle.ff_machine.specs.Stores as stores
 use Rattle.ff_laws.proofs.Starting.{slotted_valid}
 use Rattle.ff_stores.specs.Views.{stores_of}
 use Rattle.ff_stores.proofs.Slack.{Spares, slack, entries_fit, slots_fit}
@@ -11,11 +11,11 @@ push_wait-requires-clause-room g c =
 
 pub push_wait-requires-clause-slots : goal.push_wait-requires-clause-slots
 push_wait-requires-clause-slots g c =
-    let lives = subst (λ (t : s.Stores). c.args.page.0 < length t.windows.pages) (sym c.self.view_is) c.requires.page in
+    let lives = subst (λ (t : stores.Stores). c.args.page.0 < length t.windows.pages) (sym c.self.view_is) c.requires.page in
     slots_fit (stores_of c.self.inside) c.args.page c.self.invariant lives (subst Spares (sym c.self.view_is) (c.requires.entries, c.requires.slots))
 
 pub invariant_of-self : goal.invariant_of-self
 invariant_of-self g c =
     let spares = subst Spares (sym c.self.view_is) (c.requires.entries, c.requires.slots) in
-    let lives = subst (λ (t : s.Stores). c.args.page.0 < length t.windows.pages) (sym c.self.view_is) c.requires.page in
+    let lives = subst (λ (t : stores.Stores). c.args.page.0 < length t.windows.pages) (sym c.self.view_is) c.requires.page in
     rw c.in-Ok.ensures.done ((slotted_valid (stores_of c.self.inside) c.args.page c.self.invariant lives (slack (stores_of c.self.inside) spares)).stores)

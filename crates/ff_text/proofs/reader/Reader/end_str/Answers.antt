@@ -1,7 +1,8 @@
 use Rattle.std.proofs.Common.{◌≡◌, ◌+◌, Ok, true, false, inr, subst, sym, ◌∙◌}
 use Rattle.std.specs.Str.{is_utf8, IsUtf8}
 use Rattle.std.proofs.lemmas.Str.{is_utf8-from_IsUtf8}
-use Rattle.ff_text.specs.Machine.{Makes, with_item, str_ended, span}
+use Rattle.ff_text.specs.Machine.{Makes, with_item, str_ended}
+use Rattle.ff_text.specs.Notation.{span}
 use Rattle.ff_text.specs.declared.items.Sexp.TheVariants.{Str}
 use Rattle.ff_text.specs.declared.reader.Mode.TheVariants.{Between}
 use Rattle.ff_text.proofs.Steps.{end_str-good}

@@ -1,7 +1,8 @@
 use Rattle.std.proofs.Common.{◌≡◌, ◌+◌, Ok, length, true, false, inr, subst, sym}
 use Rattle.std.specs.Str.{is_utf8, IsUtf8}
 use Rattle.std.proofs.lemmas.Str.{is_utf8-from_IsUtf8}
-use Rattle.ff_text.specs.Machine.{Makes, with_item, string_put, span}
+use Rattle.ff_text.specs.Machine.{Makes, with_item, string_put}
+use Rattle.ff_text.specs.Notation.{span}
 use Rattle.ff_text.specs.declared.items.Sexp.TheVariants.{Str}
 use Rattle.ff_text.proofs.Ascii.{is_utf8-not}
 use Rattle.ff_text.proofs.Runs.{string_good}

@@ -14,7 +14,7 @@ returns-clause-text g c =
 
 pub returns-clause-count : goal.returns-clause-count
 returns-clause-count g c =
-    on_ok_weaker c.apply.result (λ count start commands at. count ∙ ap (λ n. c.args.steps.now + n) (turns_are c.args.self.now.policy.now c.args.state.now commands at c.args.item.now)) c.apply.ensures.count
+    on_ok_weaker c.apply.result (λ count start commands at. count ∙ ap (λ n. c.args.turns.now + n) (turns_are c.args.self.now.policy.now c.args.state.now commands at c.args.item.now)) c.apply.ensures.count
 
 pub returns-clause-most : goal.returns-clause-most
 returns-clause-most g c = λ start commands at.

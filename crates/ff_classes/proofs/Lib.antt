@@ -1,4 +1,0 @@
-pub mod Members
-pub mod Parting
-pub mod Leaders
-pub mod Waiting

@@ -1,4 +1,0 @@
-pub mod Ends
-pub mod Finding
-pub mod Giving
-pub mod Whole

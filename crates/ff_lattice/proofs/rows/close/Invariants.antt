@@ -1,5 +1,0 @@
-use Rattle.ff_lattice.proofs.Closure.{ClosedBelow}
-use Rattle.ff_lattice.proofs.rows.close.Given as goal
-
-abbrev pub invariant-loop-number : goal.invariant-loop-number
-invariant-loop-number l = ClosedBelow l.number l.initial.rows l.rows

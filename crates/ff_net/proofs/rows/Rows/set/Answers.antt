@@ -1,5 +1,0 @@
-use Rattle.ff_net.proofs.Taken.{take_of_set}
-use Rattle.ff_net.proofs.rows.Rows.set.Goals as goal
-
-pub returns-clause-done : goal.returns-clause-done
-returns-clause-done g c = rw (c.in-Ok.ensures.done, take_of_set) (cc)

@@ -1,5 +1,0 @@
-use Rattle.ff_rows.proofs.Lives.{placed}
-use Rattle.ff_rows.proofs.readers.is_open.Goals as goal
-
-pub returns : goal.returns
-returns c = let e = placed c.args.stores.now.windows c.args.window in cc

@@ -1,0 +1,10 @@
+use Rattle.std.proofs.Common.{◌∷◌, [], flat_map, map, take}
+use Rattle.ff_lattice.specs.Order.{Order}
+use Rattle.ff_printing.specs.Pieces.{Prints}
+use Rattle.ff_records.specs.Records.{win_rec}
+use Rattle.ff_saved_rows.specs.Rows.{rows_text}
+use Rattle.ff_saved_rows.specs.declared.row.Row.TheVariants as row
+use Rattle.ff_save.proofs.writing_stores.write_wins.Given as goal
+
+abbrev pub invariant-loop-number : goal.invariant-loop-number
+invariant-loop-number l = (order : Order) → Prints l.fn.out l.out (rows_text order (flat_map (λ w. row.Win w ∷ []) (take l.number (map win_rec l.windows.windows))))

@@ -1,5 +1,0 @@
-use Rattle.ff_printing.proofs.Printing.{then}
-use Rattle.ff_saved.proofs.lines.put_mass.Goals as goal
-
-pub returns : goal.returns
-returns c = λ order. then c.print_mass.ensures c.bytes.ensures

@@ -1,5 +1,0 @@
-use Rattle.ff_printing.proofs.Printing.{then}
-use Rattle.ff_saved.proofs.lines.put_page.Goals as goal
-
-pub returns : goal.returns
-returns c = λ order. then (then c.print_page.ensures c.bytes.ensures) (rw c.as_slice.ensures at c.put_queue.ensures order)

@@ -1,9 +1,0 @@
-use Rattle.std.proofs.Common.{take}
-use Rattle.ff_lattice.specs.Order.{Order}
-use Rattle.ff_printing.specs.Pieces.{Prints}
-use Rattle.ff_saved.specs.declared.row.Row.TheVariants as row
-use Rattle.ff_saved.proofs.LineByLine.{lines_of}
-use Rattle.ff_saved.proofs.lines.put_queue.Given as goal
-
-abbrev pub invariant-loop-entry : goal.invariant-loop-entry
-invariant-loop-entry l = (order : Order) → Prints l.fn.out l.out (lines_of row.Queued order (take l.entry-index l.entries))

@@ -1,7 +1,0 @@
-use Rattle.std.proofs.Common.{codes}
-use Rattle.ff_trace.specs.Printed.{number}
-use Rattle.ff_saved.proofs.Printing.{row_of_one}
-use Rattle.ff_saved.proofs.print.print_mass.Goals as goal
-
-pub returns : goal.returns
-returns c = row_of_one (codes "mass") (number c.args.mass) c.bytes.ensures c.number.ensures

@@ -1,0 +1,9 @@
+use Rattle.std.proofs.Common.{take}
+use Rattle.ff_lattice.specs.Order.{Order}
+use Rattle.ff_printing.specs.Pieces.{Prints}
+use Rattle.ff_saved_rows.specs.declared.row.Row.TheVariants as row
+use Rattle.ff_saved_rows.proofs.LineByLine.{lines_of}
+use Rattle.ff_saved_rows.proofs.lines.put_cookies.Given as goal
+
+abbrev pub invariant-loop-rec : goal.invariant-loop-rec
+invariant-loop-rec l = (order : Order) → Prints l.fn.out l.out (lines_of row.Cookie order (take l.rec-index l.recs))

@@ -1,0 +1,8 @@
+use Rattle.std.proofs.Common.{codes}
+use Rattle.ff_forms.specs.Canonical.{word, string}
+use Rattle.ff_saved_rows.specs.Rows.{dst_item}
+use Rattle.ff_saved_rows.proofs.Printing.{row_of_three}
+use Rattle.ff_saved_rows.proofs.print.print_ask.Goals as goal
+
+pub returns : goal.returns
+returns c = row_of_three (codes "ask") (word c.args.rec.now.domain) (string c.args.rec.now.pending.uri) (dst_item c.args.rec.now.pending.dst) c.bytes.ensures (rw c.as_bytes.ensures.value at c.word.ensures) c.string.ensures c.print_dst.ensures

@@ -1,0 +1,8 @@
+use Rattle.std.proofs.Common.{codes}
+use Rattle.ff_forms.specs.Canonical.{word, expr_item}
+use Rattle.ff_saved_rows.specs.Rows.{truth_item}
+use Rattle.ff_saved_rows.proofs.Printing.{row_of_four}
+use Rattle.ff_saved_rows.proofs.print.print_script.Goals as goal
+
+pub returns : goal.returns
+returns c = row_of_four (codes "node") (word (codes "script")) (word c.args.name.now) (truth_item c.args.started) (expr_item c.args.body.now) c.bytes.ensures c.word.ensures (rw c.as_bytes.ensures.value at c.word-2.ensures) c.truth.ensures c.expr.ensures

@@ -1,4 +1,0 @@
-use Rattle.ff_stored.proofs.writing.write_open.Goals as goal
-
-pub returns-in-Ok : goal.returns-in-Ok
-returns-in-Ok c = λ order. rw c.in-Ok.ensures at c.put_open.ensures order
