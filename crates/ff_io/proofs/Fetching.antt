@@ -1,10 +1,11 @@
 -- The front of a file, piece by piece.
-use Rattle.std.proofs.Common.{◌≡◌, ℕ, ◌+◌, ◌<◌, ◌≤◌, Bool, true, false, Option, Some, None, List, [], ◌++◌, take, take_all, length, refl, sym, ap, ◌∙◌, arith, length-append}
+use Rattle.std.proofs.Common.{◌≡◌, ℕ, ◌+◌, ◌<◌, ◌≤◌, inl, inr, Bool, true, false, ◌||◌, Option, Some, None, Result, Ok, List, [], ◌∷◌, ◌++◌, take, take_all, length, refl, sym, ap, ◌∙◌, arith, length-append, append-nil, append_assoc, add-zero}
+use Rattle.std.specs.Option.{option_map}
 use Rattle.std.specs.Bool.{⊤}
 use Rattle.std.proofs.lemmas.Bool.{false≢true}
 use Rattle.std.proofs.Math.Seq.{take-add}
-use Rattle.ff_io.specs.Shelf.{Files}
-use Rattle.ff_io.specs.Fetched.{IsFrontOf, IsFetched, IsPartOf, IsPieceOf, IsFetchedPiece}
+use Rattle.ff_io.specs.Shelf.{Fetch, Files, Notes}
+use Rattle.ff_io.specs.Fetched.{IsFrontOf, IsFetched, IsPartOf, IsPieceOf, IsFetchedPiece, AreInTurn, AreFetches, IsGiven, IsFetchMade, all_came, bytes_of, has_last, is_last}
 
 -- what was got of the file so far
 abbrev pub SoFarOf : Option (List ℕ) → List ℕ → Bool → Type 0
@@ -68,3 +69,95 @@ fetched_all (Some told) name limit bytes ended some fetching full = go_of (told 
         cut : (b : Bool) → ended ≡ b → take (length bytes) file ≡ take limit file
         cut true e = take_all (length bytes) file (so_far.1 e) ∙ sym (take_all limit file (omega (arith, so_far.1 e)))
         cut false e = let over : limit ≤ length bytes = full e in ap (λ n. take n file) (omega arith)
+
+-- ---- which fetches are made
+
+notes_none : (log : Option (List Fetch)) → Notes log log []
+notes_none None = refl
+notes_none (Some fetches) = ap Some (sym (append-nil fetches))
+
+notes_more : (before mid now : Option (List Fetch)) (first second : List Fetch) → Notes before mid first → Notes mid now second → Notes before now (first ++ second)
+notes_more None mid now first second one two = two ∙ ap (option_map (λ log. log ++ second)) one
+notes_more (Some log) mid now first second one two = two ∙ ap (option_map (λ log. log ++ second)) one ∙ ap Some (append_assoc log first second)
+
+or_false : (a b : Bool) → (a || b) ≡ false → (a ≡ false) × (b ≡ false)
+or_false true b e = absurd (false≢true (sym e))
+or_false false b e = (refl, e)
+
+or_with_false : (b : Bool) → (b || false) ≡ b
+or_with_false true = refl
+or_with_false false = refl
+
+-- The fetches so far, which gave these bytes.
+pub record IsAsking (name : List ℕ) (limit : ℕ) (before now : Option (List Fetch)) (bytes : List ℕ) (ended : Bool) : Type 0 where
+  pub fetches : List Fetch
+  pub added : Notes before now fetches
+  pub in_turn : AreInTurn name limit 0 fetches
+  pub came : bytes ≡ all_came fetches
+  pub closed : has_last fetches ≡ ended
+
+-- none yet
+pub asking_start : (name : List ℕ) (limit : ℕ) (log : Option (List Fetch)) (bytes : List ℕ) (ended : Bool) → bytes ≡ [] → ended ≡ false → IsAsking name limit log log bytes ended
+asking_start name limit log bytes ended none open_yet = record {
+  fetches = [];
+  added = notes_none log;
+  in_turn = tt;
+  came = none;
+  closed = sym open_yet;
+}
+
+-- a further fetch where the one before it gave some byte
+in_turn-push : (name : List ℕ) (limit place : ℕ) (fetches : List Fetch) (fetch : Fetch) → AreInTurn name limit place fetches → has_last fetches ≡ false → fetch.name ≡ name
+    → fetch.place ≡ place + length (all_came fetches) → fetch.place < limit → AreInTurn name limit place (fetches ++ fetch ∷ [])
+in_turn-push name limit place [] fetch turn open_yet named at lt = (named, at ∙ add-zero place, omega (arith, at, lt), λ e. refl, tt)
+in_turn-push name limit place (first ∷ more) fetch (is, from, below, last, turn) open_yet named at lt =
+    let open_first = or_false (is_last first.came) (has_last more) open_yet in (
+      is,
+      from,
+      below,
+      λ e. absurd (false≢true (sym open_first.0 ∙ e)),
+      in_turn-push name limit (place + length (bytes_of first.came)) more fetch turn open_first.1 named
+          (at ∙ ap (λ n. place + n) (length-append (bytes_of first.came) (all_came more)) ∙ (omega arith)) lt,
+    )
+
+all_came-push : (fetches : List Fetch) (fetch : Fetch) → all_came (fetches ++ fetch ∷ []) ≡ all_came fetches ++ bytes_of fetch.came
+all_came-push [] fetch = append-nil (bytes_of fetch.came)
+all_came-push (first ∷ more) fetch = ap (λ bytes. bytes_of first.came ++ bytes) (all_came-push more fetch) ∙ sym (append_assoc (bytes_of first.came) (all_came more) (bytes_of fetch.came))
+
+has_last-push : (fetches : List Fetch) (fetch : Fetch) → has_last fetches ≡ false → has_last (fetches ++ fetch ∷ []) ≡ is_last fetch.came
+has_last-push [] fetch e = or_with_false (is_last fetch.came)
+has_last-push (first ∷ more) fetch e =
+    let parts = or_false (is_last first.came) (has_last more) e in
+    ap (λ b. b || has_last (more ++ fetch ∷ [])) parts.0 ∙ has_last-push more fetch parts.1
+
+-- a further fetch is answered
+pub asking_more : {E : Type 0} (name : List ℕ) (limit : ℕ) (before mid now : Option (List Fetch)) (bytes kept : List ℕ) (ended : Bool) → IsAsking name limit before mid bytes false
+    → length bytes < limit → IsFetchMade {E = E} name mid now bytes kept (Ok ended) → IsAsking name limit before now kept ended
+asking_more name limit before mid now bytes kept ended at lt made = record {
+  fetches = at.fetches ++ made.fetch ∷ [];
+  added = notes_more before mid now at.fetches (made.fetch ∷ []) at.added made.added;
+  in_turn = in_turn-push name limit 0 at.fetches made.fetch at.in_turn at.closed made.named (made.place ∙ ap length at.came ∙ (omega arith)) (let e = made.place in omega (arith, e, lt));
+  came = made.joined.0 ∙ ap (λ bs. bs ++ bytes_of made.fetch.came) at.came ∙ sym (all_came-push at.fetches made.fetch);
+  closed = has_last-push at.fetches made.fetch at.closed ∙ sym made.joined.1;
+}
+
+-- whatever a further fetch answers
+pub asked_more : {E : Type 0} (name : List ℕ) (limit : ℕ) (before mid now : Option (List Fetch)) (bytes kept : List ℕ) (answer : Result Bool E) → IsAsking name limit before mid bytes false
+    → length bytes < limit → IsFetchMade name mid now bytes kept answer → AreFetches name limit before now
+asked_more name limit before mid now bytes kept answer at lt made = record {
+  fetches = at.fetches ++ made.fetch ∷ [];
+  added = notes_more before mid now at.fetches (made.fetch ∷ []) at.added made.added;
+  in_turn = in_turn-push name limit 0 at.fetches made.fetch at.in_turn at.closed made.named (made.place ∙ ap length at.came ∙ (omega arith)) (let e = made.place in omega (arith, e, lt));
+}
+
+pub asked_none : (name : List ℕ) (limit : ℕ) (log : Option (List Fetch)) → AreFetches name limit log log
+asked_none name limit log = record { fetches = []; added = notes_none log; in_turn = tt }
+
+pub asked_all : (name : List ℕ) (limit : ℕ) (before now : Option (List Fetch)) (bytes : List ℕ) (ended : Bool) → IsAsking name limit before now bytes ended → AreFetches name limit before now
+asked_all name limit before now bytes ended at = record { fetches = at.fetches; added = at.added; in_turn = at.in_turn }
+
+-- no byte is left, or no more is wanted
+pub given_all : (name : List ℕ) (limit : ℕ) (before now : Option (List Fetch)) (bytes : List ℕ) (ended : Bool) → IsAsking name limit before now bytes ended → (ended ≡ false → limit ≤ length bytes)
+    → IsGiven name limit before now bytes
+given_all name limit before now bytes true at full = record { fetches = at.fetches; added = at.added; in_turn = at.in_turn; came = at.came; whole = inr at.closed }
+given_all name limit before now bytes false at full = record { fetches = at.fetches; added = at.added; in_turn = at.in_turn; came = at.came; whole = inl (full refl) }

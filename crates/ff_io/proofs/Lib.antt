@@ -7,3 +7,4 @@ pub mod Joins
 pub mod PendingLemmas
 pub mod TapeLemmas
 pub mod Writing
+pub mod Walking

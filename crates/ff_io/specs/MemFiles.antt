@@ -3,7 +3,7 @@ use Rattle.std.specs.Prelude.{ℕ, List, Vec, String, Contains, option_map, is_s
 use Rattle.std.specs.BTreeMap.{BTreeMap, get_by_text}
 use Rattle.std.specs.declared.alloc.Global.{Global}
 use Rattle.ff_io.specs.Counts.{next_count}
-use Rattle.ff_io.specs.Shelf.{Files}
+use Rattle.ff_io.specs.Shelf.{Fetch, Files}
 use Rattle.ff_io.specs.declared.mem_shelf.MemShelf.{MemShelf}
 
 -- the files of a map
@@ -13,6 +13,10 @@ files_in files name = option_map (λ v. v.items) (get_by_text files name)
 -- the files by their names
 abbrev pub shelf_files : MemShelf → Files
 shelf_files shelf = files_in shelf.files
+
+-- the fetches that were made
+abbrev pub shelf_log : MemShelf → List Fetch
+shelf_log shelf = shelf.log.noted
 
 -- the fetches that fail, by their numbers from 1
 abbrev pub bad_fetches_of : MemShelf → List ℕ

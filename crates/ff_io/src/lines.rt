@@ -169,7 +169,7 @@ impl Lines {
     }
 }
 
-// Reads until a line is whole, or the end was seen, and says whether it is whole.
+/// Reads until a line is whole, or the end was seen, and says whether it is whole.
 fn gather<P: Port>(
     given: u64,
     line: &mut Vec<u8>,
@@ -179,7 +179,8 @@ fn gather<P: Port>(
 ) -> Result<bool, LineFail>
     requires none { has_newline line.old.items ≡ false }
     requires given { given ≤ MOST_TRACE_BYTES }
-    ensures gathers { Gathers (P.log port.old) (P.log port.new) (P.rest port.old) (P.rest port.new) given
+    ensures gathers { Gathers (P.log port.old) (P.log port.new) (P.rest port.old) (P.rest port.new)
+        given
         (line.old.items ++ chunk.old) ended.old line.new.items chunk.new ended.new result }
     ensures later { P.read_faults port.old ≤ P.read_faults port.new }
     ensures cause { IsErrOf result LineFail.Read
@@ -194,8 +195,8 @@ fn gather<P: Port>(
     Ok(whole)
 }
 
-// Moves bytes from the chunk to the line up to its newline, says whether there was one, and checks
-// the size of the line.
+/// Moves bytes from the chunk to the line up to its newline, says whether there was one, and checks
+/// the size of the line.
 fn cut(given: u64, line: &mut Vec<u8>, chunk: &mut Chunk) -> Result<bool, LineFail>
     requires none { has_newline line.old.items ≡ false }
     requires given { given ≤ MOST_TRACE_BYTES }
@@ -208,7 +209,7 @@ fn cut(given: u64, line: &mut Vec<u8>, chunk: &mut Chunk) -> Result<bool, LineFa
     }
 }
 
-// What is wrong with the size of a line, where something is.
+/// What is wrong with the size of a line, where something is.
 fn size_fault(given: u64, size: usize, whole: bool) -> Option<LineFail>
     requires given { given ≤ MOST_TRACE_BYTES }
     requires size { size < 2 ^ 63 }
@@ -225,7 +226,7 @@ fn size_fault(given: u64, size: usize, whole: bool) -> Option<LineFail>
     }
 }
 
-// How many bytes a line has, with its newline where it has one.
+/// How many bytes a line has, with its newline where it has one.
 fn size_with_newline(line: &[u8], whole: bool) -> u64
     ensures { result ≡ length line.now + cond whole 1 0 }
 {

@@ -11,7 +11,8 @@ use super::counts::{fail, next_count};
 use super::outside::{Failed, Port};
 use super::source::Source;
 use super::tape::Tape;
-use std::alloc::{AllocError, Global};
+use crate::NoMemory;
+use std::alloc::Global;
 use std::marker::Model;
 
 /// A port in memory. A read skips empty pieces, and gives as many bytes of the current piece as
@@ -63,7 +64,8 @@ impl MemPort {
         grain: usize,
     ) -> MemPort
         requires { 1 ≤ grain }
-        ensures fresh { result ≡ fresh_port (nonempty (byte_lists pieces.items)) bad_reads.items bad_writes.items grain }
+        ensures fresh { result ≡ fresh_port (nonempty (byte_lists pieces.items)) bad_reads.items
+            bad_writes.items grain }
         ensures log { result.log ≡ [] }
         ensures rest { joined result.pieces ≡ joined (byte_lists pieces.items) }
     {
@@ -107,7 +109,13 @@ impl Port for MemPort {
 
     ghost write_faults = { λ p. p.write_faults };
 
-    ghost told = { λ p. record { log = Some p.log; rest = Some (joined p.pieces); read_faults = p.read_faults; write_faults = p.write_faults } };
+    ghost told = { λ p. record {
+      log = Some p.log;
+      rest = Some (joined p.pieces);
+      read_faults =
+          p.read_faults;
+      write_faults = p.write_faults;
+    } };
 
     ghost tells = { λ p. refl };
 
@@ -115,7 +123,8 @@ impl Port for MemPort {
         requires { 0 < length into.old }
         ensures bound { IfOk result (λ n. n ≤ length into.new) }
         ensures log { Adds (Some self.old.log) (Some self.new.log) (pieces_got result into.new) }
-        ensures rest { Leaves (Some (joined self.old.pieces)) (Some (joined self.new.pieces)) (bytes_of result into.new) }
+        ensures rest { Leaves (Some (joined self.old.pieces)) (Some (joined self.new.pieces))
+            (bytes_of result into.new) }
         ensures end { AtEnd (pieces_got result into.new) (Some (joined self.new.pieces)) }
         ensures cause { HasCause self.old.read_faults self.new.read_faults result }
         ensures others { self.new.write_faults ≡ self.old.write_faults }
@@ -124,8 +133,10 @@ impl Port for MemPort {
         ensures listed { Contains self.old.bad_reads (next_count_of self.old.reads) → IsErr result }
         ensures failed { OnErr result (self.new ≡ after_bad_read self.old) }
         ensures good { IfOk result (λ n. self.new ≡ after_read self.old n) }
-        ensures size { IfOk result (λ n. n ≡ min (length into.old) (length (front_piece self.old.pieces))) }
-        ensures bytes { IfOk result (λ n. into.new ≡ take n (front_piece self.old.pieces) ++ drop n into.old) }
+        ensures size { IfOk result (λ n. n ≡ min (length into.old)
+            (length (front_piece self.old.pieces))) }
+        ensures bytes { IfOk result (λ n. into.new
+            ≡ take n (front_piece self.old.pieces) ++ drop n into.old) }
     {
         self.reads = next_count(self.reads);
         if self.bad_reads.contains(&self.reads) {
@@ -147,7 +158,8 @@ impl Port for MemPort {
         ensures others { self.new.read_faults ≡ self.old.read_faults }
 
         // Which writes fail, and what the others take.
-        ensures listed { Contains self.old.bad_writes (next_count_of self.old.writes) → IsErr result }
+        ensures listed { Contains self.old.bad_writes (next_count_of self.old.writes)
+            → IsErr result }
         ensures failed { OnErr result (self.new ≡ after_bad_write self.old) }
         ensures good { IfOk result (λ n. self.new ≡ after_write self.old (take n piece.now)) }
         ensures size { IfOk result (λ n. n ≡ min self.old.grain (length piece.now)) }
@@ -164,14 +176,16 @@ impl Port for MemPort {
     }
 }
 
-// Gives bytes of the first piece and keeps them on the tape. Where there is no memory for them,
-// nothing changes.
-fn get_piece(source: &mut Source, tape: &mut Tape, into: &mut [u8]) -> Result<usize, AllocError>
+/// Gives bytes of the first piece and keeps them on the tape. Where there is no memory for them,
+/// nothing changes.
+fn get_piece(source: &mut Source, tape: &mut Tape, into: &mut [u8]) -> Result<usize, NoMemory>
     requires { 0 < length into.old }
     ensures size { IfOk result (λ n. n ≡ min (length into.old) (length (front_piece source.old))) }
-    ensures bytes { IfOk result (λ n. into.new ≡ take n (front_piece source.old) ++ drop n into.old) }
+    ensures bytes { IfOk result (λ n. into.new
+        ≡ take n (front_piece source.old) ++ drop n into.old) }
     ensures source { IfOk result (λ n. source.new ≡ without_front n source.old) }
-    ensures tape { IfOk result (λ n. tape.new ≡ tape.old ++ Got (take n (front_piece source.old)) ∷ []) }
+    ensures tape { IfOk result (λ n. tape.new
+        ≡ tape.old ++ Got (take n (front_piece source.old)) ∷ []) }
     ensures end { IfOk result (λ n. n ≡ 0 → source.old ≡ []) }
     ensures kept { OnErr result ((source.new ≡ source.old) × (tape.new ≡ tape.old)) }
 {

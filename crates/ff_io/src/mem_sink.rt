@@ -73,7 +73,8 @@ impl Sink for MemSink {
         ensures cause { HasCause self.old.faults self.new.faults result }
 
         // Which writes fail, and that the others take all.
-        ensures listed { Contains self.old.bad_writes (next_count_of self.old.writes) → IsErr result }
+        ensures listed { Contains self.old.bad_writes (next_count_of self.old.writes)
+            → IsErr result }
         ensures failed { OnErr result (self.new ≡ after_bad_put self.old) }
         ensures good { OnOk result (self.new ≡ after_put self.old piece.now) }
         ensures size { IfOk result (λ n. n ≡ length piece.now) }

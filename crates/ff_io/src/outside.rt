@@ -1,9 +1,9 @@
 //! What a program needs of the outside, as three traits.
-ghost use Rattle.std.specs.Prelude.{◌≡◌, ℕ, ◌<◌, ◌≤◌, List, Option, length, IfOk, OnOk};
+ghost use Rattle.std.specs.Prelude.{◌≡◌, ℕ, ◌<◌, ◌≤◌, List, [], ◌∷◌, Option, length, IfOk, OnOk};
 ghost use Rattle.ff_io.specs.Pieces.{Piece};
 ghost use Rattle.ff_io.specs.Counts.{HasCause};
 ghost use Rattle.ff_io.specs.Port.{Told, SinkTold, Adds, Leaves, Gains, AtEnd, bytes_of, pieces_got, pieces_put};
-ghost use Rattle.ff_io.specs.Shelf.{Files, ShelfTold, Gives};
+ghost use Rattle.ff_io.specs.Shelf.{Fetch, Files, ShelfTold, Gives, Notes, came_of, fetched};
 
 use thiserror::Error;
 
@@ -60,7 +60,14 @@ pub trait Port {
         ensures others { read_faults self.new ≡ read_faults self.old };
 
     // That it is all of this.
-    ghost tells: { (port : Self) → told port ≡ record { log = log port; rest = rest port; read_faults = read_faults port; write_faults = write_faults port } };
+    ghost tells: { (port : Self) → told port
+        ≡ record {
+          log = log port;
+          rest = rest port;
+          read_faults = read_faults port;
+          write_faults =
+              write_faults port;
+        } };
 }
 
 /// A place that bytes are put to alone, as standard error.
@@ -96,10 +103,13 @@ pub trait Shelf {
     // The files by their names, where they are told.
     ghost files: { Self → Option Files };
 
+    // The fetches so far, where they are told: those that failed, too.
+    ghost fetches: { Self → Option (List Fetch) };
+
     // How many fetches failed that count for a name; it stands still at 2 ^ 64 - 1.
     ghost faults: { Self → List ℕ → ℕ };
 
-    // Both.
+    // All of this.
     ghost told: { Self → ShelfTold };
 
     /// Gets bytes of the named file, from offset `at` in bytes, into the front of `into`,
@@ -114,10 +124,14 @@ pub trait Shelf {
         ensures bound { IfOk result (λ n. n ≤ length into.new) }
         ensures bytes { Gives (files self.old) name.now at result into.new }
         ensures files { files self.new ≡ files self.old }
+        ensures fetches { Notes (fetches self.old) (fetches self.new)
+            (fetched name.now at (came_of result into.new) ∷ []) }
         ensures cause { HasCause (faults self.old name.now) (faults self.new name.now) result }
         ensures later { (other : List ℕ) → faults self.old other ≤ faults self.new other }
-        ensures good { OnOk result ((other : List ℕ) → faults self.new other ≡ faults self.old other) };
+        ensures good { OnOk result ((other : List ℕ)
+            → faults self.new other ≡ faults self.old other) };
 
-    // That it is both.
-    ghost tells: { (shelf : Self) → told shelf ≡ record { files = files shelf; faults = faults shelf } };
+    // That it is all of this.
+    ghost tells: { (shelf : Self) → told shelf
+        ≡ record { files = files shelf; fetches = fetches shelf; faults = faults shelf } };
 }

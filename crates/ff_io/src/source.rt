@@ -56,9 +56,10 @@ impl Source {
     }
 }
 
-// The place of the next byte at or after byte `offset` of piece `at`.
+/// The place of the next byte at or after byte `offset` of piece `at`.
 fn next_place(pieces: &[Vec<u8>], at: usize, offset: usize) -> (usize, usize)
-    ensures same { pieces_from (drop result.0 pieces.now) result.1 ≡ pieces_from (drop at pieces.now) offset }
+    ensures same { pieces_from (drop result.0 pieces.now) result.1
+        ≡ pieces_from (drop at pieces.now) offset }
     ensures place { IsPlace (drop result.0 pieces.now) result.1 }
 {
     let mut at = at;

@@ -1,39 +1,44 @@
 //! Standard error as a sink.
-ghost use Rattle.std.specs.Prelude.{◌≡◌};
+ghost use Rattle.std.specs.Prelude.{◌≡◌, Some, []};
 
 use super::counts::fail;
+use super::journal::Journal;
 use super::outside::{Failed, Sink};
 use std::io::Eprint;
 use std::str;
 
-/// Standard error. It tells no content. An error counts as a fault, and so does a piece that
-/// isn't UTF-8, since the runtime takes text alone.
+/// Standard error. It tells what was put to it. An error counts as a fault, and so does a piece
+/// that isn't UTF-8, since the runtime takes text alone.
 #[derive(Drop)]
 pub struct StdErr<'a, R: Eprint> {
     runtime: &'a R,
+    journal: Journal,
     faults: u64,
 }
 
 impl<'a, R: Eprint> StdErr<'a, R> {
-    /// The standard error of this runtime, with no fault yet.
+    /// The standard error of this runtime, with nothing put and no fault yet.
     pub fn new(rt: &'a R) -> StdErr<'a, R>
-        ensures { ⟦<StdErr<'a, R> as Sink>⟧.faults result ≡ 0 }
+        ensures put { ⟦<StdErr<'a, R> as Sink>⟧.put result ≡ Some [] }
+        ensures faults { ⟦<StdErr<'a, R> as Sink>⟧.faults result ≡ 0 }
     {
         StdErr {
             runtime: rt,
+            journal: Journal::new(),
             faults: 0,
         }
     }
 }
 
 impl<R: Eprint> Sink for StdErr<'_, R> {
-    ghost use Rattle.std.specs.Prelude.{None, refl};
+    ghost use Rattle.std.specs.Prelude.{Some, refl};
+    ghost use Rattle.ff_io.specs.Pieces.{put_of};
 
-    ghost put = { λ _. None };
+    ghost put = { λ s. Some (put_of s.journal.pieces) };
 
     ghost faults = { λ s. s.faults };
 
-    ghost told = { λ s. record { put = None; faults = s.faults } };
+    ghost told = { λ s. record { put = Some (put_of s.journal.pieces); faults = s.faults } };
 
     ghost tells = { λ s. refl };
 
@@ -42,7 +47,10 @@ impl<R: Eprint> Sink for StdErr<'_, R> {
             return fail(&mut self.faults);
         };
         match self.runtime.eprint(text) {
-            Ok(()) => Ok(piece.len()),
+            Ok(()) => {
+                self.journal.put(piece);
+                Ok(piece.len())
+            }
             Err(_) => fail(&mut self.faults),
         }
     }

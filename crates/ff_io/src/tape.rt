@@ -3,13 +3,16 @@ ghost use Rattle.std.specs.Prelude.{◌≡◌, ◌++◌, [], ◌∷◌, OnOk, On
 ghost use Rattle.ff_io.specs.Pieces.{got_of, put_of};
 ghost use Rattle.ff_io.specs.Pieces.Piece.{Got, Put};
 
+use crate::NoMemory;
 use std::alloc::{AllocError, Global};
 use std::marker::Model;
 
 /// One piece by the side that it passed on and its length in bytes.
 #[derive(Clone, Copy)]
 pub enum Step {
+    /// So many bytes were got; none at the end.
     In(usize),
+    /// So many bytes were put.
     Out(usize),
 }
 
@@ -61,7 +64,7 @@ impl Tape {
     }
 
     /// Adds a piece that was got. Where there is no memory for it, nothing changes.
-    pub fn keep_got(&mut self, bytes: &[u8]) -> Result<(), AllocError>
+    pub fn keep_got(&mut self, bytes: &[u8]) -> Result<(), NoMemory>
         ensures done { OnOk result (self.new ≡ self.old ++ Got bytes.now ∷ []) }
         ensures kept { OnErr result (self.new ≡ self.old) }
     {
@@ -69,7 +72,7 @@ impl Tape {
     }
 
     /// Adds a piece that was put. Where there is no memory for it, nothing changes.
-    pub fn keep_put(&mut self, bytes: &[u8]) -> Result<(), AllocError>
+    pub fn keep_put(&mut self, bytes: &[u8]) -> Result<(), NoMemory>
         ensures done { OnOk result (self.new ≡ self.old ++ Put bytes.now ∷ []) }
         ensures kept { OnErr result (self.new ≡ self.old) }
     {
@@ -82,16 +85,12 @@ impl Tape {
     }
 }
 
-// Adds the bytes to one side and the step to the steps, or neither.
-fn keep(
-    side: &mut Vec<u8>,
-    steps: &mut Vec<Step>,
-    bytes: &[u8],
-    step: Step,
-) -> Result<(), AllocError>
+/// Adds the bytes to one side and the step to the steps, or neither.
+fn keep(side: &mut Vec<u8>, steps: &mut Vec<Step>, bytes: &[u8], step: Step) -> Result<(), NoMemory>
     ensures side { OnOk result (side.new.items ≡ side.old.items ++ bytes.now) }
     ensures steps { OnOk result (steps.new.items ≡ steps.old.items ++ step ∷ []) }
-    ensures kept { OnErr result ((side.new.items ≡ side.old.items) × (steps.new.items ≡ steps.old.items)) }
+    ensures kept { OnErr result ((side.new.items ≡ side.old.items)
+        × (steps.new.items ≡ steps.old.items)) }
 {
     steps.push(step)?;
     if side.extend_from_slice(bytes).is_err() {
