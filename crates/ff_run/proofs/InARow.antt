@@ -9,7 +9,7 @@ use Rattle.ff_policy.specs.Assignment.{Assignment, IsAssignment}
 use Rattle.ff_pool.specs.Pooled.{Pooled}
 use Rattle.ff_resume.specs.Resumed.{WasSaved, resume_duty, stand_of, standing_text}
 use Rattle.ff_resume.proofs.GoingOn.{goes_on_saved, goes_on_text, goes_on_turns}
-use Rattle.ff_reactive.specs.Standings.{StandAlike}
+use Rattle.ff_confinement.specs.Standings.{StandAlike}
 use Rattle.ff_resume.proofs.Stood.{pool_stands, text_agrees}
 use Rattle.ff_save.specs.Saved.{saved_text}
 use Rattle.ff_resume.proofs.Turns.{parts_turns}
@@ -21,7 +21,7 @@ use Rattle.ff_value.specs.declared.input.Input.{Input}
 use Rattle.ff_run.specs.InARow.{AreInARow}
 use Rattle.ff_run.specs.Names.{Names}
 use Rattle.ff_run.specs.States.{NamesState}
-use Rattle.ff_words.specs.Words.{dash}
+use Rattle.ff_run.specs.Words.{dash}
 use Rattle.ff_run.specs.declared.states.TheConstants as states
 use Rattle.ff_run.proofs.StateFaults.{named_rests}
 

@@ -5,5 +5,6 @@ pub mod StateFaults
 pub mod InARow
 pub mod Obeying
 pub mod Headline
-pub mod Counting
 pub mod Coming
+pub mod Commands
+pub mod System

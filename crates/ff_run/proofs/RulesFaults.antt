@@ -4,16 +4,17 @@ use Rattle.std.proofs.lemmas.List.Elements.{All-nil}
 use Rattle.ff_contract.specs.Answering.{Answers}
 use Rattle.ff_lattice.specs.Order.{Order}
 use Rattle.ff_io.specs.Shelf.{ShelfTold}
-use Rattle.ff_rules.specs.Lines.{IsRuleOf, ReadsRules}
+use Rattle.ff_rules.specs.Lines.{ReadsRules}
+use Rattle.ff_route.specs.Offering.{IsRuleOf}
 use Rattle.ff_rules.proofs.Levels.{rules_fit}
-use Rattle.ff_rules.specs.declared.rule.Rule.{Rule}
+use Rattle.ff_route.specs.declared.rule.Rule.{Rule}
 use Rattle.ff_rules.specs.declared.fault.ReleaseFail.{ReleaseFail}
 use Rattle.ff_rules.specs.declared.fault.ReleaseFail.TheVariants.{Fault, NoMemory}
 use Rattle.ff_rules.specs.declared.fault.ReleaseFault.{ReleaseFault}
 use Rattle.ff_status.specs.declared.status.Status.{Status}
 use Rattle.ff_status.specs.declared.status.Status.TheVariants.{Release}
 use Rattle.ff_run.specs.Names.{Names}
-use Rattle.ff_run.specs.Rules.{AreBadRules, NamesRules}
+use Rattle.ff_run.specs.Rules.{AreBadRules, rules_for}
 
 module _ (order : Order) (bytes : List ℕ) (read : Result (List Rule) ReleaseFail)
     (exact : (fault : ReleaseFault) → ReadsRules order bytes (Err fault) → Answers read (Err (Fault fault)) (Err NoMemory)) where
@@ -40,6 +41,6 @@ module _ (order : Order) (bytes : List ℕ) (read : Result (List Rule) ReleaseFa
     ]
 
 -- each rule of a name has a level of the lattice
-pub named_fit : (order : Order) (shelf : ShelfTold) (name : List ℕ) (rules : List Rule) → NamesRules order shelf name rules → All (IsRuleOf order) rules
+pub named_fit : (order : Order) (shelf : ShelfTold) (name : List ℕ) (rules : List Rule) → Names (rules_for order) shelf name rules → All (IsRuleOf order) rules
 named_fit order shelf _ _ (Names.at_dash name is_dash) = All-nil (IsRuleOf order)
 named_fit order shelf _ _ (Names.in_file name bytes rules no_dash fetched reads) = rules_fit order bytes rules reads

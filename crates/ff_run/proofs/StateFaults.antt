@@ -10,7 +10,7 @@ use Rattle.ff_resume.proofs.New.{new_rests}
 use Rattle.ff_save.specs.Whole.{HasFault, IsSaved}
 use Rattle.ff_save.specs.declared.fail.SavedFail.{SavedFail}
 use Rattle.ff_save.specs.declared.fail.SavedFail.TheVariants.{Fault, NoMemory}
-use Rattle.ff_saved.specs.declared.fault.SavedFault.{SavedFault}
+use Rattle.ff_saved_rows.specs.declared.fault.SavedFault.{SavedFault}
 use Rattle.ff_status.specs.declared.status.Status.{Status}
 use Rattle.ff_status.specs.declared.status.Status.TheVariants.{Saved}
 use Rattle.ff_run.specs.Names.{Names}

@@ -8,10 +8,10 @@ use Rattle.ff_session.specs.Multi.{stands_after}
 use Rattle.ff_trace.specs.Lines.{IsInputOf}
 use Rattle.ff_value.specs.declared.input.Input.{Input}
 use Rattle.ff_run.specs.States.{NamesState}
-use Rattle.ff_words.specs.Words.{dash}
+use Rattle.ff_run.specs.Words.{dash}
 
--- The first run goes from the copies that a name stands for over inputs that lines give, and the second
--- one from the file in which its saved text was kept, whatever else the shelf then has.
+-- The first run goes from the copies that a name stands for over inputs that lines give, and the
+-- second one from the file in which its saved text was kept, whatever else the shelf then has.
 pub record AreInARow (p : Assignment) (before : ShelfTold) (name : List ℕ) (from : Pooled) (is : List Input) (now : ShelfTold) (file : List ℕ) (read : Pooled) : Type 0 where
   pub begins : NamesState p before name from
   pub inputs : All (IsInputOf p.order) is

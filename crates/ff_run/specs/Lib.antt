@@ -5,4 +5,7 @@ pub mod Rules
 pub mod States
 pub mod InARow
 pub mod Claims
+pub mod Telling
 pub mod Run
+pub mod Words
+pub mod System

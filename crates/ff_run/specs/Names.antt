@@ -3,11 +3,10 @@
 use Rattle.std.specs.Prelude.{◌≡◌, ◌≢◌, ◌⊎◌, ◌≤◌, ℕ, Some, Result, Err, List}
 use Rattle.ff_io.specs.Counts.{Rose}
 use Rattle.ff_io.specs.Shelf.{Files, ShelfTold}
-use Rattle.ff_io.specs.Fetched.{IsFetched}
+use Rattle.ff_io.specs.Fetched.{IsFetched, IsGiven}
 use Rattle.ff_status.specs.declared.status.Status.{Status}
 use Rattle.ff_status.specs.declared.status.Status.TheVariants.{ShelfFault, NoMemory}
-use Rattle.ff_run.specs.Status.{IsEarly}
-use Rattle.ff_words.specs.Words.{dash}
+use Rattle.ff_run.specs.Words.{dash}
 
 -- a fetch of the file of this name failed
 abbrev pub FetchFailed : List ℕ → ShelfTold → ShelfTold → Type 0
@@ -25,20 +24,32 @@ FetchedOrFailed before now status = (status ≡ ShelfFault) ⊎ ((name : List �
 abbrev pub IsKnown : ShelfTold → List ℕ → Type 0
 IsKnown shelf name = (name ≡ dash) ⊎ ((files : Files) × (shelf.files ≡ Some files))
 
--- By what is built in, how many bytes of a file count, what they give, and how a run ends where they
--- give nothing.
-module _ {X : Type 0} (built_in : X) (most : ℕ) (Gives : List ℕ → X → Type 0) (IsBad : List ℕ → Status → Type 0) where
+-- What names of one kind may stand for: what is built in at `-`, how many bytes of a file count,
+-- what these give, and how a run ends where they give nothing.
+pub record Kind (X : Type 0) : Type 1 where
+  pub built_in : X
+  pub most : ℕ
+  pub gives : List ℕ → X → Type 0
+  pub is_bad : List ℕ → Status → Type 0
+
+module _ {X : Type 0} (kind : Kind X) where
   -- The name stands for this.
   pub data Names (shelf : ShelfTold) : List ℕ → X → Type 0 where
-    at_dash : (name : List ℕ) → name ≡ dash → Names shelf name built_in
-    in_file : (name bytes : List ℕ) (x : X) → name ≢ dash → IsFetched shelf.files name most bytes → Gives bytes x → Names shelf name x
+    at_dash : (name : List ℕ) → name ≡ dash → Names shelf name kind.built_in
+    in_file : (name bytes : List ℕ) (x : X) → name ≢ dash → IsFetched shelf.files name kind.most bytes → kind.gives bytes x → Names shelf name x
+
+  -- It stands for this by what the shelf gave between two moments: also where no files are told,
+  -- the fetches may be.
+  pub data IsByGiven (before now : ShelfTold) : List ℕ → X → Type 0 where
+    at_dash : (name : List ℕ) → name ≡ dash → IsByGiven before now name kind.built_in
+    in_bytes : (name bytes : List ℕ) (x : X) → name ≢ dash → IsGiven name kind.most before.fetches now.fetches bytes → kind.gives bytes x → IsByGiven before now name x
 
   -- The file of this name gives nothing, and the run ends so.
   pub record NamesBad (shelf : ShelfTold) (name : List ℕ) (status : Status) : Type 0 where
     pub bytes : List ℕ
     pub no_dash : name ≢ dash
-    pub fetched : IsFetched shelf.files name most bytes
-    pub bad : IsBad bytes status
+    pub fetched : IsFetched shelf.files name kind.most bytes
+    pub bad : kind.is_bad bytes status
 
   -- Why nothing was found: a fetch of the file failed, the file gives nothing, or there is no
   -- memory.
@@ -54,12 +65,6 @@ module _ {X : Type 0} (built_in : X) (most : ℕ) (Gives : List ℕ → X → Ty
     pub named : Names shelf name found
     pub only : (other : X) → IsKnown shelf name → Names shelf name other → other ≡ found
     pub held : holds found
-
-  -- What is wrong with the file of this name is what the run ends with, and by what else the name
-  -- stands for it goes on, where this is known and no fetch of it failed.
-  pub record Accepts (before now : ShelfTold) (name : List ℕ) (status : Status) : Type 0 where
-    pub bad : (ends : Status) → IsKnown before name → NamesBad before name ends → ¬ FetchFailed name before now → (status ≡ ends) ⊎ (status ≡ NoMemory)
-    pub good : (x : X) → IsKnown before name → Names before name x → ¬ FetchFailed name before now → ¬ IsEarly status
 
 -- no fetch of any file failed, or that one did is the answer
 abbrev pub IsFetchedOrFails : {X : Type 0} → ShelfTold → ShelfTold → Result X Status → Type 0

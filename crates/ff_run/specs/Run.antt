@@ -1,158 +1,109 @@
 -- What a run does, by its command and its status.
-use Rattle.std.specs.Prelude.{◌≡◌, ◌⊎◌, ⊤, ℕ, List, String}
+use Rattle.std.specs.Prelude.{◌≡◌, ◌⊎◌, ⊤, ℕ, Option, Result, List, String}
 use Rattle.std.proofs.Common.{Global}
 use Rattle.ff_io.specs.Counts.{Rose}
 use Rattle.ff_io.specs.Port.{Told, SinkTold}
 use Rattle.ff_io.specs.Shelf.{ShelfTold}
-use Rattle.ff_policy.specs.Assignment.{Assignment}
-use Rattle.ff_session.specs.Cut.{AreFronts}
+use Rattle.ff_policy.specs.Assignment.{Assignment, IsAssignment}
 use Rattle.ff_session.specs.Giving.{Gives}
-use Rattle.ff_session.specs.Claims.{Claims, IsAnswered}
-use Rattle.ff_session.specs.Works.{Counts, Exchanged, duty}
-use Rattle.ff_session.specs.declared.work.Work.TheVariants.{Format}
+use Rattle.ff_session.specs.Claims.{IsAnswered}
+use Rattle.ff_session.specs.Works.{Counts, Duty, Exchanged, multi_duty, plain_duty, format_duty}
 use Rattle.ff_status.specs.Putting.{Reported}
 use Rattle.ff_status.specs.declared.status.Status.{Status}
-use Rattle.ff_status.specs.declared.status.Status.TheVariants.{Usage, Policy, ShelfFault, NoMemory, Saved, Release}
-use Rattle.ff_audit.specs.Audited.{IsAudit, audit_duty}
-use Rattle.ff_commands.specs.Giving as commands
+use Rattle.ff_status.specs.declared.status.Status.TheVariants.{Usage, NoMemory}
+use Rattle.ff_status.specs.declared.status.TraceFault.{TraceFault}
+use Rattle.ff_audit.specs.Audited.{audit_duty}
+use Rattle.ff_travel.specs.Giving as commands
 use Rattle.ff_travel.specs.Owed.{travel_duty}
-use Rattle.ff_travel.specs.Told.{Tells}
-use Rattle.ff_words.specs.Words.{AreCommand}
-use Rattle.ff_policy.specs.declared.fault.PolicyFault.{PolicyFault}
-use Rattle.ff_resume.specs.Resumed.{IsResumed, resume_duty, stand_of}
-use Rattle.ff_release.specs.Releasing.{IsReleased, release_duty}
-use Rattle.ff_run.specs.Claims.{ClaimsUnder}
-use Rattle.ff_run.specs.Names.{FetchFailed, FetchedOrFailed, IsKnown, IsUnfetched}
-use Rattle.ff_run.specs.Policies.{NamesFault, NamesPolicy, Under}
-use Rattle.ff_run.specs.Rules.{AcceptsRules, ByRules, NamesRulesFault}
-use Rattle.ff_run.specs.States.{AcceptsState, FromState, NamesStateFault}
+use Rattle.ff_resume.specs.Resumed.{resume_duty, stand_of}
+use Rattle.ff_release.specs.Releasing.{release_duty}
+use Rattle.ff_run.specs.Names.{FetchFailed, FetchedOrFailed, IsKnown, IsUnfetched, Kind, Names, NamesBad, Refuses, StandsFor}
+use Rattle.ff_run.specs.Policies.{policies}
+use Rattle.ff_run.specs.Rules.{rules_for}
+use Rattle.ff_run.specs.States.{states_under}
 use Rattle.ff_run.specs.Status.{IsEarly, IsUnfailing}
+use Rattle.ff_run.specs.Words.{AreCommand, Command, IsFileOf, policy_of}
 use Rattle.ff_writing.specs.Checked.{Checks}
 use Rattle.ff_writing.specs.Upgraded.{Upgrades}
 use Rattle.ff_writing.specs.Generated.{Generates}
-use Rattle.ff_words.specs.declared.words.Command.{Command}
-use Rattle.ff_words.specs.declared.words.Command.TheVariants as command
 
 -- the words are no command at `Usage`, and a command at each other status
 abbrev pub Suits : Status → List (String Global) → Type 0
 Suits Usage words = ¬ AreCommand words
 Suits other words = AreCommand words
 
--- What a command does under a policy, by the file of this name: the state that a resumed run begins
--- with, or the rules of a released one.
-abbrev pub Performs : Command → Assignment → ShelfTold → List ℕ → Told → Told → ℕ → ℕ → Status → Type 0
-Performs command.Check p shelf file before now turns_before turns_now status = Checks p.order before now turns_before turns_now status
-Performs (command.Generate start inputs) p shelf file before now turns_before turns_now status = Generates p start inputs before now turns_before turns_now status
-Performs command.Upgrade p shelf file before now turns_before turns_now status = Upgrades p before now turns_before turns_now status
-Performs (command.Trace work) p shelf file before now turns_before turns_now status = Exchanged (Gives p.order) (duty work p) before now turns_before turns_now status
-Performs command.Audit p shelf file before now turns_before turns_now status = Exchanged (Gives p.order) (audit_duty p) before now turns_before turns_now status
-Performs command.Travel p shelf file before now turns_before turns_now status = Exchanged (commands.Gives p.order) (travel_duty p) before now turns_before turns_now status
-Performs command.Resume p shelf file before now turns_before turns_now status = FromState p shelf file (λ pool. Exchanged (Gives p.order) (resume_duty p (stand_of pool)) before now turns_before turns_now status)
-Performs command.Release p shelf file before now turns_before turns_now status = ByRules p.order shelf file (λ rules. Exchanged (Gives p.order) (release_duty p rules) before now turns_before turns_now status)
+-- What the outside tells at one moment: the shelf, the port, and how many turns were made.
+pub record Outside : Type 0 where
+  pub shelf : ShelfTold
+  pub port : Told
+  pub turns : ℕ
 
--- a command that runs no browser
-abbrev pub RunsNone : Command → Type 0
-RunsNone command.Check = ⊤
-RunsNone command.Upgrade = ⊤
-RunsNone (command.Trace Format) = ⊤
-RunsNone other = ⊥
+abbrev pub outside : ShelfTold → Told → ℕ → Outside
+outside shelf port turns = record { shelf = shelf; port = port; turns = turns }
 
--- Nothing was got or put, no call failed, and no turn was made.
-pub record IsUntouched (before now : Told) (turns_before turns_now : ℕ) : Type 0 where
-  pub port : now ≡ before
-  pub turns : turns_now ≡ turns_before
+-- Nothing was got or put, no call of the port failed, and no turn was made.
+pub record IsUntouched (before now : Outside) : Type 0 where
+  pub port : now.port ≡ before.port
+  pub turns : now.turns ≡ before.turns
 
--- What a command under the policy of this name does, by the file of that name and by the status:
--- nothing before the policy and the other file are accepted.
-abbrev pub Obeys : Command → List ℕ → List ℕ → ShelfTold → ShelfTold → Told → Told → ℕ → ℕ → Status → Type 0
-Obeys command name file shelf shelf_now before now turns_before turns_now Usage = ⊥
--- the file of the first name is no policy
-Obeys command name file shelf shelf_now before now turns_before turns_now (Policy fault) = NamesFault shelf name fault × IsUntouched before now turns_before turns_now
--- that of the second name is no saved text under the policy
-Obeys which name file shelf shelf_now before now turns_before turns_now (Saved fault) =
-    (which ≡ command.Resume) × Under shelf name (λ p. NamesStateFault p shelf file fault) × IsUntouched before now turns_before turns_now
--- or has no rules
-Obeys which name file shelf shelf_now before now turns_before turns_now (Release fault) =
-    (which ≡ command.Release) × Under shelf name (λ p. NamesRulesFault p.order shelf file fault) × IsUntouched before now turns_before turns_now
--- a fetch of one of them failed
-Obeys command name file shelf shelf_now before now turns_before turns_now ShelfFault = (IsUnfetched name shelf shelf_now ⊎ IsUnfetched file shelf shelf_now) × IsUntouched before now turns_before turns_now
--- memory was refused before the policy and the other file were accepted, or after
-Obeys command name file shelf shelf_now before now turns_before turns_now NoMemory =
-    IsUntouched before now turns_before turns_now ⊎ Under shelf name (λ p. Performs command p shelf file before now turns_before turns_now NoMemory)
-Obeys command name file shelf shelf_now before now turns_before turns_now status = Under shelf name (λ p. Performs command p shelf file before now turns_before turns_now status)
+-- By what a name of this kind stands for.
+module _ {X : Type 0} (kind : Kind X) (name : List ℕ) (before now : Outside) where
+  -- It stands for something by which this is how it ends; or for nothing, which is how it ends
+  -- then, and nothing is touched.
+  pub data EndsBy (by : X → Status → Type 0) : Status → Type 0 where
+    found : (status : Status) → StandsFor kind before.shelf name (λ x. by x status) → EndsBy by status
+    refused : (status : Status) → Refuses kind before.shelf now.shelf name status → IsUntouched before now → EndsBy by status
 
--- What a command does under a policy that was found, by the file of this name and by the status.
-abbrev pub PerformsBy : Command → Assignment → List ℕ → ShelfTold → ShelfTold → Told → Told → ℕ → ℕ → Status → Type 0
-PerformsBy which p file shelf shelf_now before now turns_before turns_now Usage = ⊥
-PerformsBy which p file shelf shelf_now before now turns_before turns_now (Policy fault) = ⊥
-PerformsBy which p file shelf shelf_now before now turns_before turns_now (Saved fault) = (which ≡ command.Resume) × NamesStateFault p shelf file fault × IsUntouched before now turns_before turns_now
-PerformsBy which p file shelf shelf_now before now turns_before turns_now (Release fault) = (which ≡ command.Release) × NamesRulesFault p.order shelf file fault × IsUntouched before now turns_before turns_now
-PerformsBy which p file shelf shelf_now before now turns_before turns_now ShelfFault = IsUnfetched file shelf shelf_now × IsUntouched before now turns_before turns_now
-PerformsBy which p file shelf shelf_now before now turns_before turns_now NoMemory =
-    IsUntouched before now turns_before turns_now ⊎ Performs which p shelf file before now turns_before turns_now NoMemory
-PerformsBy which p file shelf shelf_now before now turns_before turns_now status = Performs which p shelf file before now turns_before turns_now status
+  -- What is wrong with the file of this name is what it ends with, and by what else the name stands
+  -- for, this holds: where that is known and no fetch of it failed.
+  pub record Accepts (by : X → Type 0) (status : Status) : Type 0 where
+    pub bad : (ends : Status) → IsKnown before.shelf name → NamesBad kind before.shelf name ends → ¬ FetchFailed name before.shelf now.shelf → (status ≡ ends) ⊎ (status ≡ NoMemory)
+    pub good : (x : X) → IsKnown before.shelf name → Names kind before.shelf name x → ¬ FetchFailed name before.shelf now.shelf → by x
+
+-- A command goes over a trace, by what its lines give and by what it owes for that: what was put,
+-- promptly, in how many turns, and why; and where all of its text was put, exactly the turns of
+-- what was got.
+pub record Carries {X : Type 0} (Given : List ℕ → Result (Option X) TraceFault → Type 0) (owed : Duty X) (before now : Told) (turns_before turns_now : ℕ) (status : Status) : Type 0 where
+  pub exchanged : Exchanged Given owed before now turns_before turns_now status
+  pub counted : IsAnswered status → Counts Given owed before now turns_before turns_now
+
+-- What each command does under a policy: the duties of those that go over a trace, one a row, and
+-- what the others write.
+abbrev pub Performs : Command → Assignment → Outside → Outside → Status → Type 0
+Performs (Command.check policy) p before now = Checks p.order before.port now.port before.turns now.turns
+Performs (Command.upgrade policy) p before now = Upgrades p before.port now.port before.turns now.turns
+Performs (Command.generate start inputs) p before now = Generates p start inputs before.port now.port before.turns now.turns
+Performs (Command.multi policy slice) p before now = Carries (Gives p.order) (multi_duty p) before.port now.port before.turns now.turns
+Performs (Command.plain policy) p before now = Carries (Gives p.order) (plain_duty p) before.port now.port before.turns now.turns
+Performs (Command.format policy) p before now = Carries (Gives p.order) (format_duty p) before.port now.port before.turns now.turns
+Performs (Command.audit policy) p before now = Carries (Gives p.order) (audit_duty p) before.port now.port before.turns now.turns
+Performs (Command.travel policy) p before now = Carries (commands.Gives p.order) (travel_duty p) before.port now.port before.turns now.turns
+Performs (Command.resume policy from) p before now = EndsBy (states_under p) from before now (λ pool. Carries (Gives p.order) (resume_duty p (stand_of pool)) before.port now.port before.turns now.turns)
+Performs (Command.release policy rules) p before now = EndsBy (rules_for p.order) rules before now (λ rs. Carries (Gives p.order) (release_duty p rs) before.port now.port before.turns now.turns)
 
 -- how a command goes on under a good policy: by its other file, or at once
-abbrev pub GoesOn : Command → Assignment → List ℕ → ShelfTold → ShelfTold → Status → Type 0
-GoesOn command.Resume p file shelf shelf_now status = AcceptsState p shelf shelf_now file status
-GoesOn command.Release p file shelf shelf_now status = AcceptsRules p.order shelf shelf_now file status
-GoesOn other p file shelf shelf_now status = ¬ IsEarly status
+abbrev pub GoesOn : Command → Assignment → Outside → Outside → Status → Type 0
+GoesOn (Command.resume policy from) p before now status = Accepts (states_under p) from before now (λ pool. ¬ IsEarly status) status
+GoesOn (Command.release policy rules) p before now status = Accepts (rules_for p.order) rules before now (λ rs. ¬ IsEarly status) status
+GoesOn other p before now status = ¬ IsEarly status
 
--- what a command does under a policy that was found, and by what it then finds
-pub record Does (command : Command) (p : Assignment) (file : List ℕ) (shelf shelf_now : ShelfTold) (before now : Told) (turns_before turns_now : ℕ) (status : Status) : Type 0 where
-  pub performs : PerformsBy command p file shelf shelf_now before now turns_before turns_now status
-  pub goes_on : GoesOn command p file shelf shelf_now status
+-- Nothing failed: no fetch of a file that the command is by, no read and no write.
+pub record NothingFailed (command : Command) (before now : Outside) : Type 0 where
+  pub fetches : ¬ IsUnfetched (policy_of command) before.shelf now.shelf
+  pub more_fetches : (name : List ℕ) → IsFileOf command name → ¬ IsUnfetched name before.shelf now.shelf
+  pub reads : ¬ Rose before.port.read_faults now.port.read_faults
+  pub writes : ¬ Rose before.port.write_faults now.port.write_faults
 
--- under the policy of this name, by the rules of that name, the same of a released run
-abbrev pub ReleasedUnder : ShelfTold → List ℕ → List ℕ → Told → Told → Type 0
-ReleasedUnder shelf name file before now = Under shelf name (λ p. ByRules p.order shelf file (λ rules. Claims p before now (λ is put. IsReleased p rules is put)))
-
--- Nothing passed, or under the policy of this name the whole lines that were put give each level a front of its view.
-abbrev pub CutUnder : ShelfTold → List ℕ → Told → Told → Type 0
-CutUnder shelf name before now = (now ≡ before) ⊎ ClaimsUnder shelf name before now AreFronts
-
--- under the policy of this name, what the report and the status of an audit tell
-abbrev pub AuditedUnder : ShelfTold → List ℕ → Told → Told → Status → Type 0
-AuditedUnder shelf name before now status = Under shelf name (λ p. Claims p before now (λ is put. IsAudit p status is put))
-
--- what the text of a travel tells
-abbrev pub TravelledUnder : ShelfTold → List ℕ → Told → Told → Type 0
-TravelledUnder shelf name before now = Under shelf name (λ p. Tells p before now)
-
--- from the state of that name, what the text of a resumed run tells
-abbrev pub ResumedUnder : ShelfTold → List ℕ → List ℕ → Told → Told → Type 0
-ResumedUnder shelf name file before now = Under shelf name (λ p. FromState p shelf file (λ pool. Claims p before now (λ is put. IsResumed p (stand_of pool) is put)))
-
--- Of a command that goes over a trace, of inputs or of the commands of a travel: exactly the turns
--- were made that the items take which the bytes got give, up to the first bad line.
-abbrev pub Counted : Command → Assignment → ShelfTold → List ℕ → Told → Told → ℕ → ℕ → Type 0
-Counted (command.Trace work) p shelf file before now turns_before turns_now = Counts (Gives p.order) (duty work p) before now turns_before turns_now
-Counted command.Audit p shelf file before now turns_before turns_now = Counts (Gives p.order) (audit_duty p) before now turns_before turns_now
-Counted command.Travel p shelf file before now turns_before turns_now = Counts (commands.Gives p.order) (travel_duty p) before now turns_before turns_now
-Counted command.Resume p shelf file before now turns_before turns_now = FromState p shelf file (λ pool. Counts (Gives p.order) (resume_duty p (stand_of pool)) before now turns_before turns_now)
-Counted command.Release p shelf file before now turns_before turns_now = ByRules p.order shelf file (λ rules. Counts (Gives p.order) (release_duty p rules) before now turns_before turns_now)
-Counted other p shelf file before now turns_before turns_now = ⊤
-
--- Nothing failed: no fetch of the file of one of these names, no read and no write.
-pub record NothingFailed (name file : List ℕ) (shelf shelf_now : ShelfTold) (before now : Told) : Type 0 where
-  pub fetches : ¬ IsUnfetched name shelf shelf_now
-  pub more_fetches : ¬ IsUnfetched file shelf shelf_now
-  pub reads : ¬ Rose before.read_faults now.read_faults
-  pub writes : ¬ Rose before.write_faults now.write_faults
-
--- What a command under the policy of this name, by the file of that name, comes to, by what the
--- shelf, the port and the counter of turns tell before and after it, and its status.
-pub record ComesTo (command : Command) (name file : List ℕ) (shelf shelf_now : ShelfTold) (before now : Told) (turns_before turns_now : ℕ) (status : Status) : Type 0 where
-  -- what was put, promptly, for what was got, in how many turns, and why
-  pub obeys : Obeys command name file shelf shelf_now before now turns_before turns_now status
-  -- where all of its text was put, exactly the turns of the items got
-  pub counted : IsAnswered status → Under shelf name (λ p. Counted command p shelf file before now turns_before turns_now)
-  -- where a fetch failed, the status says so, and where nothing failed, it is no fault of the outside
-  pub fetched : FetchedOrFailed shelf shelf_now status
-  pub complete : NothingFailed name file shelf shelf_now before now → IsUnfailing status
-  -- a policy that is known: its fault is what it ends with, and a good one is accepted
-  pub bad_policy : (fault : PolicyFault) → IsKnown shelf name → NamesFault shelf name fault → ¬ FetchFailed name shelf shelf_now → (status ≡ Policy fault) ⊎ (status ≡ NoMemory)
-  pub good_policy : (p : Assignment) → IsKnown shelf name → NamesPolicy shelf name p → ¬ FetchFailed name shelf shelf_now → GoesOn command p file shelf shelf_now status
+-- What a command comes to, by what the outside tells before and after it, and its status.
+pub record ComesTo (command : Command) (before now : Outside) (status : Status) : Type 0 where
+  -- under its policy it does what it is for
+  pub obeys : EndsBy policies (policy_of command) before now (λ p ends. IsAssignment p × Performs command p before now ends) status
+  -- a bad policy is what it ends with, and a good one is accepted
+  pub accepts : Accepts policies (policy_of command) before now (λ p. GoesOn command p before now status) status
+  -- where a fetch failed, the status says so, and where nothing failed, it is no fault of the
+  -- outside
+  pub fetched : FetchedOrFailed before.shelf now.shelf status
+  pub complete : NothingFailed command before now → IsUnfailing status
 
 -- a front of the line was put on a sink, and all of it where no write failed
 abbrev pub Reports : SinkTold → SinkTold → List ℕ → Type 0

@@ -1,14 +1,15 @@
 //! A name, and what it stands for.
 ghost use Rattle.std.specs.Prelude.{◌≡◌, ◌≢◌, ◌<◌, ◌⊎◌, ℕ, List, IfOk, IfErr, Ok, Err};
 ghost use Rattle.ff_run.specs.Status.{IsUncopied};
-ghost use Rattle.ff_run.specs.Names.{Names, NamesBad, Refuses, IsFetchedOrFails, IsKnown, IsLater, IsOutside};
-ghost use Rattle.ff_words.specs.Words.{dash};
+ghost use Rattle.ff_run.specs.Names.{Kind, Names, NamesBad, Refuses, IsByGiven, IsFetchedOrFails, IsKnown, IsLater, IsOutside};
+ghost use Rattle.ff_run.specs.Words.{dash};
 ghost use Rattle.ff_status.specs.declared.status.Status.{Status};
 
+use crate::NoMemory;
+use ff_contract::Steps;
 use ff_io::{FetchFail, Shelf, fetch_front};
 use ff_status::Status;
-use ff_steps::Steps;
-use std::alloc::{AllocError, Global};
+use std::alloc::Global;
 use std::sync::ledger::Ledger;
 
 /// What a name may stand for: something built in at `-`, and else what a file's bytes give.
@@ -16,29 +17,20 @@ pub(crate) trait Named {
     /// What is found.
     type Found: Drop;
 
-    // What is built in.
-    ghost at_dash: { Self → Self.Found };
-
-    // How many bytes of a file count.
-    ghost most: { Self → ℕ };
-
-    // The bytes give this.
-    ghost gives: { Self → List ℕ → Self.Found → Type 0 };
-
-    // The bytes give nothing, and the run ends so.
-    ghost is_bad: { Self → List ℕ → Status → Type 0 };
+    // What a name may stand for.
+    ghost kind: { Self → Kind Self.Found };
 
     // How the counter of copied cells goes on while a file is read.
     ghost copied: { Self → ℕ → ℕ → Type 0 };
 
     /// How many bytes of a file count, from 1 on.
     fn most(&self) -> usize
-        ensures value { result ≡ most self.now }
+        ensures value { result ≡ (kind self.now).most }
         ensures some { 0 < result };
 
-    /// What is built in. Its one refusal is want of memory.
-    fn at_dash(&self, alloc: Global) -> Result<Self::Found, AllocError>
-        ensures { IfOk result (λ found. found ≡ at_dash self.now) };
+    /// What is built in.
+    fn at_dash(&self, alloc: Global) -> Result<Self::Found, NoMemory>
+        ensures { IfOk result (λ found. found ≡ (kind self.now).built_in) };
 
     /// What the bytes of a file give. `copies` counts the cells that are copied for it.
     fn read<C: Ledger>(
@@ -47,10 +39,13 @@ pub(crate) trait Named {
         bytes: &[u8],
         copies: &mut Steps<C>,
     ) -> Result<Self::Found, Status>
-        ensures found { IfOk result (gives self.now bytes.now) }
-        ensures bad { IfErr result (λ status. (status ≡ Status.NoMemory) ⊎ is_bad self.now bytes.now status) }
-        ensures only { (found : Self.Found) → gives self.now bytes.now found → (result ≡ Ok found) ⊎ (result ≡ Err Status.NoMemory) }
-        ensures exact { (status : Status) → is_bad self.now bytes.now status → (result ≡ Err status) ⊎ (result ≡ Err Status.NoMemory) }
+        ensures found { IfOk result ((kind self.now).gives bytes.now) }
+        ensures bad { IfErr result (λ status. (status ≡ Status.NoMemory)
+            ⊎ (kind self.now).is_bad bytes.now status) }
+        ensures only { (found : Self.Found) → (kind self.now).gives bytes.now found
+            → (result ≡ Ok found) ⊎ (result ≡ Err Status.NoMemory) }
+        ensures exact { (status : Status) → (kind self.now).is_bad bytes.now status
+            → (result ≡ Err status) ⊎ (result ≡ Err Status.NoMemory) }
         ensures copied { copied self.now copies.old copies.new }
         ensures uncopied { IfErr result (λ status. IsUncopied status → copies.new ≡ copies.old) };
 }
@@ -68,10 +63,17 @@ pub(crate) fn find<N: Named, S: Shelf, C: Ledger>(
     name: &str,
     copies: &mut Steps<C>,
 ) -> Result<N::Found, Status>
-    ensures named { IfOk result (Names (N.at_dash what.now) (N.most what.now) (N.gives what.now) (N.is_bad what.now) (S.told shelf.old) name.now) }
-    ensures refused { IfErr result (Refuses (N.at_dash what.now) (N.most what.now) (N.gives what.now) (N.is_bad what.now) (S.told shelf.old) (S.told shelf.new) name.now) }
-    ensures only { (found : N.Found) → IsKnown (S.told shelf.old) name.now → Names (N.at_dash what.now) (N.most what.now) (N.gives what.now) (N.is_bad what.now) (S.told shelf.old) name.now found → (result ≡ Ok found) ⊎ IsOutside result }
-    ensures exact { (status : Status) → IsKnown (S.told shelf.old) name.now → NamesBad (N.at_dash what.now) (N.most what.now) (N.gives what.now) (N.is_bad what.now) (S.told shelf.old) name.now status → (result ≡ Err status) ⊎ IsOutside result }
+    ensures named { IfOk result (Names (N.kind what.now) (S.told shelf.old) name.now) }
+    ensures given { IfOk result
+        (IsByGiven (N.kind what.now) (S.told shelf.old) (S.told shelf.new) name.now) }
+    ensures refused { IfErr result
+        (Refuses (N.kind what.now) (S.told shelf.old) (S.told shelf.new) name.now) }
+    ensures only { (found : N.Found) → IsKnown (S.told shelf.old) name.now
+        → Names (N.kind what.now)
+        (S.told shelf.old) name.now found → (result ≡ Ok found) ⊎ IsOutside result }
+    ensures exact { (status : Status) → IsKnown (S.told shelf.old) name.now
+        → NamesBad (N.kind what.now)
+        (S.told shelf.old) name.now status → (result ≡ Err status) ⊎ IsOutside result }
     ensures fetched { IsFetchedOrFails (S.told shelf.old) (S.told shelf.new) result }
     ensures later { IsLater (S.told shelf.old) (S.told shelf.new) }
     ensures copied { (copies.new ≡ copies.old) ⊎ N.copied what.now copies.old copies.new }
@@ -98,10 +100,17 @@ fn fetch<N: Named, S: Shelf, C: Ledger>(
     copies: &mut Steps<C>,
 ) -> Result<N::Found, Status>
     requires { name.now ≢ dash }
-    ensures named { IfOk result (Names (N.at_dash what.now) (N.most what.now) (N.gives what.now) (N.is_bad what.now) (S.told shelf.old) name.now) }
-    ensures refused { IfErr result (Refuses (N.at_dash what.now) (N.most what.now) (N.gives what.now) (N.is_bad what.now) (S.told shelf.old) (S.told shelf.new) name.now) }
-    ensures only { (found : N.Found) → IsKnown (S.told shelf.old) name.now → Names (N.at_dash what.now) (N.most what.now) (N.gives what.now) (N.is_bad what.now) (S.told shelf.old) name.now found → (result ≡ Ok found) ⊎ IsOutside result }
-    ensures exact { (status : Status) → IsKnown (S.told shelf.old) name.now → NamesBad (N.at_dash what.now) (N.most what.now) (N.gives what.now) (N.is_bad what.now) (S.told shelf.old) name.now status → (result ≡ Err status) ⊎ IsOutside result }
+    ensures named { IfOk result (Names (N.kind what.now) (S.told shelf.old) name.now) }
+    ensures given { IfOk result
+        (IsByGiven (N.kind what.now) (S.told shelf.old) (S.told shelf.new) name.now) }
+    ensures refused { IfErr result
+        (Refuses (N.kind what.now) (S.told shelf.old) (S.told shelf.new) name.now) }
+    ensures only { (found : N.Found) → IsKnown (S.told shelf.old) name.now
+        → Names (N.kind what.now)
+        (S.told shelf.old) name.now found → (result ≡ Ok found) ⊎ IsOutside result }
+    ensures exact { (status : Status) → IsKnown (S.told shelf.old) name.now
+        → NamesBad (N.kind what.now)
+        (S.told shelf.old) name.now status → (result ≡ Err status) ⊎ IsOutside result }
     ensures fetched { IsFetchedOrFails (S.told shelf.old) (S.told shelf.new) result }
     ensures later { IsLater (S.told shelf.old) (S.told shelf.new) }
     ensures copied { (copies.new ≡ copies.old) ⊎ N.copied what.now copies.old copies.new }

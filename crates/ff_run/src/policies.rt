@@ -1,13 +1,13 @@
 //! The policy of a command, by its name.
 ghost use Rattle.std.specs.Prelude.{◌≡◌};
-ghost use Rattle.ff_policy.specs.Assignment.{builtin};
-ghost use Rattle.ff_policy.specs.Reading.{IsPolicyOf};
+ghost use Rattle.ff_run.specs.Policies.{policies};
 
+use crate::NoMemory;
 use crate::named::Named;
+use ff_contract::Steps;
 use ff_policy::{MOST_POLICY_BYTES, Policy, PolicyFault};
 use ff_status::Status;
-use ff_steps::Steps;
-use std::alloc::{AllocError, Global};
+use std::alloc::Global;
 use std::sync::ledger::Ledger;
 
 /// How many bytes of a policy's file count: one more than a policy may have.
@@ -19,20 +19,11 @@ pub(crate) struct PolicyFile;
 
 impl Named for PolicyFile {
     ghost use Rattle.std.specs.Prelude.{◌≡◌};
-    ghost use Rattle.ff_policy.specs.Assignment.{builtin};
-    ghost use Rattle.ff_policy.specs.Reading.{IsPolicyOf};
-    ghost use Rattle.ff_run.specs.Policies.{IsBadPolicy};
-    ghost use Rattle.ff_run.specs.declared.policies.TheConstants.{MOST_FETCHED};
+    ghost use Rattle.ff_run.specs.Policies.{policies};
 
     type Found = Policy;
 
-    ghost at_dash = { λ _. builtin };
-
-    ghost most = { λ _. MOST_FETCHED };
-
-    ghost gives = { λ _. IsPolicyOf };
-
-    ghost is_bad = { λ _. IsBadPolicy };
+    ghost kind = { λ _. policies };
 
     ghost copied = { λ _ before now. now ≡ before };
 
@@ -40,7 +31,7 @@ impl Named for PolicyFile {
         MOST_FETCHED
     }
 
-    fn at_dash(&self, alloc: Global) -> Result<Policy, AllocError> {
+    fn at_dash(&self, alloc: Global) -> Result<Policy, NoMemory> {
         Policy::builtin(alloc)
     }
 

@@ -1,13 +1,14 @@
 //! The release rules of a command, by their name.
-ghost use Rattle.std.specs.Prelude.{◌≡◌, []};
-ghost use Rattle.ff_run.specs.Rules.{AreBadRules, AreRulesOf};
+ghost use Rattle.std.specs.Prelude.{◌≡◌};
+ghost use Rattle.ff_run.specs.Rules.{rules_for};
 
+use crate::NoMemory;
 use crate::named::Named;
+use ff_contract::Steps;
 use ff_policy::Policy;
 use ff_release::{MOST_RULES_BYTES, ReleaseFail, Rules};
 use ff_status::Status;
-use ff_steps::Steps;
-use std::alloc::{AllocError, Global};
+use std::alloc::Global;
 use std::sync::ledger::Ledger;
 
 /// How many bytes of a rules file count: one more than rules may have.
@@ -21,19 +22,12 @@ pub(crate) struct RulesFile<'a> {
 }
 
 impl Named for RulesFile<'_> {
-    ghost use Rattle.std.specs.Prelude.{◌≡◌, []};
-    ghost use Rattle.ff_run.specs.Rules.{AreBadRules, AreRulesOf};
-    ghost use Rattle.ff_run.specs.declared.rules.TheConstants.{MOST_FETCHED};
+    ghost use Rattle.std.specs.Prelude.{◌≡◌};
+    ghost use Rattle.ff_run.specs.Rules.{rules_for};
 
     type Found = Rules;
 
-    ghost at_dash = { λ _. [] };
-
-    ghost most = { λ _. MOST_FETCHED };
-
-    ghost gives = { λ file. AreRulesOf file.policy.now.order };
-
-    ghost is_bad = { λ file. AreBadRules file.policy.now.order };
+    ghost kind = { λ file. rules_for file.policy.now.order };
 
     ghost copied = { λ _ before now. now ≡ before };
 
@@ -41,7 +35,7 @@ impl Named for RulesFile<'_> {
         MOST_FETCHED
     }
 
-    fn at_dash(&self, alloc: Global) -> Result<Rules, AllocError> {
+    fn at_dash(&self, alloc: Global) -> Result<Rules, NoMemory> {
         Ok(Rules::none(alloc))
     }
 

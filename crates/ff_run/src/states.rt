@@ -1,17 +1,16 @@
 //! The copies that a resumed run begins with, by the name of their saved text.
 ghost use Rattle.std.specs.Prelude.{◌≤◌};
-ghost use Rattle.ff_resume.specs.Resumed.{new_copies};
-ghost use Rattle.ff_run.specs.States.{IsBadState};
-ghost use Rattle.ff_save.specs.Whole.{IsSaved};
+ghost use Rattle.ff_run.specs.States.{states_under};
 
+use crate::NoMemory;
 use crate::named::Named;
+use ff_contract::Steps;
 use ff_core::Browser;
 use ff_policy::Policy;
 use ff_pool::Pool;
 use ff_save::{MOST_SAVED_BYTES, SavedFail, read_saved};
 use ff_status::Status;
-use ff_steps::Steps;
-use std::alloc::{AllocError, Global};
+use std::alloc::Global;
 use std::sync::ledger::Ledger;
 
 /// How many bytes of a saved state's file count: one more than a saved text may have.
@@ -26,20 +25,11 @@ pub(crate) struct StateFile<'a> {
 
 impl Named for StateFile<'_> {
     ghost use Rattle.std.specs.Prelude.{◌≤◌};
-    ghost use Rattle.ff_resume.specs.Resumed.{new_copies};
-    ghost use Rattle.ff_run.specs.States.{IsBadState};
-    ghost use Rattle.ff_run.specs.declared.states.TheConstants.{MOST_FETCHED};
-    ghost use Rattle.ff_save.specs.Whole.{IsSaved};
+    ghost use Rattle.ff_run.specs.States.{states_under};
 
     type Found = Pool<Browser>;
 
-    ghost at_dash = { λ file. new_copies file.policy.now };
-
-    ghost most = { λ _. MOST_FETCHED };
-
-    ghost gives = { λ file. IsSaved file.policy.now };
-
-    ghost is_bad = { λ file. IsBadState file.policy.now };
+    ghost kind = { λ file. states_under file.policy.now };
 
     ghost copied = { λ _ before now. before ≤ now };
 
@@ -47,7 +37,7 @@ impl Named for StateFile<'_> {
         MOST_FETCHED
     }
 
-    fn at_dash(&self, alloc: Global) -> Result<Pool<Browser>, AllocError> {
+    fn at_dash(&self, alloc: Global) -> Result<Pool<Browser>, NoMemory> {
         let lattice = self.policy.lattice();
         Pool::new(alloc, lattice.size(), self.policy.fuel())
     }

@@ -1,31 +1,34 @@
-ghost use Rattle.std.specs.Prelude.{◌≡◌, ◌≢◌, ◌≤◌, ◌<◌, [], ℕ, List};
-ghost use Rattle.ff_reactive.specs.Laws.{IsProjection, IsSecure, IsPrecise};
-ghost use Rattle.ff_io.specs.Shelf.{ShelfTold};
+ghost use Rattle.std.specs.Prelude.{◌≡◌, ◌≢◌, ◌≤◌, [], ℕ, List};
+ghost use Rattle.ff_confinement.specs.Laws.{IsProjection, IsSecure, IsPrecise};
 ghost use Rattle.ff_session.specs.Levels.{levels, machine};
 ghost use Rattle.ff_trace.specs.Lines.{IsInputOf};
-ghost use Rattle.ff_session.specs.Cut.{IsCutShort};
-ghost use Rattle.ff_session.specs.Claims.{IsAnswered};
+ghost use Rattle.ff_session.specs.Claims.{Claims, IsAnswered};
 ghost use Rattle.ff_status.specs.Words.{error_line};
-ghost use Rattle.ff_words.specs.Words.{Asks, AsksBy, NeedsFile, dash, multi};
-ghost use Rattle.ff_run.specs.Names.{FetchedOrFailed};
+ghost use Rattle.ff_policy.specs.Assignment.{IsAssignment};
+ghost use Rattle.ff_run.specs.Words as spec;
+ghost use Rattle.ff_run.specs.Words.{Asks, IsBuiltIn, IsByNoFile, MakesSteps, RunsNone, command_of};
+ghost use Rattle.ff_run.specs.Names.{FetchedOrFailed, IsLater};
 ghost use Rattle.ff_run.specs.Status.{IsEarly, IsUncopied};
-ghost use Rattle.ff_run.specs.Claims.{ClaimsUnder};
-ghost use Rattle.ff_run.specs.Run.{AuditedUnder, ComesTo, CutUnder, Does, Performs, ReleasedUnder, Reports, ResumedUnder, RunsNone, Suits, TravelledUnder};
-ghost use Rattle.ff_words.specs.declared.words.Command.{Command};
+ghost use Rattle.ff_run.specs.Claims.{IsConfined, OnMulti, OnMultiAsGiven};
+ghost use Rattle.ff_run.specs.Telling.{OnEach, OnMultiCutShort};
+ghost use Rattle.ff_run.specs.Policies.{UnderGiven};
+ghost use Rattle.ff_run.specs.Run.{ComesTo, GoesOn, Performs, Reports, Suits, outside};
 
 use crate::named::find;
 use crate::policies::PolicyFile;
-use crate::released::release_by;
-use crate::resumed::resume_by;
+use crate::rules::RulesFile;
+use crate::states::StateFile;
+use crate::words::{Command, asked_by};
 use ff_audit::audit;
+use ff_contract::Steps;
 use ff_core::Browser;
 use ff_io::{Port, Shelf, Sink};
 use ff_policy::Policy;
-use ff_session::walk;
+use ff_release::release;
+use ff_resume::resume;
+use ff_session::{USUAL_SLICE, walk_format, walk_multi, walk_plain};
 use ff_status::Status;
-use ff_steps::Steps;
 use ff_travel::travel;
-use ff_words::{Command, asked_by};
 use ff_writing::{check, generate, upgrade};
 use std::alloc::Global;
 use std::sync::ledger::Ledger;
@@ -65,44 +68,42 @@ pub fn run<S: Shelf, P: Port, E: Sink, C: Ledger, L: Ledger>(
     turns: &mut Steps<L>,
 ) -> Status
     // What the command of the words comes to, by the outside before and after it, and the status.
-    ensures comes { (command : Command) (name file : List ℕ) → AsksBy words.now command name file
-        → ComesTo command name file (S.told shelf.old) (S.told shelf.new) (P.told port.old) (P.told port.new) turns.old turns.new result }
+    ensures comes { (command : spec.Command) → Asks words.now command
+        → ComesTo command (outside (S.told shelf.old) (P.told port.old) turns.old)
+        (outside (S.told shelf.new) (P.told port.new) turns.new) result }
     ensures usage { Suits result words.now }
 
     // The headline of `multi`: each level's lines, the view of each level, and where precision
     // holds, for every policy.
-    ensures projected { (name : List ℕ) → Asks words.now multi name → IsAnswered result
-        → ClaimsUnder (S.told shelf.old) name (P.told port.old) (P.told port.new) (λ p is put. IsProjection (machine p) (levels p) is put) }
-    ensures secure { (name : List ℕ) → Asks words.now multi name → IsAnswered result
-        → ClaimsUnder (S.told shelf.old) name (P.told port.old) (P.told port.new) (λ p is put. IsSecure (machine p) (levels p) (IsInputOf p.order) is put) }
-    ensures precise { (name : List ℕ) → Asks words.now multi name → IsAnswered result
-        → ClaimsUnder (S.told shelf.old) name (P.told port.old) (P.told port.new) (λ p is put. IsPrecise (machine p) (levels p) is put) }
+    ensures projected { OnMulti words.now result (S.told shelf.old) (P.told port.old)
+        (P.told port.new) (λ p is put. IsProjection (machine p) (levels p) is put) }
+    ensures secure { OnMulti words.now result (S.told shelf.old) (P.told port.old)
+        (P.told port.new) (λ p is put. IsSecure (machine p) (levels p) (IsInputOf p.order) is put) }
+    ensures precise { OnMulti words.now result (S.told shelf.old) (P.told port.old)
+        (P.told port.new) (λ p is put. IsPrecise (machine p) (levels p) is put) }
+
+    // The same under the policy that the shelf gave for the name: where no files are told, as of
+    // the system's own shelf, its fetches say which bytes that policy is read from.
+    ensures given { OnMultiAsGiven words.now result (S.told shelf.old) (S.told shelf.new)
+        (P.told port.old) (P.told port.new) }
 
     // Where a write failed or memory was refused, what each level was told is a front of its view.
-    ensures cut_short { (name : List ℕ) → Asks words.now multi name → IsCutShort result
-        → CutUnder (S.told shelf.old) name (P.told port.old) (P.told port.new) }
+    ensures cut_short { OnMultiCutShort words.now result (S.told shelf.old) (P.told port.old)
+        (P.told port.new) }
 
-    // What the other commands over a trace tell: the leaks of the plain browser that an audit finds,
-    // a front of the plain run that `show` writes, and a resumed run from where its copies stood.
-    ensures audited { (name : List ℕ) → Asks words.now Command.Audit name → IsAnswered result
-        → AuditedUnder (S.told shelf.old) name (P.told port.old) (P.told port.new) result }
-    ensures travelled { (name : List ℕ) → Asks words.now Command.Travel name → IsAnswered result
-        → TravelledUnder (S.told shelf.old) name (P.told port.old) (P.told port.new) }
-    ensures resumed { (name file : List ℕ) → AsksBy words.now Command.Resume name file → IsAnswered result
-        → ResumedUnder (S.told shelf.old) name file (P.told port.old) (P.told port.new) }
-
-    // The claim of `release`: each level is told no more than is offered at or below it, no rule
-    // makes more offers than its quota, and where none makes any, the text is that of `multi`.
-    ensures released { (name file : List ℕ) → AsksBy words.now Command.Release name file → IsAnswered result
-        → ReleasedUnder (S.told shelf.old) name file (P.told port.old) (P.told port.new) }
+    // What the texts of an audit, a travel, a resumed run and a released run tell.
+    ensures tells { OnEach words.now result (S.told shelf.old) (P.told port.old)
+        (P.told port.new) }
 
     // What isn't touched. Where no browser runs or is made of a saved text, no cell is copied.
     ensures untouched { IsEarly result → (port.new ≡ port.old) × (turns.new ≡ turns.old) }
     ensures files { (S.told shelf.new).files ≡ (S.told shelf.old).files }
     ensures no_shelf { result ≡ Status.Usage → shelf.new ≡ shelf.old }
-    ensures no_fetch { (command : Command) → Asks words.now command dash → shelf.new ≡ shelf.old }
+    ensures no_fetch { (command : spec.Command) → Asks words.now command
+        → IsBuiltIn command → shelf.new ≡ shelf.old }
     ensures no_copies { IsUncopied result → copies.new ≡ copies.old }
-    ensures uncopied { (command : Command) (name : List ℕ) → Asks words.now command name → RunsNone command → copies.new ≡ copies.old }
+    ensures uncopied { (command : spec.Command) → Asks words.now command
+        → RunsNone command → copies.new ≡ copies.old }
     ensures copies { copies.old ≤ copies.new }
 
     // The line on the error sink.
@@ -114,7 +115,8 @@ pub fn run<S: Shelf, P: Port, E: Sink, C: Ledger, L: Ledger>(
     status
 }
 
-/// Obeys the command that the words are.
+/// Obeys the command that the words are. It stands apart for the prover alone: `run` says more of
+/// its answer.
 fn answer<S: Shelf, P: Port, C: Ledger, L: Ledger>(
     alloc: Global,
     words: &[String],
@@ -123,124 +125,125 @@ fn answer<S: Shelf, P: Port, C: Ledger, L: Ledger>(
     copies: &mut Steps<C>,
     turns: &mut Steps<L>,
 ) -> Status
-    ensures comes { (command : Command) (name file : List ℕ) → AsksBy words.now command name file
-        → ComesTo command name file (S.told shelf.old) (S.told shelf.new) (P.told port.old) (P.told port.new) turns.old turns.new result }
+    ensures comes { (command : spec.Command) → Asks words.now command
+        → ComesTo command (outside (S.told shelf.old) (P.told port.old) turns.old)
+        (outside (S.told shelf.new) (P.told port.new) turns.new) result }
+    ensures given { OnMultiAsGiven words.now result (S.told shelf.old) (S.told shelf.new)
+        (P.told port.old) (P.told port.new) }
     ensures usage { Suits result words.now }
     ensures untouched { IsEarly result → (port.new ≡ port.old) × (turns.new ≡ turns.old) }
     ensures files { (S.told shelf.new).files ≡ (S.told shelf.old).files }
     ensures no_shelf { result ≡ Status.Usage → shelf.new ≡ shelf.old }
-    ensures no_fetch { (command : Command) → Asks words.now command dash → shelf.new ≡ shelf.old }
+    ensures no_fetch { (command : spec.Command) → Asks words.now command
+        → IsBuiltIn command → shelf.new ≡ shelf.old }
     ensures no_copies { IsUncopied result → copies.new ≡ copies.old }
-    ensures uncopied { (command : Command) (name : List ℕ) → Asks words.now command name → RunsNone command → copies.new ≡ copies.old }
+    ensures uncopied { (command : spec.Command) → Asks words.now command
+        → RunsNone command → copies.new ≡ copies.old }
     ensures copies { copies.old ≤ copies.new }
 {
     match asked_by(words) {
-        Some(asked) => obey(
-            alloc,
-            asked.command,
-            asked.name,
-            asked.file,
-            asked.slice,
-            shelf,
-            port,
-            copies,
-            turns,
-        ),
+        Some(command) => obey(alloc, command, shelf, port, copies, turns),
         None => Status::Usage,
     }
 }
 
-/// Obeys a command under the policy of this name, by the file of that name.
+/// Obeys a command under the policy that it names.
 fn obey<S: Shelf, P: Port, C: Ledger, L: Ledger>(
     alloc: Global,
-    command: Command,
-    name: &str,
-    file: &str,
-    slice: u32,
+    command: Command<'_>,
     shelf: &mut S,
     port: &mut P,
     copies: &mut Steps<C>,
     turns: &mut Steps<L>,
 ) -> Status
-    requires { 0 < slice }
-    ensures comes { ComesTo command name.now file.now (S.told shelf.old) (S.told shelf.new) (P.told port.old) (P.told port.new) turns.old turns.new result }
+    requires { MakesSteps (command_of command) }
+    ensures comes { ComesTo (command_of command.entry)
+        (outside (S.told shelf.old) (P.told port.old) turns.old)
+        (outside (S.told shelf.new) (P.told port.new) turns.new) result }
+    ensures given { (name : List ℕ) (slice : ℕ)
+        → command_of command.entry ≡ spec.Command.multi name slice
+        → IsAnswered result → UnderGiven (S.told shelf.old) (S.told shelf.new) name
+        (λ p. Claims p (P.told port.old) (P.told port.new) (IsConfined p)) }
     ensures command { result ≢ Status.Usage }
     ensures untouched { IsEarly result → (port.new ≡ port.old) × (turns.new ≡ turns.old) }
     ensures files { (S.told shelf.new).files ≡ (S.told shelf.old).files }
-    ensures no_fetch { name.now ≡ dash → file.now ≡ dash → shelf.new ≡ shelf.old }
+    ensures no_fetch { IsBuiltIn (command_of command.entry) → shelf.new ≡ shelf.old }
     ensures no_copies { IsUncopied result → copies.new ≡ copies.old }
-    ensures uncopied { RunsNone command → copies.new ≡ copies.old }
+    ensures uncopied { RunsNone (command_of command.entry) → copies.new ≡ copies.old }
     ensures copies { copies.old ≤ copies.new }
 {
-    match find(alloc, &PolicyFile, shelf, name, copies) {
-        Ok(policy) => {
-            let _known = policy.lattice();
-            obey_under(
-                alloc, command, &policy, file, slice, shelf, port, copies, turns,
-            )
-        }
+    match find(alloc, &PolicyFile, shelf, command.policy(), copies) {
+        Ok(policy) => perform(alloc, command, &policy, shelf, port, copies, turns),
         Err(status) => status,
     }
 }
 
-/// Obeys a command under a policy, by the file of this name.
-fn obey_under<S: Shelf, P: Port, C: Ledger, L: Ledger>(
+/// Carries out a command under a policy.
+fn perform<S: Shelf, P: Port, C: Ledger, L: Ledger>(
     alloc: Global,
-    command: Command,
+    command: Command<'_>,
     policy: &Policy,
-    file: &str,
-    slice: u32,
     shelf: &mut S,
     port: &mut P,
     copies: &mut Steps<C>,
     turns: &mut Steps<L>,
 ) -> Status
-    requires { 0 < slice }
-    ensures does { Does command policy.now file.now (S.told shelf.old) (S.told shelf.new) (P.told port.old) (P.told port.new) turns.old turns.new result }
+    requires { MakesSteps (command_of command) }
+    ensures valid { IsAssignment policy.now }
+    ensures performs { Performs (command_of command.entry) policy.now
+        (outside (S.told shelf.old) (P.told port.old) turns.old)
+        (outside (S.told shelf.new) (P.told port.new) turns.new) result }
+    ensures goes_on { GoesOn (command_of command.entry) policy.now
+        (outside (S.told shelf.old) (P.told port.old) turns.old)
+        (outside (S.told shelf.new) (P.told port.new) turns.new) result }
     ensures fetched { FetchedOrFailed (S.told shelf.old) (S.told shelf.new) result }
+    ensures later { IsLater (S.told shelf.old) (S.told shelf.new) }
     ensures untouched { IsEarly result → (port.new ≡ port.old) × (turns.new ≡ turns.old) }
-    ensures files { (S.told shelf.new).files ≡ (S.told shelf.old).files }
-    ensures no_fetch { file.now ≡ dash → shelf.new ≡ shelf.old }
+    ensures no_fetch { IsByNoFile (command_of command.entry) → shelf.new ≡ shelf.old }
     ensures no_copies { IsUncopied result → copies.new ≡ copies.old }
-    ensures uncopied { RunsNone command → copies.new ≡ copies.old }
-    ensures copies { copies.old ≤ copies.new }
-{
-    match command {
-        Command::Resume => resume_by(alloc, policy, file, slice, shelf, port, copies, turns),
-        Command::Release => release_by(alloc, policy, file, slice, shelf, port, copies, turns),
-        _ => perform(alloc, command, policy, slice, port, copies, turns),
-    }
-}
-
-/// Carries out a command that needs no other file under a policy.
-fn perform<P: Port, C: Ledger, L: Ledger>(
-    alloc: Global,
-    command: Command,
-    policy: &Policy,
-    slice: u32,
-    port: &mut P,
-    copies: &mut Steps<C>,
-    turns: &mut Steps<L>,
-) -> Status
-    requires slice { 0 < slice }
-    requires command { ¬ NeedsFile command }
-    ensures performs { (shelf : ShelfTold) (file : List ℕ) → Performs command policy.now shelf file (P.told port.old) (P.told port.new) turns.old turns.new result }
-    ensures uncopied { RunsNone command → copies.new ≡ copies.old }
+    ensures uncopied { RunsNone (command_of command.entry) → copies.new ≡ copies.old }
     ensures copies { copies.old ≤ copies.new }
 {
     let lattice = policy.lattice();
     match command {
-        Command::Check => check(alloc, lattice, port),
-        Command::Upgrade => upgrade(alloc, policy, port),
-        Command::Audit => audit::<Browser, P, C, L>(alloc, policy, port, copies, turns),
-        Command::Travel => travel::<Browser, P, C, L>(alloc, policy, port, copies, turns),
-        Command::Trace(work) => walk::<Browser, P, C, L>(
-            alloc, work, policy, slice, port, copies, turns,
+        Command::Check { .. } => check(alloc, lattice, port),
+        Command::Upgrade { .. } => upgrade(alloc, policy, port),
+        Command::Generate { start, inputs } => generate::<Browser, P, C, L>(
+            alloc,
+            policy,
+            USUAL_SLICE,
+            start,
+            inputs,
+            port,
+            copies,
+            turns,
         ),
-        Command::Generate(start, inputs) => {
-            generate::<Browser, P, C, L>(alloc, policy, slice, start, inputs, port, copies, turns)
+        Command::Multi { slice, .. } => {
+            walk_multi::<Browser, P, C, L>(alloc, policy, slice, port, copies, turns)
         }
-        Command::Resume => unreachable!(),
-        Command::Release => unreachable!(),
+        Command::Plain { .. } => walk_plain::<Browser, P, C, L>(alloc, policy, port, copies, turns),
+        Command::Format { .. } => walk_format(alloc, lattice, port, copies, turns),
+        Command::Audit { .. } => audit::<Browser, P, C, L>(alloc, policy, port, copies, turns),
+        Command::Travel { .. } => travel::<Browser, P, C, L>(alloc, policy, port, copies, turns),
+        Command::Resume { from, .. } => {
+            match find(alloc, &StateFile { policy }, shelf, from, copies) {
+                Ok(pool) => resume(alloc, policy, USUAL_SLICE, pool, port, copies, turns),
+                Err(status) => status,
+            }
+        }
+        Command::Release { rules, .. } => {
+            match find(alloc, &RulesFile { policy }, shelf, rules, copies) {
+                Ok(rules) => release::<Browser, P, C, L>(
+                    alloc,
+                    policy,
+                    rules,
+                    USUAL_SLICE,
+                    port,
+                    copies,
+                    turns,
+                ),
+                Err(status) => status,
+            }
+        }
     }
 }

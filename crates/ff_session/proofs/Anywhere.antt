@@ -8,19 +8,20 @@ use Rattle.std.proofs.lemmas.List.Elements.{filter-append, filter_passes, All-he
 use Rattle.std.proofs.lemmas.List.Folds.{list_any-append}
 use Rattle.std.proofs.lemmas.List.{map-append}
 use Rattle.std.proofs.lemmas.Slice.Eq.{bytes_eq-Decides}
-use Rattle.ff_reactive.specs.Copies.{Levels, below, seen, at_level}
-use Rattle.ff_reactive.specs.Given.{is_given, row_where, given_below}
-use Rattle.ff_reactive.specs.Laws.{IsLawful}
-use Rattle.ff_reactive.specs.Runs.{Machine, entries, joined, handle_seen, plain_from}
-use Rattle.ff_reactive.specs.Standings.{Standing, as_seen, puts_all, puts_own, run, state_after}
-use Rattle.ff_reactive.specs.Text.{only, text_of, text_out, view}
-use Rattle.ff_reactive.specs.Worlds.{each}
-use Rattle.ff_reactive.proofs.Below.{each_agree}
-use Rattle.ff_reactive.proofs.Fits.{has_line}
-use Rattle.ff_reactive.proofs.Given.{run_ok, secured_as_offered}
-use Rattle.ff_reactive.proofs.Lists.{filter-flat_map, filter_agree_all, filter_all, filter_none, flat_map_one_below}
-use Rattle.ff_reactive.proofs.Standings.{state_more, state_start}
-use Rattle.ff_reactive.proofs.Text.{HasLine, pick-text_of}
+use Rattle.ff_confinement.specs.Copies.{Levels, seen, at_level}
+use Rattle.ff_contract.specs.Lists.{below}
+use Rattle.ff_confinement.specs.Given.{is_given, row_where, given_below}
+use Rattle.ff_confinement.specs.Laws.{IsLawful}
+use Rattle.ff_confinement.specs.Runs.{Machine, entries, joined, handle_seen, plain_from}
+use Rattle.ff_confinement.specs.Standings.{Standing, as_seen, puts_all, puts_own, run, state_after}
+use Rattle.ff_confinement.specs.Text.{only, text_of, text_out, view}
+use Rattle.ff_confinement.specs.Worlds.{each}
+use Rattle.ff_confinement.proofs.Below.{each_agree}
+use Rattle.ff_confinement.proofs.Fits.{has_line}
+use Rattle.ff_confinement.proofs.Given.{run_ok, secured_as_offered}
+use Rattle.ff_confinement.proofs.Lists.{filter-flat_map, filter_agree_all, filter_all, filter_none, flat_map_one_below}
+use Rattle.ff_confinement.proofs.Standings.{state_more, state_start}
+use Rattle.ff_confinement.proofs.Text.{HasLine, pick-text_of}
 use Rattle.ff_machine.specs.State.{State}
 use Rattle.ff_machine.specs.Valid.{IsState}
 use Rattle.ff_policy.specs.Assignment.{Assignment, IsAssignment}
@@ -150,7 +151,8 @@ module _ (p : Assignment) (from : Standing State) (valid : IsAssignment p) (from
   offers_ok : (before : List Input) (k : ℕ) (i x : Input) → IsInputOf p.order i → as_seen (levels p) before k i ≡ Some x → IsInputOf p.order x
   offers_ok before k i x is seen = seen_input p k i x is seen
 
-  -- a level's own lines are what the plain browser puts at it, from where its copy stood, on what it sees
+  -- a level's own lines are what the plain browser puts at it, from where its copy stood, on what
+  -- it sees
   pub own_from : only (levels p) l (run_text p (seen_by p) from is) ≡ text_of (levels p) (at_level (levels p) l (joined (plain_from (machine p) (from.states l) (seen (levels p) l is))))
   unfolding text_out
   own_from =

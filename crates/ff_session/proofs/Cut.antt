@@ -8,9 +8,10 @@ use Rattle.ff_io.specs.Cutting.{has_newline}
 use Rattle.ff_io.specs.Fronts.{IsFront}
 use Rattle.ff_io.specs.Pieces.{put_of}
 use Rattle.ff_io.specs.Port.{Told}
-use Rattle.ff_reactive.specs.Copies.{Levels}
-use Rattle.ff_reactive.specs.Runs.{joined}
-use Rattle.ff_reactive.specs.Text.{BeginsWith, first_word, lines, names_below, pick, view}
+use Rattle.ff_confinement.specs.Copies.{Levels}
+use Rattle.ff_confinement.specs.Runs.{joined}
+use Rattle.ff_confinement.specs.Text.{first_word, lines, names_below, pick, view}
+use Rattle.ff_contract.specs.Lists.{Begins}
 use Rattle.ff_policy.specs.Assignment.{Assignment}
 use Rattle.ff_value.specs.declared.input.Input.{Input}
 use Rattle.ff_status.specs.declared.status.Status.{Status}
@@ -22,8 +23,7 @@ use Rattle.ff_session.specs.Giving.{Gives}
 use Rattle.ff_session.specs.Levels.{levels}
 use Rattle.ff_session.specs.Multi.{multi_text}
 use Rattle.ff_session.specs.Claims.{AreInputsGot, Claims}
-use Rattle.ff_session.specs.Works.{Exchanged, IsWritten, duty}
-use Rattle.ff_session.specs.declared.work.Work.TheVariants.{Multi}
+use Rattle.ff_session.specs.Works.{Exchanged, IsWritten, multi_duty}
 
 -- the bytes after the last newline
 left_over : List ℕ → List ℕ
@@ -77,13 +77,13 @@ pick_parts test bytes rest =
     ap (λ ls. joined (filter passes ls)) (lines_parts bytes rest) ∙ ap joined (filter-append passes front behind)
     ∙ flat_map-append (λ ls. ls) (filter passes front) (filter passes behind)
 
-front_view : {I O : Type 0} (v : Levels I O) (l : ℕ) (put text : List ℕ) → IsFront put text → BeginsWith (view v l text) (view v l (whole_lines put))
+front_view : {I O : Type 0} (v : Levels I O) (l : ℕ) (put text : List ℕ) → IsFront put text → Begins (view v l text) (view v l (whole_lines put))
 unfolding view
 front_view v l put text front = (pick (names_below v l) (left_over put ++ front.rest), ap (pick (names_below v l)) (sym front.joined) ∙ pick_parts (names_below v l) put front.rest)
 
 -- what a run that was cut short has put
-module _ {before now : Told} {turns_before turns_now : ℕ} (p : Assignment) (s : Status) (run : Exchanged (Gives p.order) (duty Multi p) before now turns_before turns_now s) where
-  fronts : (t : Status) → IsCutShort t → IsWritten (Gives p.order) (duty Multi p) t run.pieces turns_before turns_now → (is : List Input) (bad : Option (BadLine TraceFault)) → AreInputsGot p run.pieces is bad → IsFront (put_of run.pieces) (multi_text p is)
+module _ {before now : Told} {turns_before turns_now : ℕ} (p : Assignment) (s : Status) (run : Exchanged (Gives p.order) (multi_duty p) before now turns_before turns_now s) where
+  fronts : (t : Status) → IsCutShort t → IsWritten (Gives p.order) (multi_duty p) t run.pieces turns_before turns_now → (is : List Input) (bad : Option (BadLine TraceFault)) → AreInputsGot p run.pieces is bad → IsFront (put_of run.pieces) (multi_text p is)
   fronts WriteFault cut written is bad reads = let proper = (written is bad reads).0 in record { rest = proper.rest; joined = proper.joined }
   fronts NoMemory cut written is bad reads = (written is bad reads).0
   fronts Done cut written is bad reads = absurd cut

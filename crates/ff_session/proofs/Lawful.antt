@@ -1,9 +1,9 @@
 -- The levels of every policy fit the browser with the policy's fuel.
 use Rattle.std.proofs.Common.{ℕ}
-use Rattle.ff_reactive.specs.Turns.{KeepsOk}
-use Rattle.ff_reactive.specs.Laws.{IsLawful, IsNoninterfering}
-use Rattle.ff_reactive.proofs.Laws.{noninterfering}
-use Rattle.ff_reactive.proofs.Turns.{machine_handle_ok, machine_outputs_ok}
+use Rattle.ff_confinement.specs.Turns.{KeepsOk}
+use Rattle.ff_confinement.specs.Laws.{IsLawful, IsNoninterfering}
+use Rattle.ff_confinement.proofs.Laws.{noninterfering}
+use Rattle.ff_confinement.proofs.Turns.{machine_handle_ok, machine_outputs_ok}
 use Rattle.ff_lattice.specs.Order.{Order}
 use Rattle.ff_value.specs.Spelled.{IsWellSpelledOut}
 use Rattle.ff_machine.specs.Valid.{IsState}

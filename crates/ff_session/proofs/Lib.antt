@@ -13,3 +13,4 @@ pub mod Standing
 mod Parts
 pub mod Anywhere
 pub mod Cut
+pub mod Lines

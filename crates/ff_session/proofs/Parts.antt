@@ -136,7 +136,8 @@ module _ {X : Type 0} (Given : List ℕ → Result (Option X) TraceFault → Typ
   joined_parts n start bytes items no_bad more others bad (Reads.too_long n2 s bs long) good whole room rest = cc
   joined_parts n start bytes items no_bad more others bad (Reads.too_much n2 s bs much) good whole room rest = cc
 
--- where the first part ends with a newline and has no bad line, the inputs of both parts are those of the whole
+-- where the first part ends with a newline and has no bad line, the inputs of both parts are those
+-- of the whole
 pub parts_of_a_trace : (p : Assignment) (ended : Bool) (front second : List ℕ) (is js : List Input) (bad : Option (BadLine TraceFault)) → length ((front ++ 10 ∷ []) ++ second) ≤ MOST_TRACE_BYTES
     → IsTraceFor p true (front ++ 10 ∷ []) is None → IsTraceFor p ended second js bad → IsTraceFor p ended ((front ++ 10 ∷ []) ++ second) (is ++ js) (later_by (newlines (front ++ 10 ∷ [])) bad)
 parts_of_a_trace p ended front second is js bad room first rest =

@@ -1,10 +1,10 @@
 -- Where copies stand, inputs leave them: each browser valid and quiet, and levels that are one copy
 -- with one browser.
 use Rattle.std.proofs.Common.{◌≡◌, ℕ, true, Some, List, ◌++◌, All, refl}
-use Rattle.ff_reactive.specs.Copies.{multi}
-use Rattle.ff_reactive.specs.Sharing.{work}
-use Rattle.ff_reactive.specs.Standings.{Standing, Offering, fresh, run, work_of}
-use Rattle.ff_reactive.proofs.Standings.{run_rest, run_fresh, work_fresh}
+use Rattle.ff_confinement.specs.Copies.{multi}
+use Rattle.ff_confinement.specs.Sharing.{work}
+use Rattle.ff_confinement.specs.Standings.{Standing, Offering, fresh, run, work_of}
+use Rattle.ff_confinement.proofs.Standings.{run_rest, run_fresh, work_fresh}
 use Rattle.ff_value.specs.declared.input.Input.{Input}
 use Rattle.ff_machine.specs.State.{State}
 use Rattle.ff_machine.specs.Valid.{IsState}
@@ -12,8 +12,8 @@ use Rattle.ff_value.specs.Same.{same_input}
 use Rattle.ff_policy.specs.Assignment.{Assignment, IsAssignment}
 use Rattle.ff_session.specs.Levels.{levels, machine}
 use Rattle.ff_session.proofs.Lawful.{lawful}
-use Rattle.ff_reactive.specs.Given.{IsSecureAsOffered}
-use Rattle.ff_reactive.proofs.Given.{secured_as_offered}
+use Rattle.ff_confinement.specs.Given.{IsSecureAsOffered}
+use Rattle.ff_confinement.proofs.Given.{secured_as_offered}
 use Rattle.ff_trace.specs.Lines.{IsInputOf}
 use Rattle.ff_session.specs.Multi.{run_text, seen_by, stands_after}
 

@@ -2,8 +2,8 @@
 use Rattle.std.proofs.Common.{◌≡◌, ℕ, ◌+◌, ◌<◌, Result, Ok, Err, OnOk, List, [], ◌∷◌, ◌++◌, length, take, get_or, sym, ap, ◌∙◌, append_assoc, append-nil}
 use Rattle.std.specs.Bool.{⊤}
 use Rattle.std.proofs.lemmas.List.{take_more}
-use Rattle.ff_reactive.specs.Text.{text_of, line_of}
-use Rattle.ff_reactive.proofs.Text.{text_of_none, text_of-append, text_of-cons}
+use Rattle.ff_confinement.specs.Text.{text_of, line_of}
+use Rattle.ff_confinement.proofs.Text.{text_of_none, text_of-append, text_of-cons}
 use Rattle.ff_contract.specs.Appending.{Appends}
 use Rattle.ff_lattice.specs.Order.{Order}
 use Rattle.ff_value.specs.declared.input.Input.{Input}

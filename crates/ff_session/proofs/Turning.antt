@@ -1,8 +1,8 @@
 -- A browser takes an input and makes one turn after another until it is quiet.
 use Rattle.std.proofs.Common.{◌≡◌, ℕ, suc, ◌+◌, ◌-◌, ◌<◌, ◌≤◌, true, false, List, [], ◌∷◌, ◌++◌, sym, ap, subst, ◌∙◌, arith}
-use Rattle.ff_reactive.specs.Turns.{settle, turns_left, IsSettling}
-use Rattle.ff_reactive.proofs.Runs.{after_more, after_start}
-use Rattle.ff_reactive.proofs.Turns.{settle_turn, settle_enough, settling_start, settling_turn, settling_room, handling_done, turns_left_falls}
+use Rattle.ff_confinement.specs.Turns.{settle, turns_left, IsSettling}
+use Rattle.ff_confinement.proofs.Runs.{after_more, after_start}
+use Rattle.ff_confinement.proofs.Turns.{settle_turn, settle_enough, settling_start, settling_turn, settling_room, handling_done, turns_left_falls}
 use Rattle.ff_value.specs.declared.input.Input.{Input}
 use Rattle.ff_value.specs.declared.output.Out.{Out}
 use Rattle.ff_machine.specs.State.{State, empty}

@@ -1,6 +1,6 @@
 -- A browser handles an input: it takes it, and makes its turns until it is quiet again.
 use Rattle.std.specs.Prelude.{◌≡◌, ℕ, true}
-use Rattle.ff_reactive.specs.Runs.{Handled}
+use Rattle.ff_confinement.specs.Runs.{Handled}
 use Rattle.ff_value.specs.declared.input.Input.{Input}
 use Rattle.ff_value.specs.declared.output.Out.{Out}
 use Rattle.ff_machine.specs.State.{State}

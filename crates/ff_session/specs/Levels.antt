@@ -1,6 +1,6 @@
 -- The levels of a policy, and its machine.
-use Rattle.ff_reactive.specs.Runs.{Machine}
-use Rattle.ff_reactive.specs.Copies.{Levels}
+use Rattle.ff_confinement.specs.Runs.{Machine}
+use Rattle.ff_confinement.specs.Copies.{Levels}
 use Rattle.ff_value.specs.declared.input.Input.{Input}
 use Rattle.ff_value.specs.declared.output.Out.{Out}
 use Rattle.ff_machine.specs.State.{State}

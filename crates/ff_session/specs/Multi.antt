@@ -1,11 +1,11 @@
 -- Runs of copies of the browser, one for each level: from anywhere, and the multi-executed run from
 -- the start.
 use Rattle.std.specs.Prelude.{◌≡◌, ℕ, ◌+◌, false, Option, List}
-use Rattle.ff_reactive.specs.Copies.{multi}
-use Rattle.ff_reactive.specs.Text.{text_of, text_out}
-use Rattle.ff_reactive.specs.Sharing.{work}
-use Rattle.ff_reactive.specs.Standings.{Standing, Offering, as_seen, run, puts_all, turns_all, work_of, standing_after}
-use Rattle.ff_reactive.specs.Rested.{IsRested, IsTaking, offers_of}
+use Rattle.ff_confinement.specs.Copies.{multi}
+use Rattle.ff_confinement.specs.Text.{text_of, text_out}
+use Rattle.ff_confinement.specs.Sharing.{work}
+use Rattle.ff_confinement.specs.Standings.{Standing, Offering, as_seen, run, puts_all, turns_all, work_of, standing_after}
+use Rattle.ff_confinement.specs.Rested.{IsRested, IsTaking, offers_of}
 use Rattle.ff_lattice.specs.Order.{size}
 use Rattle.ff_value.specs.declared.input.Input.{Input}
 use Rattle.ff_machine.specs.State.{State}

@@ -1,7 +1,7 @@
 -- The plain run: one browser takes all inputs, and its lines are headed by their levels.
 use Rattle.std.specs.Prelude.{◌≡◌, ℕ, List}
-use Rattle.ff_reactive.specs.Runs.{after, plain}
-use Rattle.ff_reactive.specs.Text.{text_of, text_out}
+use Rattle.ff_confinement.specs.Runs.{after, plain}
+use Rattle.ff_confinement.specs.Text.{text_of, text_out}
 use Rattle.ff_value.specs.declared.input.Input.{Input}
 use Rattle.ff_machine.specs.State.{State}
 use Rattle.ff_policy.specs.Assignment.{Assignment}

@@ -1,10 +1,10 @@
--- What the work over a trace does to its port, and what it owes.
+-- What a command over a trace does to its port, and what it owes.
 use Rattle.std.specs.Prelude.{◌≡◌, ◌≢◌, ℕ, ◌+◌, ◌≤◌, ◌⊎◌, Bool, true, false, Option, Some, None, Result, List, ⊤}
 use Rattle.ff_io.specs.Counts.{Rose}
 use Rattle.ff_io.specs.Pieces.{Piece, got_of, put_of, has_end}
 use Rattle.ff_io.specs.Port.{Told, Passes}
 use Rattle.ff_io.specs.Fronts.{IsFront, IsProperFront}
-use Rattle.ff_reactive.specs.Runs.{work_plain}
+use Rattle.ff_confinement.specs.Runs.{work_plain}
 use Rattle.ff_value.specs.declared.input.Input.{Input}
 use Rattle.ff_policy.specs.Assignment.{Assignment}
 use Rattle.ff_status.specs.declared.status.Status.{Status}
@@ -17,15 +17,13 @@ use Rattle.ff_stream.specs.Owed.{Prompt}
 use Rattle.ff_stream.specs.declared.end.BadLine.{BadLine}
 use Rattle.ff_stream.specs.declared.end.Fault.{Fault}
 use Rattle.ff_stream.specs.declared.end.Fault.TheVariants.{TooLong, TooMuch, Line}
-use Rattle.ff_stream.specs.declared.end.End as stream
+use Rattle.ff_stream.specs.declared.end.End as declared
 use Rattle.ff_stream.specs.declared.end.End.TheVariants as end
 use Rattle.ff_session.specs.Levels.{machine}
-use Rattle.ff_session.specs.Formatting.{format_entry, format_text, no_turns}
-use Rattle.ff_session.specs.Plain.{plain_entry, plain_text, plain_turns}
-use Rattle.ff_reactive.specs.Standings.{fresh}
-use Rattle.ff_session.specs.Multi.{seen_by, copies_entry, copies_turns, multi_text, multi_turns}
-use Rattle.ff_session.specs.declared.work.Work.{Work}
-use Rattle.ff_session.specs.declared.work.Work.TheVariants.{Multi, Plain, Format}
+use Rattle.ff_session.specs.Formatting.{format_entry, format_text}
+use Rattle.ff_session.specs.Plain.{plain_entry, plain_text}
+use Rattle.ff_confinement.specs.Standings.{fresh}
+use Rattle.ff_session.specs.Multi.{seen_by, copies_entry, multi_text, multi_turns}
 
 -- What a command owes for the items of a trace: the text for an item after the items before it,
 -- which is put before the next read; the whole text for the items, where `whole` says that the
@@ -36,32 +34,17 @@ pub record Duty (X : Type 0) : Type 0 where
   pub turns : List X → ℕ
   pub good : List X → Status
 
--- the text for inputs
-abbrev pub text_for : Work → Assignment → List Input → List ℕ
-text_for Multi p is = multi_text p is
-text_for Plain p is = plain_text p is
-text_for Format p is = format_text p.order is
+-- what a multi-executed run owes: each text in time, and no more at the end
+abbrev pub multi_duty : Assignment → Duty Input
+multi_duty p = record { entry = copies_entry p (seen_by p) (fresh (machine p)); text = λ whole is. multi_text p is; turns = multi_turns p; good = λ is. Done }
 
--- the turns for inputs
-abbrev pub turns_for : Work → Assignment → List Input → ℕ
-turns_for Multi p is = multi_turns p is
-turns_for Plain p is = work_plain (machine p) is
-turns_for Format p is = 0
+-- what one browser owes
+abbrev pub plain_duty : Assignment → Duty Input
+plain_duty p = record { entry = plain_entry p; text = λ whole is. plain_text p is; turns = work_plain (machine p); good = λ is. Done }
 
--- the text for an input after the inputs before it, and its turns
-abbrev pub entry_for : Work → Assignment → List Input → Input → List ℕ
-entry_for Multi p = copies_entry p (seen_by p) (fresh (machine p))
-entry_for Plain p = plain_entry p
-entry_for Format p = format_entry p.order
-
-abbrev pub entry_turns : Work → Assignment → List Input → Input → ℕ
-entry_turns Multi p = copies_turns p (seen_by p) (fresh (machine p))
-entry_turns Plain p = plain_turns p
-entry_turns Format p = no_turns
-
--- what a work owes: each text in time, and no more at the end
-abbrev pub duty : Work → Assignment → Duty Input
-duty work p = record { entry = entry_for work p; text = λ whole is. text_for work p is; turns = turns_for work p; good = λ is. Done }
+-- what formatting owes, which makes no turns
+abbrev pub format_duty : Assignment → Duty Input
+format_duty p = record { entry = format_entry p.order; text = λ whole is. format_text p.order is; turns = λ is. 0; good = λ is. Done }
 
 -- the fault of a line, as the status has it
 abbrev pub fault_as : Fault TraceFault → TraceFault
@@ -70,7 +53,7 @@ fault_as TooMuch = trace_fault.TooMuch
 fault_as (Line fault) = fault
 
 -- the status of an end, and of the end of a trace of these items that has no bad line
-abbrev pub status_as : stream.End TraceFault → Status → Status
+abbrev pub status_as : declared.End TraceFault → Status → Status
 status_as end.Done good = good
 status_as (end.Bad line) good = Trace line.number (fault_as line.fault)
 status_as end.ReadFault good = ReadFault

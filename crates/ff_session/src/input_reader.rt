@@ -1,6 +1,7 @@
 ghost use Rattle.std.specs.Prelude.{◌≤◌, length, IfOk};
 ghost use Rattle.ff_session.specs.Giving.{Gives};
 
+use crate::NoMemory;
 use ff_io::MOST_LINE_BYTES;
 use ff_lattice::Lattice;
 use ff_status::TraceFault;
@@ -39,7 +40,7 @@ impl Reader for InputReader<'_> {
         alloc: Global,
         room: &mut Room,
         line: &[u8],
-    ) -> Result<Result<Option<Input>, TraceFault>, AllocError> {
+    ) -> Result<Result<Option<Input>, TraceFault>, NoMemory> {
         read_line(alloc, room, self.lattice, line)
     }
 }
@@ -51,7 +52,7 @@ fn read_line(
     room: &mut Room,
     lattice: &Lattice,
     line: &[u8],
-) -> Result<Result<Option<Input>, TraceFault>, AllocError>
+) -> Result<Result<Option<Input>, TraceFault>, NoMemory>
     requires { length line.now ≤ MOST_LINE_BYTES }
     ensures { IfOk result (Gives lattice.now line.now) }
 {

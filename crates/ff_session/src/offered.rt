@@ -3,19 +3,20 @@ ghost use Rattle.std.specs.Prelude.{◌≡◌, ◌<◌, ◌≤◌, ◌+◌, ◌+
 ghost use Rattle.ff_lattice.specs.Order.{size};
 ghost use Rattle.ff_value.specs.declared.input.Input.{Input};
 ghost use Rattle.ff_value.specs.Spelled.{IsWellSpelledInput};
-ghost use Rattle.ff_reactive.specs.Worlds.{AreOffers};
+ghost use Rattle.ff_confinement.specs.Worlds.{AreOffers};
 ghost use Rattle.ff_pool.specs.Pooled as pooled;
 ghost use Rattle.ff_machine.specs.State.{State};
 ghost use Rattle.ff_session.specs.Levels.{machine};
-ghost use Rattle.ff_reactive.specs.Standings.{Standing, Offering, fresh};
+ghost use Rattle.ff_confinement.specs.Standings.{Standing, Offering, fresh};
 ghost use Rattle.ff_session.specs.Multi.{AreCopiesAt, AreTakenBelow, IsOffered, copies_entry, copies_turns};
 
+use crate::NoMemory;
 use crate::printing::print_level;
+use ff_contract::Steps;
 use ff_policy::Policy;
 use ff_pool::{Pool, Reactor};
-use ff_steps::Steps;
 use ff_value::{Level, Offers};
-use std::alloc::{AllocError, Global};
+use std::alloc::Global;
 use std::sync::ledger::Ledger;
 
 /// Lets each level's offer of an input come to its copy, lets all copies do what then waits, and
@@ -30,15 +31,27 @@ pub fn take_offers<B: Reactor, C: Ledger, L: Ledger>(
     text: &mut Vec<u8>,
     copies: &mut Steps<C>,
     turns: &mut Steps<L>,
-) -> Result<(), AllocError>
+) -> Result<(), NoMemory>
     requires slice { 0 < slice }
     requires offers { AreOffers IsWellSpelledInput (size policy.now.order) offers.now }
-    requires at { (all : Offering Input) × (from : Standing State) × (is : List Input) × AreCopiesAt policy.now all from pool.old is }
-    ensures taken { OnOk result ((all : Offering Input) (from : Standing State) (is : List Input) (i : Input) → IsOffered policy.now all is i offers.now → AreCopiesAt policy.now all from pool.old is → AreCopiesAt policy.now all from pool.new (is ++ i ∷ [])) }
-    ensures text { OnOk result ((all : Offering Input) (from : Standing State) (is : List Input) (i : Input) → IsOffered policy.now all is i offers.now → AreCopiesAt policy.now all from pool.old is → text.new.items ≡ text.old.items ++ copies_entry policy.now all from is i) }
-    ensures count { OnOk result ((all : Offering Input) (from : Standing State) (is : List Input) (i : Input) → IsOffered policy.now all is i offers.now → AreCopiesAt policy.now all from pool.old is → turns.new ≡ turns.old + copies_turns policy.now all from is i) }
+    requires at { (all : Offering Input) × (from : Standing State) × (is : List Input)
+        × AreCopiesAt policy.now all from pool.old is }
+    ensures taken { OnOk result ((all : Offering Input) (from : Standing State) (is : List Input)
+        (i : Input) → IsOffered policy.now all is i offers.now
+        → AreCopiesAt policy.now all from pool.old is
+        → AreCopiesAt policy.now all from pool.new (is ++ i ∷ [])) }
+    ensures text { OnOk result ((all : Offering Input) (from : Standing State) (is : List Input)
+        (i : Input) → IsOffered policy.now all is i offers.now
+        → AreCopiesAt policy.now all from pool.old is
+        → text.new.items ≡ text.old.items ++ copies_entry policy.now all from is i) }
+    ensures count { OnOk result ((all : Offering Input) (from : Standing State) (is : List Input)
+        (i : Input) → IsOffered policy.now all is i offers.now
+        → AreCopiesAt policy.now all from pool.old is
+        → turns.new ≡ turns.old + copies_turns policy.now all from is i) }
     ensures later { turns.old ≤ turns.new }
-    ensures most { (all : Offering Input) (from : Standing State) (is : List Input) (i : Input) → IsOffered policy.now all is i offers.now → AreCopiesAt policy.now all from pool.old is → turns.new ≤ turns.old + copies_turns policy.now all from is i }
+    ensures most { (all : Offering Input) (from : Standing State) (is : List Input) (i : Input)
+        → IsOffered policy.now all is i offers.now → AreCopiesAt policy.now all from pool.old is
+        → turns.new ≤ turns.old + copies_turns policy.now all from is i }
     ensures later_copies { copies.old ≤ copies.new }
 {
     give(policy, slice, pool, offers, copies, turns)?;
@@ -53,15 +66,24 @@ fn give<B: Reactor, C: Ledger, L: Ledger>(
     offers: &Offers<'_>,
     copies: &mut Steps<C>,
     turns: &mut Steps<L>,
-) -> Result<(), AllocError>
+) -> Result<(), NoMemory>
     requires slice { 0 < slice }
     requires offers { AreOffers IsWellSpelledInput (size policy.now.order) offers.now }
-    requires at { (all : Offering Input) × (from : Standing State) × (is : List Input) × AreCopiesAt policy.now all from pool.old is }
-    ensures given { OnOk result ((all : Offering Input) (from : Standing State) (is : List Input) (i : Input) → IsOffered policy.now all is i offers.now → AreCopiesAt policy.now all from pool.old is → AreTakenBelow policy.now all from pool.new is i 0) }
+    requires at { (all : Offering Input) × (from : Standing State) × (is : List Input)
+        × AreCopiesAt policy.now all from pool.old is }
+    ensures given { OnOk result ((all : Offering Input) (from : Standing State) (is : List Input)
+        (i : Input) → IsOffered policy.now all is i offers.now
+        → AreCopiesAt policy.now all from pool.old is
+        → AreTakenBelow policy.now all from pool.new is i 0) }
     ensures levels { OnOk result (pooled.size pool.new ≡ size policy.now.order) }
-    ensures count { OnOk result ((all : Offering Input) (from : Standing State) (is : List Input) (i : Input) → IsOffered policy.now all is i offers.now → AreCopiesAt policy.now all from pool.old is → turns.new ≡ turns.old + copies_turns policy.now all from is i) }
+    ensures count { OnOk result ((all : Offering Input) (from : Standing State) (is : List Input)
+        (i : Input) → IsOffered policy.now all is i offers.now
+        → AreCopiesAt policy.now all from pool.old is
+        → turns.new ≡ turns.old + copies_turns policy.now all from is i) }
     ensures later { turns.old ≤ turns.new }
-    ensures most { (all : Offering Input) (from : Standing State) (is : List Input) (i : Input) → IsOffered policy.now all is i offers.now → AreCopiesAt policy.now all from pool.old is → turns.new ≤ turns.old + copies_turns policy.now all from is i }
+    ensures most { (all : Offering Input) (from : Standing State) (is : List Input) (i : Input)
+        → IsOffered policy.now all is i offers.now → AreCopiesAt policy.now all from pool.old is
+        → turns.new ≤ turns.old + copies_turns policy.now all from is i }
     ensures later_copies { copies.old ≤ copies.new }
 {
     pool.arrive(offers, copies)?;
@@ -73,10 +95,14 @@ fn let_out<B: Reactor>(
     policy: &Policy,
     pool: &mut Pool<B>,
     text: &mut Vec<u8>,
-) -> Result<(), AllocError>
+) -> Result<(), NoMemory>
     requires { pooled.size pool.old ≡ size policy.now.order }
-    ensures taken { OnOk result ((all : Offering Input) (from : Standing State) (is : List Input) (i : Input) → AreTakenBelow policy.now all from pool.old is i 0 → AreCopiesAt policy.now all from pool.new (is ++ i ∷ [])) }
-    ensures text { OnOk result ((all : Offering Input) (from : Standing State) (is : List Input) (i : Input) → AreTakenBelow policy.now all from pool.old is i 0 → text.new.items ≡ text.old.items ++ copies_entry policy.now all from is i) }
+    ensures taken { OnOk result ((all : Offering Input) (from : Standing State) (is : List Input)
+        (i : Input) → AreTakenBelow policy.now all from pool.old is i 0
+        → AreCopiesAt policy.now all from pool.new (is ++ i ∷ [])) }
+    ensures text { OnOk result ((all : Offering Input) (from : Standing State) (is : List Input)
+        (i : Input) → AreTakenBelow policy.now all from pool.old is i 0
+        → text.new.items ≡ text.old.items ++ copies_entry policy.now all from is i) }
 {
     for number in 0..policy.lattice().size() {
         let level = Level(number);
@@ -88,8 +114,9 @@ fn let_out<B: Reactor>(
 
 /// A pool for the levels of a policy, in which nothing came to any of them yet. It is refused only
 /// for want of memory.
-pub fn new_pool<B: Reactor>(alloc: Global, policy: &Policy) -> Result<Pool<B>, AllocError>
-    ensures { IfOk result (λ pool. (all : Offering Input) → AreCopiesAt policy.now all (fresh (machine policy.now)) pool []) }
+pub fn new_pool<B: Reactor>(alloc: Global, policy: &Policy) -> Result<Pool<B>, NoMemory>
+    ensures { IfOk result (λ pool. (all : Offering Input)
+        → AreCopiesAt policy.now all (fresh (machine policy.now)) pool []) }
 {
     Pool::new(alloc, policy.lattice().size(), policy.fuel())
 }

@@ -1,21 +1,21 @@
 ghost use Rattle.std.specs.Prelude.{◌≤◌, true};
 ghost use Rattle.ff_value.specs.declared.input.Input.{Input};
 ghost use Rattle.ff_session.specs.Giving.{Gives};
-ghost use Rattle.ff_session.specs.Works.{Exchanged, duty};
+ghost use Rattle.ff_session.specs.Works.{Exchanged, plain_duty};
 
+use crate::NoMemory;
 use crate::ending::status_of;
 use crate::handling::handle;
 use crate::input_reader::InputReader;
 use crate::printing::print_all;
-use crate::work::Work;
+use ff_contract::Steps;
 use ff_io::Port;
 use ff_policy::Policy;
 use ff_pool::Reactor;
 use ff_status::Status;
-use ff_steps::Steps;
 use ff_stream::{Taker, stream};
 use ff_value::Input;
-use std::alloc::{AllocError, Global};
+use std::alloc::Global;
 use std::marker::PhantomData;
 use std::sync::ledger::Ledger;
 
@@ -41,7 +41,7 @@ impl<B: Reactor> Taker for Plain<'_, B> {
 
     ghost entry = { λ taker start. plain_entry taker.policy.now };
 
-    ghost turns = { λ taker start. plain_turns taker.policy.now };
+    ghost turns_due = { λ taker start. plain_turns taker.policy.now };
 
     ghost is_at = { λ taker start browser. IsPlainAt taker.policy.now (B.state browser) };
 
@@ -54,23 +54,26 @@ impl<B: Reactor> Taker for Plain<'_, B> {
         item: &Input,
         text: &mut Vec<u8>,
         copies: &mut Steps<C>,
-        steps: &mut Steps<L>,
-    ) -> Result<(), AllocError> {
-        let outs = handle(alloc, state, item, copies, steps)?;
+        turns: &mut Steps<L>,
+    ) -> Result<(), NoMemory> {
+        let outs = handle(alloc, state, item, copies, turns)?;
         print_all(self.policy, outs.as_slice(), text)
     }
 }
 
-/// Runs one browser over the trace that the port gives.
+/// Runs one browser over the trace that the port gives, line by line: before the port is read
+/// again, the whole text of the lines that were got is written. `turns` counts its turns, and
+/// `copies` the cells that it copies.
 #[tactic(auto, using(crate::proofs::Giving::is_given, crate::proofs::Turning::fresh_plain))]
-pub(crate) fn walk_plain<B: Reactor, P: Port, C: Ledger, L: Ledger>(
+pub fn walk_plain<B: Reactor, P: Port, C: Ledger, L: Ledger>(
     alloc: Global,
     policy: &Policy,
     port: &mut P,
     copies: &mut Steps<C>,
     turns: &mut Steps<L>,
 ) -> Status
-    ensures exchanged { Exchanged (Gives policy.now.order) (duty Work.Plain policy.now) (P.told port.old) (P.told port.new) turns.old turns.new result }
+    ensures exchanged { Exchanged (Gives policy.now.order) (plain_duty policy.now)
+        (P.told port.old) (P.told port.new) turns.old turns.new result }
     ensures later_copies { copies.old ≤ copies.new }
 {
     let lattice = policy.lattice();

@@ -2,13 +2,19 @@
 //! read from standard input, what is written goes to standard output, what is wrong to standard
 //! error, and policies and rules are files of the working folder. How it ended is its exit status,
 //! as `Status` says.
+//!
+//! Floor: commands. It decides neither what a browser does nor who may know.
 #![tactic(auto)]
 
-ghost use Rattle.std.specs.Prelude.{◌≡◌, ◌<◌};
+ghost use Rattle.std.specs.Prelude.{◌≡◌, ◌<◌, Some, [], ℕ, List};
+ghost use Rattle.ff_run.specs.Words.{Asks, Command};
+ghost use Rattle.ff_session.specs.Claims.{IsAnswered};
+ghost use Rattle.ff_run.specs.System.{IsConfinedRun};
 
-use ff_io::{DirShelf, StdErr, StdPort};
+use ff_contract::Steps;
+use ff_io::{DirShelf, Port, Shelf, StdErr, StdPort};
 use ff_run::{Status, run};
-use ff_steps::Steps;
+use std::alloc::Global;
 use std::env::{self, Env};
 use std::fs::Files;
 use std::io::{self, Eprint, Input, Print};
@@ -55,7 +61,7 @@ fn start<C: Ledger, L: Ledger, R: Input + Print + Eprint + Files + AllocGlobal>(
     let mut err = StdErr::new(rt);
     let mut copied = Steps::<C>::new(copies);
     let mut made = Steps::<L>::new(turns);
-    run(
+    over_the_system(
         rt.alloc(),
         words,
         &mut shelf,
@@ -64,4 +70,25 @@ fn start<C: Ledger, L: Ledger, R: Input + Print + Eprint + Files + AllocGlobal>(
         &mut copied,
         &mut made,
     )
+}
+
+/// Runs the command that the words are over standard input and output, from which no piece passed
+/// yet, and over the working folder, from which nothing was fetched yet. Of what they hand out and
+/// take the headline of `multi` holds, under the policy that the bytes fetched spell.
+fn over_the_system<'a, R: Input + Print + Eprint + Files, C: Ledger, L: Ledger>(
+    alloc: Global,
+    words: &[String],
+    shelf: &mut DirShelf<'a, R>,
+    port: &mut StdPort<'a, R>,
+    err: &mut StdErr<'a, R>,
+    copies: &mut Steps<C>,
+    turns: &mut Steps<L>,
+) -> Status
+    requires no_fetch { ⟦<DirShelf<'a, R> as Shelf>⟧.fetches shelf.old ≡ Some [] }
+    requires no_piece { ⟦<StdPort<'a, R> as Port>⟧.log port.old ≡ Some [] }
+    ensures confined { (name : List ℕ) (slice : ℕ) → Asks words.now (Command.multi name slice)
+        → IsAnswered result → IsConfinedRun name (⟦<DirShelf<'a, R> as Shelf>⟧.fetches shelf.new)
+        (⟦<StdPort<'a, R> as Port>⟧.log port.new) }
+{
+    run(alloc, words, shelf, port, err, copies, turns)
 }

@@ -8,7 +8,9 @@ use Rattle.ff_run.proofs.law.what_is_put_line_by_line_is_the_whole_text.Goals as
 
 pub returns : goal.returns
 returns c = record {
-  work = λ work p is. session.same_text work p is;
+  multi = session.multi_text_is;
+  plain = session.plain_text_is;
+  format = session.format_text_is;
   travel = λ p commands. refl;
   resume = λ p from is. resume.same_text p (stand_of from) is ∙ sym (append-nil (run_text p (seen_by p) (stand_of from) is));
   release = λ p rules is. release.same_text p rules is;

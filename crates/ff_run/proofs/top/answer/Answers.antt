@@ -1,22 +1,19 @@
-use Rattle.std.proofs.Common.{ℕ, List, sym, subst}
-use Rattle.ff_run.specs.Run.{ComesTo, RunsNone}
-use Rattle.ff_words.specs.Words.{dash}
-use Rattle.ff_words.specs.declared.words.Command.{Command}
-use Rattle.ff_words.proofs.Commands.{asks_once}
+use Rattle.std.proofs.Common.{sym, subst}
+use Rattle.ff_run.specs.Run.{ComesTo, outside}
+use Rattle.ff_run.specs.Words.{Command, IsBuiltIn, RunsNone, command_of}
+use Rattle.ff_run.proofs.Commands.{asks_once}
 use Rattle.ff_run.proofs.top.answer.Goals as goal
 
 pub returns-in-Some-clause-comes : goal.returns-in-Some-clause-comes
-returns-in-Some-clause-comes g c command name file asks =
-    let same = asks_once c.args.words.now c.in-Some.asked.command command c.in-Some.asked.name.now c.in-Some.asked.file.now name file c.in-Some.ensures.spelled.0 asks in
-    let comes : Command → List ℕ → List ℕ → Type 0 = λ d n f. ComesTo d n f (g.S.Shelf.told c.args.shelf.now) (g.S.Shelf.told c.obey.new.shelf) (g.P.Port.told c.args.port.now) (g.P.Port.told c.obey.new.port) c.args.turns.now c.obey.new.turns c.obey.result in
-    subst (λ d. comes d name file) same.0 (subst (λ n. comes c.in-Some.asked.command n file) same.1 (subst (comes c.in-Some.asked.command c.in-Some.asked.name.now) same.2 c.obey.ensures.comes))
+returns-in-Some-clause-comes g c command asks =
+    subst (λ d. ComesTo d (outside (g.S.Shelf.told c.args.shelf.now) (g.P.Port.told c.args.port.now) c.args.turns.now) (outside (g.S.Shelf.told c.obey.new.shelf) (g.P.Port.told c.obey.new.port) c.obey.new.turns) c.obey.result)
+    (asks_once c.args.words.now (command_of c.in-Some.command) command c.in-Some.ensures.0 asks) c.obey.ensures.comes
+
+pub returns-in-Some-clause-given : goal.returns-in-Some-clause-given
+returns-in-Some-clause-given g c name slice asks answered = c.obey.ensures.given name slice (asks_once c.args.words.now (command_of c.in-Some.command) (Command.multi name slice) c.in-Some.ensures.0 asks) answered
 
 pub returns-in-Some-clause-no_fetch : goal.returns-in-Some-clause-no_fetch
-returns-in-Some-clause-no_fetch g c command asks =
-    let same = asks_once c.args.words.now c.in-Some.asked.command command c.in-Some.asked.name.now c.in-Some.asked.file.now dash dash c.in-Some.ensures.spelled.0 asks in
-    c.obey.ensures.no_fetch same.1 same.2
+returns-in-Some-clause-no_fetch g c command asks none = c.obey.ensures.no_fetch (subst IsBuiltIn (sym (asks_once c.args.words.now (command_of c.in-Some.command) command c.in-Some.ensures.0 asks)) none)
 
 pub returns-in-Some-clause-uncopied : goal.returns-in-Some-clause-uncopied
-returns-in-Some-clause-uncopied g c command name asks none =
-    let same = asks_once c.args.words.now c.in-Some.asked.command command c.in-Some.asked.name.now c.in-Some.asked.file.now name dash c.in-Some.ensures.spelled.0 asks in
-    c.obey.ensures.uncopied (subst RunsNone (sym same.0) none)
+returns-in-Some-clause-uncopied g c command asks none = c.obey.ensures.uncopied (subst RunsNone (sym (asks_once c.args.words.now (command_of c.in-Some.command) command c.in-Some.ensures.0 asks)) none)

@@ -1,32 +1,46 @@
-use Rattle.std.proofs.Common.{refl}
-use Rattle.ff_run.proofs.Obeying.{no_usage}
-use Rattle.ff_run.proofs.Coming.{comes_under, comes_refused}
+use Rattle.std.proofs.Common.{◌≡◌, ◌∙◌, ℕ, List, sym, subst, ap}
+use Rattle.ff_run.specs.Names.{IsByGiven}
+use Rattle.ff_run.specs.Policies.{policies}
+use Rattle.ff_run.specs.Run.{Performs, outside}
+use Rattle.ff_run.specs.Words.{Command, IsFileOf, command_of, dash, policy_of}
+use Rattle.ff_run.proofs.Coming.{comes_refused, comes_under, no_usage}
+use Rattle.ff_run.proofs.Headline.{confined}
+use Rattle.ff_run.proofs.Obeying.{policy_refusal, refused_unanswered}
 use Rattle.ff_run.proofs.top.obey.Goals as goal
 
 pub returns-in-Ok-clause-comes : goal.returns-in-Ok-clause-comes
 returns-in-Ok-clause-comes g c =
     let shelf = g.S.Shelf.told c.args.shelf.now in
     let mid = g.S.Shelf.told c.find.new.shelf in
-    let shelf_now = g.S.Shelf.told c.obey_under.new.shelf in
-    let before = g.P.Port.told c.args.port.now in
-    let now = g.P.Port.told c.obey_under.new.port in
-    comes_under c.args.name.now c.args.file.now shelf mid c.find.result c.find.ensures.only c.find.ensures.exact c.find.ensures.fetched before now c.args.turns.now c.obey_under.new.turns c.in-Ok.policy c.in-Ok.is c.in-Ok.ensures.named
-    c.lattice-known.ensures.valid c.args.command shelf_now c.obey_under.result c.find.ensures.later c.obey_under.ensures.does c.obey_under.ensures.fetched
+    comes_under (command_of c.args.command) shelf mid (g.P.Port.told c.args.port.now) c.args.turns.now c.find.result (rw c.policy.ensures at c.find.ensures.only) (rw c.policy.ensures at c.find.ensures.exact) c.find.ensures.fetched
+    c.in-Ok.policy c.in-Ok.is (rw c.policy.ensures at c.in-Ok.ensures.named) c.perform.ensures.valid c.find.ensures.later
+    (outside (g.S.Shelf.told c.perform.new.shelf) (g.P.Port.told c.perform.new.port) c.perform.new.turns) c.perform.result c.perform.ensures.performs c.perform.ensures.goes_on c.perform.ensures.fetched
 
 pub returns-in-Ok-clause-command : goal.returns-in-Ok-clause-command
-returns-in-Ok-clause-command g c =
-    no_usage c.args.name.now c.args.file.now (g.S.Shelf.told c.args.shelf.now) (g.S.Shelf.told c.obey_under.new.shelf) (g.P.Port.told c.args.port.now) (g.P.Port.told c.obey_under.new.port) c.args.turns.now c.obey_under.new.turns
-    c.args.command c.obey_under.result (returns-in-Ok-clause-comes g c).obeys
+returns-in-Ok-clause-command g c = no_usage (command_of c.args.command) _ _ c.perform.result (returns-in-Ok-clause-comes g c)
 
 pub returns-in-Err-clause-comes : goal.returns-in-Err-clause-comes
 returns-in-Err-clause-comes g c =
-    let shelf = g.S.Shelf.told c.args.shelf.now in
-    let mid = g.S.Shelf.told c.find.new.shelf in
-    let before = g.P.Port.told c.args.port.now in
-    comes_refused c.args.name.now c.args.file.now shelf mid c.find.result c.find.ensures.only c.find.ensures.exact c.find.ensures.fetched before before c.args.turns.now c.args.turns.now c.args.command c.in-Err.status c.in-Err.is
-    c.in-Err.ensures.refused refl refl
+    comes_refused (command_of c.args.command) (g.S.Shelf.told c.args.shelf.now) (g.S.Shelf.told c.find.new.shelf) (g.P.Port.told c.args.port.now) c.args.turns.now c.find.result (rw c.policy.ensures at c.find.ensures.only) (rw c.policy.ensures at c.find.ensures.exact) c.find.ensures.fetched
+    c.in-Err.status c.in-Err.is (rw c.policy.ensures at c.in-Err.ensures.refused)
 
 pub returns-in-Err-clause-command : goal.returns-in-Err-clause-command
-returns-in-Err-clause-command g c =
-    no_usage c.args.name.now c.args.file.now (g.S.Shelf.told c.args.shelf.now) (g.S.Shelf.told c.find.new.shelf) (g.P.Port.told c.args.port.now) (g.P.Port.told c.args.port.now) c.args.turns.now c.args.turns.now
-    c.args.command c.in-Err.status (returns-in-Err-clause-comes g c).obeys
+returns-in-Err-clause-command g c = no_usage (command_of c.args.command) _ _ c.in-Err.status (returns-in-Err-clause-comes g c)
+
+pub returns-in-Ok-clause-given : goal.returns-in-Ok-clause-given
+returns-in-Ok-clause-given g c name slice is answered =
+    let shelf = g.S.Shelf.told c.args.shelf.now in
+    let mid = g.S.Shelf.told c.find.new.shelf in
+    let p = c.in-Ok.policy in
+    let run = subst (λ d. Performs d p (outside mid (g.P.Port.told c.args.port.now) c.args.turns.now) (outside (g.S.Shelf.told c.perform.new.shelf) (g.P.Port.told c.perform.new.port) c.perform.new.turns) c.perform.result) is c.perform.ensures.performs in
+    let same = c.perform.ensures.no_fetch (subst (λ d. (n : List ℕ) → IsFileOf d n → n ≡ dash) (sym is) (λ n none. absurd none)) in
+    record {
+      found = p;
+      given = subst (λ there. IsByGiven policies shelf (g.S.Shelf.told there) name p) (sym same) (subst (λ n. IsByGiven policies shelf mid n p) (c.policy.ensures ∙ ap policy_of is) c.in-Ok.ensures.given);
+      valid = c.perform.ensures.valid;
+      held = confined p _ _ _ _ c.perform.result c.perform.ensures.valid run.exchanged answered;
+    }
+
+-- nothing was found, so nothing is answered
+pub returns-in-Err-clause-given : goal.returns-in-Err-clause-given
+returns-in-Err-clause-given g c name slice is answered = absurd (refused_unanswered policy_refusal c.in-Err.status c.in-Err.ensures.refused answered)

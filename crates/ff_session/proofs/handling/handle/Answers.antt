@@ -1,5 +1,5 @@
 use Rattle.std.proofs.Common.{◌≡◌, false, true, ◌++◌, ap, ◌∙◌, subst, sym, arith, ◌<◌}
-use Rattle.ff_reactive.specs.Turns.{turns_left}
+use Rattle.ff_confinement.specs.Turns.{turns_left}
 use Rattle.ff_machine.specs.Valid.{IsState}
 use Rattle.ff_machine.specs.Machine.{reactor}
 use Rattle.ff_machine.specs.Inputs.{begin}

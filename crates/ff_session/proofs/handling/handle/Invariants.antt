@@ -1,5 +1,5 @@
 use Rattle.std.proofs.Common.{◌≤◌}
-use Rattle.ff_reactive.specs.Turns.{turns_left}
+use Rattle.ff_confinement.specs.Turns.{turns_left}
 use Rattle.ff_machine.specs.Machine.{reactor}
 use Rattle.ff_session.proofs.Turning.{IsHandling}
 use Rattle.ff_session.proofs.handling.handle.Given as goal

@@ -1,6 +1,6 @@
 use Rattle.std.proofs.Common.{◌≡◌, ◌<◌, ◌++◌, ap, ◌∙◌, arith}
-use Rattle.ff_reactive.specs.Copies.{at_level}
-use Rattle.ff_reactive.specs.Text.{text_of}
+use Rattle.ff_confinement.specs.Copies.{at_level}
+use Rattle.ff_confinement.specs.Text.{text_of}
 use Rattle.ff_lattice.specs.Order.{size}
 use Rattle.ff_session.specs.Levels.{levels}
 use Rattle.ff_session.proofs.Feeding.{out_start, out_step, all_taken, all_let_out}

@@ -1,5 +1,0 @@
-pub mod Lines
-pub mod Comparing
-pub mod Heard
-pub mod Leveled
-pub mod Telling

@@ -1,4 +1,0 @@
-pub mod OwnLines
-pub mod Owned
-pub mod Comparing
-pub mod Verdicts

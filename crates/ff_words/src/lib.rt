@@ -1,6 +1,0 @@
-//! The words of the command line, and what they ask for.
-#![tactic(auto)]
-
-mod words;
-
-pub use words::{Asked, Command, USUAL_SLICE, asked_by};
