@@ -1,5 +1,5 @@
 -- Something is found by its name, or nothing is.
-use Rattle.std.proofs.Common.{◌≡◌, ◌≢◌, ℕ, ◌⊎◌, inl, inr, Option, Some, None, Result, Ok, Err, List, sym, subst, ◌∙◌, arith}
+use Rattle.std.proofs.Common.{◌≡◌, ◌≢◌, ℕ, ◌⊎◌, inl, inr, Option, Some, None, Result, Ok, Err, List, refl, sym, subst, ◌∙◌, arith}
 use Rattle.std.specs.Result.{IfOk, IfErr, IsErrOf}
 use Rattle.ff_io.specs.Port.{Told}
 use Rattle.ff_io.specs.Shelf.{ShelfTold}
@@ -40,8 +40,8 @@ module _ {X : Type 0} (kind : Kind X) where
   pub named_at_dash : (shelf : ShelfTold) (name : List ℕ) (x : X) → name ≡ dash → x ≡ kind.built_in → Names kind shelf name x
   named_at_dash shelf name x is_dash is = subst (Names kind shelf name) (sym is) (Names.at_dash name is_dash)
 
-  pub given_at_dash : (before now : ShelfTold) (name : List ℕ) (x : X) → name ≡ dash → x ≡ kind.built_in → IsByGiven kind before now name x
-  given_at_dash before now name x is_dash is = subst (IsByGiven kind before now name) (sym is) (IsByGiven.at_dash name is_dash)
+  pub given_at_dash : (shelf : ShelfTold) (name : List ℕ) (x : X) → name ≡ dash → x ≡ kind.built_in → IsByGiven kind shelf shelf name x
+  given_at_dash shelf name x is_dash is = subst (IsByGiven kind shelf shelf name) (sym is) (IsByGiven.at_dash name is_dash refl)
 
   -- what a file gives, by the bytes that were given for it
   pub given_in_bytes : (before now : ShelfTold) (name bytes : List ℕ) → name ≢ dash → IsGiven name kind.most before.fetches now.fetches bytes → (result : Result X Status) → IfOk result (kind.gives bytes)

@@ -10,7 +10,7 @@ use Rattle.ff_value.specs.declared.input.Input.{Input}
 use Rattle.ff_session.specs.Claims.{Claims, IsAnswered}
 use Rattle.ff_session.specs.Levels.{levels, machine}
 use Rattle.ff_trace.specs.Lines.{IsInputOf}
-use Rattle.ff_run.specs.Policies.{Under, UnderGiven}
+use Rattle.ff_run.specs.Policies.{Under}
 use Rattle.ff_run.specs.Words.{Asks, Command}
 
 -- under the policy of this name, this claim holds of the inputs that the bytes got give a
@@ -29,7 +29,3 @@ pub record IsConfined (p : Assignment) (is : List Input) (put : List ℕ) : Type
   pub projected : IsProjection (machine p) (levels p) is put
   pub secure : IsSecure (machine p) (levels p) (IsInputOf p.order) is put
   pub precise : IsPrecise (machine p) (levels p) is put
-
--- and there the whole headline holds under the policy that the shelf gave for the name
-abbrev pub OnMultiAsGiven : List (String Global) → Status → ShelfTold → ShelfTold → Told → Told → Type 0
-OnMultiAsGiven words status shelf shelf_now before now = (policy : List ℕ) (slice : ℕ) → Asks words (Command.multi policy slice) → IsAnswered status → UnderGiven shelf shelf_now policy (λ p. Claims p before now (IsConfined p))

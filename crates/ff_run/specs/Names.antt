@@ -38,11 +38,17 @@ module _ {X : Type 0} (kind : Kind X) where
     at_dash : (name : List ℕ) → name ≡ dash → Names shelf name kind.built_in
     in_file : (name bytes : List ℕ) (x : X) → name ≢ dash → IsFetched shelf.files name kind.most bytes → kind.gives bytes x → Names shelf name x
 
-  -- It stands for this by what the shelf gave between two moments: also where no files are told,
-  -- the fetches may be.
+  -- It stands for this by what the shelf gave between two moments, and then it isn't called for a
+  -- dash: also where no files are told, the fetches may be.
   pub data IsByGiven (before now : ShelfTold) : List ℕ → X → Type 0 where
-    at_dash : (name : List ℕ) → name ≡ dash → IsByGiven before now name kind.built_in
+    at_dash : (name : List ℕ) → name ≡ dash → now ≡ before → IsByGiven before now name kind.built_in
     in_bytes : (name bytes : List ℕ) (x : X) → name ≢ dash → IsGiven name kind.most before.fetches now.fetches bytes → kind.gives bytes x → IsByGiven before now name x
+
+  -- The shelf gave for this name something of which this holds.
+  pub record GivenFor (before now : ShelfTold) (name : List ℕ) (holds : X → Type 0) : Type 0 where
+    pub found : X
+    pub given : IsByGiven before now name found
+    pub held : holds found
 
   -- The file of this name gives nothing, and the run ends so.
   pub record NamesBad (shelf : ShelfTold) (name : List ℕ) (status : Status) : Type 0 where

@@ -6,7 +6,7 @@ use Rattle.ff_policy.specs.Reading.{IsPolicyOf, IsFault}
 use Rattle.ff_policy.specs.declared.fault.PolicyFault.{PolicyFault}
 use Rattle.ff_status.specs.declared.status.Status.{Status}
 use Rattle.ff_status.specs.declared.status.Status.TheVariants.{Policy}
-use Rattle.ff_run.specs.Names.{IsByGiven, Kind, StandsFor}
+use Rattle.ff_run.specs.Names.{GivenFor, Kind, StandsFor}
 use Rattle.ff_run.specs.declared.policies.TheConstants.{MOST_FETCHED}
 
 -- bytes are no policy, and a run ends so
@@ -22,9 +22,6 @@ policies = record { built_in = builtin; most = MOST_FETCHED; gives = IsPolicyOf;
 abbrev pub Under : ShelfTold → List ℕ → (Assignment → Type 0) → Type 0
 Under shelf name holds = StandsFor policies shelf name (λ p. IsAssignment p × holds p)
 
--- Under the policy that the shelf gave for this name, which is valid, this holds.
-pub record UnderGiven (before now : ShelfTold) (name : List ℕ) (holds : Assignment → Type 0) : Type 0 where
-  pub found : Assignment
-  pub given : IsByGiven policies before now name found
-  pub valid : IsAssignment found
-  pub held : holds found
+-- under the policy that the shelf gave for this name, which is valid, this holds
+abbrev pub UnderGiven : ShelfTold → ShelfTold → List ℕ → (Assignment → Type 0) → Type 0
+UnderGiven before now name holds = GivenFor policies before now name (λ p. IsAssignment p × holds p)

@@ -7,7 +7,7 @@ use Rattle.ff_route.specs.declared.rule.Rule.{Rule}
 use Rattle.ff_rules.specs.declared.fault.ReleaseFault.{ReleaseFault}
 use Rattle.ff_status.specs.declared.status.Status.{Status}
 use Rattle.ff_status.specs.declared.status.Status.TheVariants.{Release}
-use Rattle.ff_run.specs.Names.{Kind, StandsFor}
+use Rattle.ff_run.specs.Names.{Kind}
 use Rattle.ff_run.specs.declared.rules.TheConstants.{MOST_FETCHED}
 
 -- the bytes give these rules
@@ -21,7 +21,3 @@ pub data AreBadRules (order : Order) (bytes : List ℕ) : Status → Type 0 wher
 -- the release rules for these levels: none, or those of a file, of which so many bytes count
 abbrev pub rules_for : Order → Kind (List Rule)
 rules_for order = record { built_in = []; most = MOST_FETCHED; gives = AreRulesOf order; is_bad = AreBadRules order }
-
--- by the rules of this name this holds; where it is known what the name stands for, by no others
-abbrev pub ByRules : Order → ShelfTold → List ℕ → (List Rule → Type 0) → Type 0
-ByRules order = StandsFor (rules_for order)

@@ -8,7 +8,7 @@ use Rattle.ff_save.specs.Whole.{HasFault, IsSaved}
 use Rattle.ff_saved_rows.specs.declared.fault.SavedFault.{SavedFault}
 use Rattle.ff_status.specs.declared.status.Status.{Status}
 use Rattle.ff_status.specs.declared.status.Status.TheVariants.{Saved}
-use Rattle.ff_run.specs.Names.{Kind, Names, StandsFor}
+use Rattle.ff_run.specs.Names.{Kind, Names}
 use Rattle.ff_run.specs.declared.states.TheConstants.{MOST_FETCHED}
 
 -- bytes are no saved text under a policy, and a run ends so
@@ -23,8 +23,3 @@ states_under p = record { built_in = new_copies p; most = MOST_FETCHED; gives = 
 -- the copies of this name
 abbrev pub NamesState : Assignment → ShelfTold → List ℕ → Pooled → Type 0
 NamesState p = Names (states_under p)
-
--- from the copies of this name this holds; where it is known what the name stands for, from no
--- others
-abbrev pub FromState : Assignment → ShelfTold → List ℕ → (Pooled → Type 0) → Type 0
-FromState p = StandsFor (states_under p)

@@ -2,16 +2,15 @@ ghost use Rattle.std.specs.Prelude.{◌≡◌, ◌≢◌, ◌≤◌, [], ℕ, Li
 ghost use Rattle.ff_confinement.specs.Laws.{IsProjection, IsSecure, IsPrecise};
 ghost use Rattle.ff_session.specs.Levels.{levels, machine};
 ghost use Rattle.ff_trace.specs.Lines.{IsInputOf};
-ghost use Rattle.ff_session.specs.Claims.{Claims, IsAnswered};
+ghost use Rattle.ff_session.specs.Claims.{IsAnswered};
 ghost use Rattle.ff_status.specs.Words.{error_line};
 ghost use Rattle.ff_policy.specs.Assignment.{IsAssignment};
 ghost use Rattle.ff_run.specs.Words as spec;
 ghost use Rattle.ff_run.specs.Words.{Asks, IsBuiltIn, IsByNoFile, MakesSteps, RunsNone, command_of};
-ghost use Rattle.ff_run.specs.Names.{FetchedOrFailed, IsLater};
+ghost use Rattle.ff_run.specs.Names.{FetchedOrFailed, GivenFor, IsLater};
 ghost use Rattle.ff_run.specs.Status.{IsEarly, IsUncopied};
-ghost use Rattle.ff_run.specs.Claims.{IsConfined, OnMulti, OnMultiAsGiven};
-ghost use Rattle.ff_run.specs.Telling.{OnEach, OnMultiCutShort};
-ghost use Rattle.ff_run.specs.Policies.{UnderGiven};
+ghost use Rattle.ff_run.specs.Claims.{OnMulti};
+ghost use Rattle.ff_run.specs.Telling.{OnEach, OnEachAsGiven, OnMultiCutShort, Tells, TellsAsGiven};
 ghost use Rattle.ff_run.specs.Run.{ComesTo, GoesOn, Performs, Reports, Suits, outside};
 
 use crate::named::find;
@@ -82,18 +81,17 @@ pub fn run<S: Shelf, P: Port, E: Sink, C: Ledger, L: Ledger>(
     ensures precise { OnMulti words.now result (S.told shelf.old) (P.told port.old)
         (P.told port.new) (λ p is put. IsPrecise (machine p) (levels p) is put) }
 
-    // The same under the policy that the shelf gave for the name: where no files are told, as of
-    // the system's own shelf, its fetches say which bytes that policy is read from.
-    ensures given { OnMultiAsGiven words.now result (S.told shelf.old) (S.told shelf.new)
-        (P.told port.old) (P.told port.new) }
-
     // Where a write failed or memory was refused, what each level was told is a front of its view.
     ensures cut_short { OnMultiCutShort words.now result (S.told shelf.old) (P.told port.old)
         (P.told port.new) }
 
-    // What the texts of an audit, a travel, a resumed run and a released run tell.
+    // What the text of each command tells, under the policy of its name by the shelf's files; and
+    // by what the shelf gave: where no files are told, as of the system's own shelf, its fetches
+    // say from which bytes the policy, a saved state and rules are read.
     ensures tells { OnEach words.now result (S.told shelf.old) (P.told port.old)
         (P.told port.new) }
+    ensures given { OnEachAsGiven words.now result (S.told shelf.old) (S.told shelf.new)
+        (P.told port.old) (P.told port.new) }
 
     // What isn't touched. Where no browser runs or is made of a saved text, no cell is copied.
     ensures untouched { IsEarly result → (port.new ≡ port.old) × (turns.new ≡ turns.old) }
@@ -128,7 +126,7 @@ fn answer<S: Shelf, P: Port, C: Ledger, L: Ledger>(
     ensures comes { (command : spec.Command) → Asks words.now command
         → ComesTo command (outside (S.told shelf.old) (P.told port.old) turns.old)
         (outside (S.told shelf.new) (P.told port.new) turns.new) result }
-    ensures given { OnMultiAsGiven words.now result (S.told shelf.old) (S.told shelf.new)
+    ensures given { OnEachAsGiven words.now result (S.told shelf.old) (S.told shelf.new)
         (P.told port.old) (P.told port.new) }
     ensures usage { Suits result words.now }
     ensures untouched { IsEarly result → (port.new ≡ port.old) × (turns.new ≡ turns.old) }
@@ -160,10 +158,9 @@ fn obey<S: Shelf, P: Port, C: Ledger, L: Ledger>(
     ensures comes { ComesTo (command_of command.entry)
         (outside (S.told shelf.old) (P.told port.old) turns.old)
         (outside (S.told shelf.new) (P.told port.new) turns.new) result }
-    ensures given { (name : List ℕ) (slice : ℕ)
-        → command_of command.entry ≡ spec.Command.multi name slice
-        → IsAnswered result → UnderGiven (S.told shelf.old) (S.told shelf.new) name
-        (λ p. Claims p (P.told port.old) (P.told port.new) (IsConfined p)) }
+    ensures given { IsAnswered result
+        → TellsAsGiven (command_of command.entry) (S.told shelf.old) (S.told shelf.new)
+        (P.told port.old) (P.told port.new) result }
     ensures command { result ≢ Status.Usage }
     ensures untouched { IsEarly result → (port.new ≡ port.old) × (turns.new ≡ turns.old) }
     ensures files { (S.told shelf.new).files ≡ (S.told shelf.old).files }
@@ -196,6 +193,9 @@ fn perform<S: Shelf, P: Port, C: Ledger, L: Ledger>(
     ensures goes_on { GoesOn (command_of command.entry) policy.now
         (outside (S.told shelf.old) (P.told port.old) turns.old)
         (outside (S.told shelf.new) (P.told port.new) turns.new) result }
+    ensures given { IsAnswered result
+        → Tells (λ X kind. GivenFor kind (S.told shelf.old) (S.told shelf.new))
+        (command_of command.entry) policy.now (P.told port.old) (P.told port.new) result }
     ensures fetched { FetchedOrFailed (S.told shelf.old) (S.told shelf.new) result }
     ensures later { IsLater (S.told shelf.old) (S.told shelf.new) }
     ensures untouched { IsEarly result → (port.new ≡ port.old) × (turns.new ≡ turns.old) }

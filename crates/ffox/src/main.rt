@@ -9,7 +9,7 @@
 ghost use Rattle.std.specs.Prelude.{◌≡◌, ◌<◌, Some, [], ℕ, List};
 ghost use Rattle.ff_run.specs.Words.{Asks, Command};
 ghost use Rattle.ff_session.specs.Claims.{IsAnswered};
-ghost use Rattle.ff_run.specs.System.{IsConfinedRun};
+ghost use Rattle.ff_run.specs.System.{IsConfinedRun, TellsByFetches};
 
 use ff_contract::Steps;
 use ff_io::{DirShelf, Port, Shelf, StdErr, StdPort};
@@ -74,7 +74,8 @@ fn start<C: Ledger, L: Ledger, R: Input + Print + Eprint + Files + AllocGlobal>(
 
 /// Runs the command that the words are over standard input and output, from which no piece passed
 /// yet, and over the working folder, from which nothing was fetched yet. Of what they hand out and
-/// take the headline of `multi` holds, under the policy that the bytes fetched spell.
+/// take the headline of `multi` holds, under the policy that the bytes fetched spell; and what the
+/// other commands tell, by the policy, the saved state and the rules that these bytes spell.
 fn over_the_system<'a, R: Input + Print + Eprint + Files, C: Ledger, L: Ledger>(
     alloc: Global,
     words: &[String],
@@ -89,6 +90,10 @@ fn over_the_system<'a, R: Input + Print + Eprint + Files, C: Ledger, L: Ledger>(
     ensures confined { (name : List ℕ) (slice : ℕ) → Asks words.now (Command.multi name slice)
         → IsAnswered result → IsConfinedRun name (⟦<DirShelf<'a, R> as Shelf>⟧.fetches shelf.new)
         (⟦<StdPort<'a, R> as Port>⟧.log port.new) }
+    ensures tells { (command : Command) → Asks words.now command → IsAnswered result
+        → TellsByFetches command (⟦<DirShelf<'a, R> as Shelf>⟧.fetches shelf.new)
+        (⟦<StdPort<'a, R> as Port>⟧.told port.old) (⟦<StdPort<'a, R> as Port>⟧.told port.new)
+        result }
 {
     run(alloc, words, shelf, port, err, copies, turns)
 }

@@ -10,5 +10,5 @@ returns-in-Ok-clause-named g c =
 
 pub returns-in-Ok-clause-given : goal.returns-in-Ok-clause-given
 returns-in-Ok-clause-given g c =
-    given_at_dash (g.N.Named.kind c.args.what.now) (g.S.Shelf.told c.args.shelf.now) (g.S.Shelf.told c.args.shelf.now) c.args.name.now c.in-Ok.found
+    given_at_dash (g.N.Named.kind c.args.what.now) (g.S.Shelf.told c.args.shelf.now) c.args.name.now c.in-Ok.found
     (same_text c.args.name.now (codes "-") (sym (sym c.eq.ensures ∙ c.if-eq.true))) c.in-Ok.ensures

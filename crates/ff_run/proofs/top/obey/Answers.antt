@@ -1,10 +1,7 @@
-use Rattle.std.proofs.Common.{◌≡◌, ◌∙◌, ℕ, List, sym, subst, ap}
-use Rattle.ff_run.specs.Names.{IsByGiven}
-use Rattle.ff_run.specs.Policies.{policies}
-use Rattle.ff_run.specs.Run.{Performs, outside}
-use Rattle.ff_run.specs.Words.{Command, IsFileOf, command_of, dash, policy_of}
+use Rattle.std.proofs.Common.{ap}
+use Rattle.ff_run.specs.Run.{outside}
+use Rattle.ff_run.specs.Words.{command_of}
 use Rattle.ff_run.proofs.Coming.{comes_refused, comes_under, no_usage}
-use Rattle.ff_run.proofs.Headline.{confined}
 use Rattle.ff_run.proofs.Obeying.{policy_refusal, refused_unanswered}
 use Rattle.ff_run.proofs.top.obey.Goals as goal
 
@@ -28,19 +25,16 @@ pub returns-in-Err-clause-command : goal.returns-in-Err-clause-command
 returns-in-Err-clause-command g c = no_usage (command_of c.args.command) _ _ c.in-Err.status (returns-in-Err-clause-comes g c)
 
 pub returns-in-Ok-clause-given : goal.returns-in-Ok-clause-given
-returns-in-Ok-clause-given g c name slice is answered =
-    let shelf = g.S.Shelf.told c.args.shelf.now in
-    let mid = g.S.Shelf.told c.find.new.shelf in
-    let p = c.in-Ok.policy in
-    let run = subst (λ d. Performs d p (outside mid (g.P.Port.told c.args.port.now) c.args.turns.now) (outside (g.S.Shelf.told c.perform.new.shelf) (g.P.Port.told c.perform.new.port) c.perform.new.turns) c.perform.result) is c.perform.ensures.performs in
-    let same = c.perform.ensures.no_fetch (subst (λ d. (n : List ℕ) → IsFileOf d n → n ≡ dash) (sym is) (λ n none. absurd none)) in
-    record {
-      found = p;
-      given = subst (λ there. IsByGiven policies shelf (g.S.Shelf.told there) name p) (sym same) (subst (λ n. IsByGiven policies shelf mid n p) (c.policy.ensures ∙ ap policy_of is) c.in-Ok.ensures.given);
-      valid = c.perform.ensures.valid;
-      held = confined p _ _ _ _ c.perform.result c.perform.ensures.valid run.exchanged answered;
-    }
+returns-in-Ok-clause-given g c answered = record {
+  between = g.S.Shelf.told c.find.new.shelf;
+  under = record {
+    found = c.in-Ok.policy;
+    given = rw c.policy.ensures at c.in-Ok.ensures.given;
+    held = (c.perform.ensures.valid, c.perform.ensures.given answered);
+  };
+  no_more = λ by_none. ap (λ there. g.S.Shelf.told there) (c.perform.ensures.no_fetch by_none);
+}
 
 -- nothing was found, so nothing is answered
 pub returns-in-Err-clause-given : goal.returns-in-Err-clause-given
-returns-in-Err-clause-given g c name slice is answered = absurd (refused_unanswered policy_refusal c.in-Err.status c.in-Err.ensures.refused answered)
+returns-in-Err-clause-given g c answered = absurd (refused_unanswered policy_refusal c.in-Err.status c.in-Err.ensures.refused answered)

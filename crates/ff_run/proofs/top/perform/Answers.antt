@@ -5,13 +5,16 @@ use Rattle.ff_release.specs.Releasing.{release_duty}
 use Rattle.ff_session.specs.Giving.{Gives}
 use Rattle.ff_session.specs.Works.{multi_duty, plain_duty, format_duty}
 use Rattle.ff_travel.specs.Owed.{travel_duty}
+use Rattle.ff_run.specs.Names.{GivenFor}
 use Rattle.ff_run.specs.Rules.{rules_for}
 use Rattle.ff_run.specs.Run.{Carries, outside}
 use Rattle.ff_run.specs.States.{states_under}
 use Rattle.ff_run.specs.Status.{IsEarly}
+use Rattle.ff_run.specs.Words.{Command}
 use Rattle.ff_run.proofs.Finding.{accepts_found, accepts_refused, ends_found}
 use Rattle.ff_run.proofs.Coming.{refused_at_once}
-use Rattle.ff_run.proofs.Obeying.{carries, carries_commands, exchanged_late, no_shelf_rules, no_shelf_state}
+use Rattle.ff_run.proofs.Headline.{tells_alone, tells_released, tells_resumed}
+use Rattle.ff_run.proofs.Obeying.{carries, carries_commands, exchanged_late, no_shelf_rules, no_shelf_state, refused_unanswered, rules_refusal, state_refusal}
 use Rattle.ff_run.proofs.RulesFaults.{named_fit}
 use Rattle.ff_run.proofs.StateFaults.{named_rests}
 use Rattle.ff_run.proofs.top.perform.Goals as goal
@@ -126,3 +129,41 @@ returns-in-Err-find-clause-goes_on g c =
 
 pub returns-in-Err-find-clause-no_fetch : goal.returns-in-Err-find-clause-no_fetch
 returns-in-Err-find-clause-no_fetch g c by_none = c.find-in-Release.ensures.untouched ((rw c.in-Release.is at by_none) c.in-Release.rules.now refl)
+
+-- ---- what is told
+
+pub returns-in-Multi-clause-given : goal.returns-in-Multi-clause-given
+returns-in-Multi-clause-given g c answered =
+    let before = outside (g.S.Shelf.told c.args.shelf.now) (g.P.Port.told c.args.port.now) c.args.turns.now in
+    let now = outside (g.S.Shelf.told c.args.shelf.now) (g.P.Port.told c.walk_multi.new.port) c.walk_multi.new.turns in
+    rw (c.in-Multi.is) (tells_alone (λ X kind. GivenFor kind before.shelf now.shelf) c.args.policy.now before now c.walk_multi.result answered c.lattice-lattice.ensures.valid (Command.multi c.in-Multi.policy.now c.in-Multi.slice) tt (carries c.args.policy.now c.walk_multi.result (multi_duty c.args.policy.now) c.walk_multi.ensures.exchanged))
+
+pub returns-in-Audit-clause-given : goal.returns-in-Audit-clause-given
+returns-in-Audit-clause-given g c answered =
+    let before = outside (g.S.Shelf.told c.args.shelf.now) (g.P.Port.told c.args.port.now) c.args.turns.now in
+    let now = outside (g.S.Shelf.told c.args.shelf.now) (g.P.Port.told c.audit.new.port) c.audit.new.turns in
+    rw (c.in-Audit.is) (tells_alone (λ X kind. GivenFor kind before.shelf now.shelf) c.args.policy.now before now c.audit.result answered c.lattice-lattice.ensures.valid (Command.audit c.in-Audit.policy.now) tt (carries c.args.policy.now c.audit.result (audit_duty c.args.policy.now) c.audit.ensures.exchanged))
+
+pub returns-in-Travel-clause-given : goal.returns-in-Travel-clause-given
+returns-in-Travel-clause-given g c answered =
+    let before = outside (g.S.Shelf.told c.args.shelf.now) (g.P.Port.told c.args.port.now) c.args.turns.now in
+    let now = outside (g.S.Shelf.told c.args.shelf.now) (g.P.Port.told c.travel.new.port) c.travel.new.turns in
+    rw (c.in-Travel.is) (tells_alone (λ X kind. GivenFor kind before.shelf now.shelf) c.args.policy.now before now c.travel.result answered c.lattice-lattice.ensures.valid (Command.travel c.in-Travel.policy.now) tt (carries_commands c.args.policy.now c.travel.result (travel_duty c.args.policy.now) c.travel.ensures.exchanged))
+
+pub returns-in-Ok-clause-given : goal.returns-in-Ok-clause-given
+returns-in-Ok-clause-given g c answered =
+    let before = outside (g.S.Shelf.told c.args.shelf.now) (g.P.Port.told c.args.port.now) c.args.turns.now in
+    let now = outside (g.S.Shelf.told c.find.new.shelf) (g.P.Port.told c.resume.new.port) c.resume.new.turns in
+    rw (c.in-Resume.is) (tells_resumed c.args.policy.now before now c.resume.result c.in-Resume.policy.now c.in-Resume.from.now c.in-Ok.pool answered c.lattice-lattice.ensures.valid c.in-Ok.ensures.named c.in-Ok.ensures.given c.resume.ensures.exchanged)
+
+pub returns-in-Err-clause-given : goal.returns-in-Err-clause-given
+returns-in-Err-clause-given g c answered = absurd (refused_unanswered (state_refusal c.args.policy.now) c.in-Err.status c.in-Err.ensures.refused answered)
+
+pub returns-in-Ok-find-clause-given : goal.returns-in-Ok-find-clause-given
+returns-in-Ok-find-clause-given g c answered =
+    let before = outside (g.S.Shelf.told c.args.shelf.now) (g.P.Port.told c.args.port.now) c.args.turns.now in
+    let now = outside (g.S.Shelf.told c.find-in-Release.new.shelf) (g.P.Port.told c.release.new.port) c.release.new.turns in
+    rw (c.in-Release.is) (tells_released c.args.policy.now before now c.release.result c.in-Release.policy.now c.in-Release.rules.now c.in-Ok-find.rules answered c.lattice-lattice.ensures.valid c.in-Ok-find.ensures.given c.release.ensures.exchanged)
+
+pub returns-in-Err-find-clause-given : goal.returns-in-Err-find-clause-given
+returns-in-Err-find-clause-given g c answered = absurd (refused_unanswered (rules_refusal c.args.policy.now.order) c.in-Err-find.status c.in-Err-find.ensures.refused answered)
