@@ -1,24 +1,17 @@
-//! Another scheduler: all inputs of its trace arrive first; then, as long as some level has work,
-//! the highest one with work makes one step. What each level puts is let out at the end, and is
-//! what `ffox multi -` puts at that level: the schedule decides when a level's lines come, and
-//! nothing else (`ff_pool::Pool::play`).
-//!
-//! Floor: beside. An example of a program over `libffox`; nothing stands on it.
+//! Another scheduler: all inputs of its trace arrive first; then the highest level with work makes
+//! one step, as long as there is one. Each level's lines are those of `ffox multi -`: the schedule
+//! decides when they come, and nothing else (`ff_pool::Pool::play`). Floor: beside.
 #![tactic(auto)]
 
-ghost use Rattle.std.specs.Prelude.{◌≡◌, ◌<◌, false, IfSome};
+ghost use Rattle.std.specs.Prelude.{◌≡◌, ◌<◌, false};
 ghost use Rattle.std.specs.Bool.{OnTrue};
 ghost use Rattle.libffox.specs.Levels.{size as count_levels};
 ghost use Rattle.libffox.specs.Pools.{size};
 
-use libffox::outside::{StdPort, put_all};
 use libffox::policy::Policy;
-use libffox::route::offers;
 use libffox::session::print_level;
-use libffox::trace::{Room, read_input};
-use libffox::{Level, NoMemory, Pool, Steps};
+use libffox::{Level, NoMemory, Pool, Steps, route, trace};
 use std::alloc::{AllocError, Global};
-use std::io;
 use std::marker::Brand;
 use std::sync::ledger::{Blank, Ledger};
 
@@ -30,98 +23,57 @@ fn is_of(pool: &Pool, policy: &Policy) -> bool
     !pool.spent() && pool.size() == policy.lattice().size()
 }
 
-/// The input of the line arrives at each level that sees it, if the line is one.
+/// What the levels put for the trace of these lines, under the built-in policy.
 #[tactic(auto, using(libffox::proofs::Offers::offers_fit))]
-fn arrive<C: Ledger>(
+fn run<C: Ledger, L: Ledger>(
     alloc: Global,
-    policy: &Policy,
-    line: &[u8],
-    pool: &mut Pool,
-    copies: &mut Steps<C>,
-) -> Result<(), NoMemory> {
-    if line.len() > 65_536 || !is_of(pool, policy) {
-        return Err(AllocError);
-    }
-    let mut room = Room::new(alloc);
-    match &read_input(alloc, &mut room, line, policy.lattice()) {
-        Ok(Some(input)) => pool.arrive(&offers(alloc, policy, input)?, copies),
-        _ => Ok(()),
-    }
-}
-
-/// The highest level with work.
-fn highest(pool: &Pool, policy: &Policy) -> Option<u8>
-    ensures { IfSome result (λ l. l < count_levels policy.now.order) }
+    lines: &[String],
+    copies: Blank,
+    turns: Blank,
+) -> Result<Vec<u8>, NoMemory>
+    requires copies { (copies.name ≡ C.name) × (copies.parts ≡ C.parts) × (0 < copies.parts) }
+    requires turns { (turns.name ≡ L.name) × (turns.parts ≡ L.parts) × (0 < turns.parts) }
 {
-    if !is_of(pool, policy) {
-        return None;
-    }
-    for l in (0..policy.lattice().size()).rev() {
-        if pool.has_work(Level(l)) {
-            return Some(l);
+    let (mut copied, mut made) = (Steps::<C>::new(copies), Steps::<L>::new(turns));
+    let (policy, mut room) = (Policy::builtin(alloc)?, trace::Room::new(alloc));
+    let mut pool = Pool::new(alloc, policy.lattice().size(), policy.fuel())?;
+    for line in lines {
+        if line.len() > 65_536 || !is_of(&pool, &policy) {
+            return Err(AllocError);
+        }
+        let read = trace::read_input(alloc, &mut room, line.as_bytes(), policy.lattice());
+        if let Ok(Some(input)) = &read {
+            pool.arrive(&route::offers(alloc, &policy, input)?, &mut copied)?;
         }
     }
-    None
-}
-
-/// The lines of all levels, once no level has work.
-fn lines_of<C: Ledger, L: Ledger>(
-    alloc: Global,
-    policy: &Policy,
-    pool: &mut Pool,
-    copies: &mut Steps<C>,
-    turns: &mut Steps<L>,
-) -> Result<Vec<u8>, NoMemory> {
+    let mut level = policy.lattice().size();
     for _step in 0..u32::MAX {
-        match highest(pool, policy) {
-            Some(l) if is_of(pool, policy) => pool.turn(Level(l), copies, turns)?,
-            _ => break,
+        if level == 0 || !is_of(&pool, &policy) || level > policy.lattice().size() {
+            break;
+        } else if pool.has_work(Level(level - 1)) {
+            pool.turn(Level(level - 1), &mut copied, &mut made)?;
+            level = policy.lattice().size();
+        } else {
+            level -= 1;
         }
     }
     let mut text = Vec::new(alloc);
-    for l in 0..policy.lattice().size() {
-        if is_of(pool, policy) {
-            let outs = pool.take(Level(l))?;
-            print_level(policy, Level(l), outs.as_slice(), &mut text)?;
+    for number in 0..policy.lattice().size() {
+        if is_of(&pool, &policy) {
+            let outs = pool.take(Level(number))?;
+            print_level(&policy, Level(number), outs.as_slice(), &mut text)?;
         }
     }
     Ok(text)
 }
 
-/// What the levels put for the trace of these lines, under the built-in policy.
-fn run<C: Ledger, L: Ledger>(
-    alloc: Global,
-    trace: &[String],
-    copies: Blank,
-    turns: Blank,
-) -> Result<Vec<u8>, NoMemory>
-    requires copies_name { copies.name ≡ C.name }
-    requires copies_parts { copies.parts ≡ C.parts }
-    requires some_copies { 0 < copies.parts }
-    requires turns_name { turns.name ≡ L.name }
-    requires turns_parts { turns.parts ≡ L.parts }
-    requires some_turns { 0 < turns.parts }
-{
-    let mut copied = Steps::<C>::new(copies);
-    let mut made = Steps::<L>::new(turns);
-    let policy = Policy::builtin(alloc)?;
-    let mut pool = Pool::new(alloc, policy.lattice().size(), policy.fuel())?;
-    for line in trace {
-        arrive(alloc, &policy, line.as_bytes(), &mut pool, &mut copied)?;
-    }
-    lines_of(alloc, &policy, &mut pool, &mut copied, &mut made)
-}
-
-fn main(rt: HostRuntime) -> io::Result<()> {
-    let mut trace = Vec::new(rt.alloc());
+fn main(rt: HostRuntime) -> std::io::Result<()> {
+    let mut lines = Vec::new(rt.alloc());
     for line in rt.lines(rt.alloc()) {
-        trace.push(line?)?;
+        lines.push(line?)?;
     }
-    let text = run::<Brand, Brand>(rt.alloc(), trace.as_slice(), Blank::new(1), Blank::new(1));
-    let mut port = StdPort::new(&rt);
-    match &text {
-        Ok(text) if put_all(&mut port, text.as_slice()).is_ok() => Ok(()),
-        Ok(_) => println!(rt; "write fault"),
+    match run::<Brand, Brand>(rt.alloc(), lines.as_slice(), Blank::new(1), Blank::new(1)) {
+        Ok(text) => rt.print(String::from_utf8_lossy(rt.alloc(), text.as_slice())?),
         Err(_) => println!(rt; "no memory"),
     }
 }

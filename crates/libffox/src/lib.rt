@@ -2,7 +2,7 @@
 //! `crates.txt`, and no other crate of the project.
 //!
 //! Each part is a module here: `policy::Policy::read` reads a policy, `trace::read_input` a line of
-//! a trace, `route::offers` says what each level sees of an input, and a `Pool` runs one copy of the
+//! a trace, `route::offers` says what each level sees of an input, and a `Pool` runs a copy of the
 //! browser for each level:
 //!
 //! ```text
