@@ -1,5 +1,5 @@
 -- What bytes are by the pool that was made of them, or by what they are the text of no pool.
-use Rattle.std.proofs.Common.{◌≡◌, ◌≤◌, ℕ, true, ◌&&◌, Option, Some, None, List, [], ◌∷◌, ◌++◌, length, codes, sym, ap, subst, ◌∙◌}
+use Rattle.std.proofs.Common.{◌≡◌, ◌≤◌, ℕ, true, ◌&&◌, Option, Some, None, List, [], ◌∷◌, ◌++◌, length, codes, refl, sym, ap, subst, ◌∙◌}
 use Rattle.std.specs.Str.{IsUtf8}
 use Rattle.std.proofs.lemmas.Bool.{and_parts}
 use Rattle.std.proofs.lemmas.List.Elements.{All-head, All-tail}
@@ -16,12 +16,14 @@ use Rattle.ff_text.specs.Printed.{fits_at}
 use Rattle.ff_text.specs.Notation.{span}
 use Rattle.ff_text.proofs.Layers.{fits_at-Str}
 use Rattle.ff_saved_rows.specs.Rows.{row_text, FitsLine}
+use Rattle.ff_saved_rows.specs.declared.fault.SavedFault.{SavedFault}
+use Rattle.ff_saved_rows.specs.declared.fault.SavedFault.TheVariants.{OtherPolicy, NotSaved}
 use Rattle.ff_saved_rows.specs.declared.row.Row.{Row}
 use Rattle.ff_saved_rows.specs.declared.row.Row.TheVariants as row
 use Rattle.ff_save.specs.Gathered.{Gathered, saved_of}
 use Rattle.ff_save.specs.Holding.{Held, Holds, HasText, Gathers}
 use Rattle.ff_save.specs.Saved.{classes_rows, saved_recs, saved_rows, saved_text}
-use Rattle.ff_save.specs.Whole.{IsSaved, IsOnly, IsOfOther}
+use Rattle.ff_save.specs.Whole.{HasFault, IsSaved, IsOnly, IsOfOther}
 use Rattle.ff_save.specs.declared.read.TheConstants.{MOST_SAVED_BYTES}
 use Rattle.ff_save.proofs.OtherPolicy.{policies_once}
 use Rattle.ff_save.proofs.Saving.{good, no_pool, one_pool, none_restored, another, the_pool}
@@ -99,3 +101,21 @@ saved_own p bytes pool utf8 saved other =
     ∙ ap content (later_lines p.order row.Head (row.Policy (printed p) ∷ rest) head_fits.nested)
     ∙ first_line p.order (row.Policy (printed p)) rest policy_fits.nested in
     other.other (policies_once p.order other.text (printed p) other.utf8 utf8 other.short (sym other.second ∙ second))
+
+-- ---- one verdict
+
+-- bytes that are no state and no state of another policy are at fault for that
+pub some_verdict : (p : Assignment) (bytes : List ℕ) → ¬ (((pool : Pooled) → ¬ IsSaved p bytes pool) × ((fault : SavedFault) → ¬ HasFault p bytes fault))
+some_verdict p bytes neither = neither.1 NotSaved (neither.1 OtherPolicy, neither.0)
+
+-- a state has no fault
+pub saved_faultless : (p : Assignment) (bytes : List ℕ) (pool : Pooled) (fault : SavedFault) → IsSaved p bytes pool → ¬ HasFault p bytes fault
+saved_faultless p bytes pool OtherPolicy saved other = saved_own p bytes pool (printed_utf8 p bytes pool saved) saved other
+saved_faultless p bytes pool NotSaved saved none = none.1 pool saved
+
+-- and no bytes have two
+pub one_fault : (p : Assignment) (bytes : List ℕ) (a b : SavedFault) → HasFault p bytes a → HasFault p bytes b → a ≡ b
+one_fault p bytes OtherPolicy OtherPolicy first second = refl
+one_fault p bytes OtherPolicy NotSaved first second = absurd (second.0 first)
+one_fault p bytes NotSaved OtherPolicy first second = absurd (first.0 second)
+one_fault p bytes NotSaved NotSaved first second = refl

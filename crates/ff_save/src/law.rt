@@ -6,7 +6,8 @@ ghost use Rattle.ff_pool.specs.Pooled.{Pooled};
 ghost use Rattle.ff_pool.specs.Restored.{IsResting};
 ghost use Rattle.ff_policy.specs.Assignment.{Assignment, IsAssignment};
 ghost use Rattle.ff_save.specs.Saved.{saved_recs, saved_text};
-ghost use Rattle.ff_save.specs.Whole.{IsSaved};
+ghost use Rattle.ff_save.specs.Whole.{HasFault, IsSaved};
+ghost use Rattle.ff_saved_rows.specs.declared.fault.SavedFault.{SavedFault};
 
 /// Pools at rest, of as many levels and with the same fuel, that are saved as the same records are
 /// the same.
@@ -21,4 +22,17 @@ pub fn a_saved_text_is_of_one_pool()
     ensures { (policy : Assignment) (bytes : List ℕ) (a b : Pooled) → IsAssignment policy
         → IsSaved policy bytes a → IsResting (size policy.order) policy.fuel b
         → bytes ≡ saved_text policy (saved_recs b) → a ≡ b }
+{}
+
+/// All bytes are the saved text of a pool or have a fault: it can't be that they are none and have
+/// none. A saved text has no fault, and no bytes have two. (So `read_saved` has one right answer,
+/// want of memory aside.)
+pub fn bytes_are_a_state_or_have_a_fault()
+    ensures some { (policy : Assignment) (bytes : List ℕ)
+        → ¬ (((pool : Pooled) → ¬ IsSaved policy bytes pool)
+        × ((fault : SavedFault) → ¬ HasFault policy bytes fault)) }
+    ensures faultless { (policy : Assignment) (bytes : List ℕ) (pool : Pooled) (fault : SavedFault)
+        → IsSaved policy bytes pool → ¬ HasFault policy bytes fault }
+    ensures one { (policy : Assignment) (bytes : List ℕ) (a b : SavedFault)
+        → HasFault policy bytes a → HasFault policy bytes b → a ≡ b }
 {}

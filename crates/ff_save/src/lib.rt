@@ -27,7 +27,10 @@ mod writing_stores;
 pub use fail::SavedFail;
 pub use ff_name::NoMemory;
 pub use ff_saved_rows::SavedFault;
-pub use law::{a_saved_text_is_of_one_pool, equal_records_are_of_equal_pools};
+pub use law::{
+    a_saved_text_is_of_one_pool, bytes_are_a_state_or_have_a_fault,
+    equal_records_are_of_equal_pools,
+};
 pub use read::{MOST_SAVED_BYTES, read_saved};
 pub use restoring_stores::restore_stores;
 pub use stores_law::{equal_records_are_of_equal_stores, rows_of_valid_stores_are_rows};
