@@ -1,12 +1,12 @@
 -- What is written in digits is the text of its value exactly where it is canonical.
-use Rattle.std.proofs.Common.{◌≡◌, ◌≢◌, ◌<◌, ◌^◌, ◌↔◌, ℕ, true, false, List, [], ◌∷◌, length, get_or, arith, refl, sym, ap, ◌∙◌, subst, rules, Some, None, Result, Ok, Err, suc, zero}
+use Rattle.std.proofs.Common.{◌≡◌, ◌≢◌, ◌<◌, ◌≤◌, ◌^◌, ◌↔◌, ℕ, true, false, List, [], ◌∷◌, length, get_or, arith, refl, sym, ap, ◌∙◌, subst, rules, Some, None, Result, Ok, Err, suc, zero}
 use Rattle.std.specs.Char.{is_ascii_digit}
 use Rattle.std.specs.List.{list_all}
 use Rattle.std.specs.Result.{result_ok, OkIff}
 use Rattle.std.specs.Str.{IsUtf8}
 use Rattle.std.specs.Str.Parse.{digits_value, ParsesUnsigned}
 use Rattle.std.proofs.lemmas.Bool.Decides.{nat_tests}
-use Rattle.std.proofs.lemmas.Fmt.{decimal-digits_value, digits_decimal, first_decimal, decimal_nonempty, decimal_digit, parse-decimal, IsAscii-decimal}
+use Rattle.std.proofs.lemmas.Fmt.{decimal-digits_value, digits_decimal, first_decimal, decimal_nonempty, decimal_digit, length-decimal-le, parse-decimal, IsAscii-decimal}
 use Rattle.std.proofs.lemmas.Str.{IsUtf8-from_ascii}
 use Rattle.std.proofs.lemmas.Str.Parse.{IsNumeralModel, numerals_by_value, parse_digits}
 use Rattle.ff_number.specs.Decimal.{nat_text, is_canonical}
@@ -47,6 +47,13 @@ nat_text-digits_value bytes h small =
 -- what is not canonical is the text of no number
 pub no_text : (bytes : List ℕ) → is_canonical bytes ≡ false → (n : ℕ) → n < 2 ^ 64 → bytes ≢ nat_text n
 no_text bytes h n small e = let k : is_canonical bytes ≡ true = ap is_canonical e ∙ is_canonical-nat_text n small in cc
+
+-- no more than twenty digits spell a number
+pub too_long : (bytes : List ℕ) → 20 < length bytes → (n : ℕ) → n < 2 ^ 64 → bytes ≢ nat_text n
+too_long bytes long n small e =
+    let most : length (nat_text n) ≤ 20 = length-decimal-le 20 n (omega arith) (omega arith) small in
+    let same = ap length e in
+    omega (arith, long, most, same)
 
 pub IsUtf8-nat_text : (n : ℕ) → n < 2 ^ 64 → IsUtf8 (nat_text n)
 IsUtf8-nat_text n small = IsUtf8-from_ascii _ (IsAscii-decimal n small)

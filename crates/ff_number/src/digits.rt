@@ -4,7 +4,7 @@ ghost use Rattle.ff_number.specs.Decimal.{nat_text, num_text};
 use std::marker::Model;
 
 /// The most digits of a number of 64 bits, and with its sign where it is signed.
-const MOST_DIGITS: usize = 20;
+pub(crate) const MOST_DIGITS: usize = 20;
 
 /// The digits of a number of 64 bits in decimal, and its sign, in a buffer of its own that takes no
 /// memory. It is seen as the list of their bytes.

@@ -6,12 +6,17 @@ ghost use Rattle.ff_number.specs.Decimal.{nat_text, num_text};
 ghost use Rattle.ff_number.specs.Decimal as spelling;
 ghost use Rattle.ff_number.specs.Numbers as numbers;
 
+use crate::digits::MOST_DIGITS;
+
 /// The number that these bytes spell: `0`, or digits that begin with 1 to 9. `None` where they
-/// spell none below 2^64.
+/// spell none below 2^64, and at once where they are more than such a number has digits.
 pub fn read_nat(bytes: &[u8]) -> Option<u64>
     ensures spelled { (n : ℕ) → n < 2 ^ 64 → (result ≡ Some n) ↔ (bytes.now ≡ nat_text n) }
     ensures within { IfSome result (λ n. n < 2 ^ 64) }
 {
+    if bytes.len() > MOST_DIGITS {
+        return None;
+    }
     if !is_canonical(bytes) {
         return None;
     }

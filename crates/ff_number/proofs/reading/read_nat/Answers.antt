@@ -1,6 +1,9 @@
 use Rattle.std.proofs.Common.{sym, ◌∙◌}
-use Rattle.ff_number.proofs.Canonical.{parsed, no_text, no_utf8, none_where_no_text}
+use Rattle.ff_number.proofs.Canonical.{parsed, no_text, no_utf8, none_where_no_text, too_long}
 use Rattle.ff_number.proofs.reading.read_nat.Goals as goal
+
+pub returns-then-bytes-gt-MOST_DIGITS-clause-spelled : goal.returns-then-bytes-gt-MOST_DIGITS-clause-spelled
+returns-then-bytes-gt-MOST_DIGITS-clause-spelled c = none_where_no_text _ (too_long c.args.bytes.now c.if-bytes-gt-MOST_DIGITS.true)
 
 pub returns-then-not-is_canonical-clause-spelled : goal.returns-then-not-is_canonical-clause-spelled
 returns-then-not-is_canonical-clause-spelled c =

@@ -1,4 +1,4 @@
-use Rattle.std.proofs.Common.{◌≡◌, ◌≤◌, ◌<◌, ◌^◌, ◌+◌, ◌-◌, ℕ, List, ◌∷◌, length, drop, slice_set, arith, rules, refl, sym, ap, ◌∙◌, unsigned_abs, pos, ◌<ℤ◌}
+use Rattle.std.proofs.Common.{◌≡◌, ◌≤◌, ◌^◌, ◌+◌, ◌-◌, ℕ, List, ◌∷◌, length, drop, slice_set, arith, rules, refl, sym, ap, ◌∙◌, unsigned_abs, pos, ◌<ℤ◌}
 use Rattle.std.specs.Fmt.{decimal}
 use Rattle.std.proofs.lemmas.Fmt.{length-decimal-le}
 use Rattle.std.specs.Int.{w64}
