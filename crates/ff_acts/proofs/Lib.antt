@@ -1,6 +1,7 @@
 pub mod Ahead
 pub mod Called
 pub mod Grown
+pub mod Halves
 pub mod Holders
 pub mod Paths
 pub mod Places

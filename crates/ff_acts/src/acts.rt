@@ -9,8 +9,9 @@ ghost use Rattle.ff_machine.specs.declared.limits.TheConstants.{MOST_ACTS};
 ghost use Rattle.ff_operators.specs.Answers.{Answers, OnFault};
 
 use crate::cells::{ActCell, VarCell, cell_at};
+use crate::digits::spread_of;
 use crate::growing::{grow, write};
-use crate::searching::{Stop, digits_of, nearest, search};
+use crate::searching::{Stop, nearest, search};
 use ff_contract::Steps;
 use ff_cow::CowVec;
 use ff_machine::{MOST_ACTS, MOST_VARS};
@@ -160,7 +161,7 @@ impl Acts {
         ensures kept { OnFault result (self.new ≡ self.old) }
         ensures copies { RisesBy 64 copies.old copies.new }
     {
-        match search(&self.acts, &self.vars, a, name, digits_of(name)) {
+        match search(&self.acts, &self.vars, a, name, spread_of(name)) {
             Stop::Found(k) => write(&mut self.vars, k, value, copies)?,
             Stop::Open(place) => {
                 if self.vars.len() >= MOST_VARS {
