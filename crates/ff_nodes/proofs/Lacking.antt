@@ -9,7 +9,9 @@ use Rattle.std.proofs.lemmas.List.{length-map}
 use Rattle.std.proofs.lemmas.List.Elements.{recursion_from_All}
 use Rattle.std.proofs.lemmas.Slice.Eq.{bytes_eq-Decides}
 use Rattle.std.proofs.lemmas.Nat.Bits.{bit_at-lt}
+use Rattle.ff_name.specs.Spelling.{IsName}
 use Rattle.ff_value.specs.declared.ids.NodeId.{NodeId}
+use Rattle.ff_machine.specs.Alone.{IsShape}
 use Rattle.ff_machine.specs.declared.kinds.Kind.{Kind}
 use Rattle.ff_machine.specs.declared.kinds.Kind.TheVariants as kind
 use Rattle.ff_machine.specs.declared.records.Shape.{Shape}
@@ -17,7 +19,7 @@ use Rattle.ff_machine.specs.declared.records.Shape.TheVariants as shape
 use Rattle.ff_machine.specs.declared.limits.TheConstants.{MOST_TREE_DEPTH}
 use Rattle.ff_machine.specs.Kinds.{kind_word}
 use Rattle.ff_machine.specs.Shapes.{kind_of, name_of, is_unstarted}
-use Rattle.ff_machine.specs.Nodes.{Node, Walk, walk_within, node_at, children, is_name, by_name, of_word, scripts}
+use Rattle.ff_machine.specs.Nodes.{Node, Walk, walk_within, node_at, no_node, children, is_name, by_name, of_word, scripts}
 use Rattle.ff_nodes.specs.declared.cell.NodeCell.{NodeCell}
 use Rattle.ff_nodes.specs.declared.marks.Marks.{Marks}
 use Rattle.ff_nodes.specs.Marked.{name_bit, kind_bit, IsOwn, AreWithin}
@@ -64,6 +66,23 @@ unless : (b : Bool) → (b ≡ true → ⊥) → b ≡ false
 unless true h = absurd (h refl)
 unless false h = refl
 
+-- the name of a node is a name
+own_name : (s : Shape) (y : List ℕ) → IsShape s → name_of s ≡ Some y → IsName y
+own_name (shape.Page page) y is e = cc
+own_name (shape.Text x text) y is e = let same : x ≡ y = cc in subst IsName same is.0
+own_name (shape.Link x url text) y is e = let same : x ≡ y = cc in subst IsName same is.0
+own_name (shape.TextBox x text) y is e = let same : x ≡ y = cc in subst IsName same is.0
+own_name (shape.Button x text) y is e = let same : x ≡ y = cc in subst IsName same is.0
+own_name (shape.Script x started body) y is e = let same : x ≡ y = cc in subst IsName same is.0
+own_name (shape.Src x started url) y is e = let same : x ≡ y = cc in subst IsName same is.0
+own_name (shape.Div x) y is e = let same : x ≡ y = cc in subst IsName same is
+
+spells_name : (x : List ℕ) (o : Option (List ℕ)) → ((y : List ℕ) → o ≡ Some y → IsName y) → is_name x o ≡ true → IsName x
+spells_name x None each is = cc
+spells_name x (Some y) each is =
+    let same : y ≡ x = grind (arith, bytes_eq-Decides y x, is) in
+    subst IsName same (each y refl)
+
 module _ (cells : List NodeCell) (are : AreCells cells) where
   abbrev nodes : List Node
   nodes = nodes_of cells
@@ -104,6 +123,12 @@ module _ (cells : List NodeCell) (are : AreCells cells) where
       let set = named x m (name_of (node_at nodes m).shape) under.lives refl is in
       let less = under.within.names (name_bit x) in
       unset (omega (arith, set, less, bit_at-lt (cell_at cells n).marks.names (name_bit x))))) (Walk nodes n) (walked n lives))
+
+  -- what spells no name is found nowhere
+  pub nameless : (n : NodeId) (x : List ℕ) → n.0 < length nodes → ¬ IsName x → by_name nodes n x ≡ None
+  nameless n x lives none =
+      none_found (λ m. is_name x (name_of (node_at nodes m).shape)) (Walk nodes n) (weaker (IsUnder (cell_at cells n).marks) (λ m. is_name x (name_of (node_at nodes m).shape) ≡ false) (λ m under. unless (is_name x (name_of (node_at nodes m).shape)) (λ is.
+      none (spells_name x (name_of (node_at nodes m).shape) (λ y. own_name (node_at nodes m).shape y (are.nodes.each m.0 no_node under.lives).shape) is))) (Walk nodes n) (walked n lives))
 
   -- no node is of that kind
   pub no_kind : (n : NodeId) (k : Kind) → n.0 < length nodes → (bit_at (cell_at cells n).marks.kinds (kind_bit k) ≡ 1 → ⊥) → of_word nodes n (kind_word k) ≡ []

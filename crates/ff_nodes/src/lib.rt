@@ -8,6 +8,9 @@
 //! that forks share until one of them writes. Each cell has marks beside its node: which names and
 //! kinds may stand at and below it, by which a search passes over a tree where it would find
 //! nothing. No clause of a public call speaks of marks.
+//!
+//! What changes, copies or lists nodes may be refused for want of memory. They are valid then, and
+//! what they are is said at the call. Searches take none.
 #![tactic(auto)]
 
 mod cell;

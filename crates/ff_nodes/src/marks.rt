@@ -40,11 +40,12 @@ impl Marks {
         }
     }
 
-    /// Whether the name's bit is set. Where it isn't, no node of this name is there.
-    pub(crate) fn may_have_name(self, name: &[u8]) -> bool
-        ensures { IsTrue result ↔ (bit_at self.names (name_bit name.now) ≡ 1) }
+    /// Whether the bit of a name is set. Where it isn't, no node of this name is there.
+    pub(crate) fn may_have_name(self, bit: u32) -> bool
+        requires { bit < 64 }
+        ensures { IsTrue result ↔ (bit_at self.names bit ≡ 1) }
     {
-        has(self.names, bit_of_name(name))
+        has(self.names, bit)
     }
 
     /// Whether the kind's bit is set. Where it isn't, no node of this kind is there.
@@ -72,7 +73,7 @@ fn bit(k: u32) -> u64
 }
 
 /// The number of a name's bit.
-fn bit_of_name(name: &[u8]) -> u32
+pub(crate) fn bit_of_name(name: &[u8]) -> u32
     ensures value { result ≡ name_bit name.now }
     ensures bound { result < 64 }
 {

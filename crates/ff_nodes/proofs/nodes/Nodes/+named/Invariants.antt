@@ -1,10 +1,10 @@
 use Rattle.std.proofs.Common.{◌≡◌, ◌-◌, drop}
 use Rattle.ff_machine.specs.Nodes as nodes
 use Rattle.ff_nodes.proofs.Rest.{named_from}
-use Rattle.ff_nodes.proofs.nodes.Nodes.+by_name.Given as goal
+use Rattle.ff_nodes.proofs.nodes.Nodes.+named.Given as goal
 
-abbrev pub decreases-by_name : goal.decreases-by_name
-decreases-by_name l = 257 - nodes.depth l.self.now l.root
+abbrev pub decreases-named : goal.decreases-named
+decreases-named l = 257 - nodes.depth l.self.now l.root
 
 -- the first is in the walks of the children from here on
 abbrev pub invariant-loop-child : goal.invariant-loop-child
