@@ -10,7 +10,7 @@ use Rattle.ff_machine.specs.Machine.{reactor}
 use Rattle.ff_confinement.specs.Worlds.{leader, taken, turned_once}
 use Rattle.ff_confinement.proofs.Below.{each_agree, get_or-each}
 use Rattle.ff_pool.specs.Draining.{IsOnward, steps_left}
-use Rattle.ff_pool.specs.Heads.{Head, IsClassStepped, IsKept, IsStepped, MayCount, given, head_at, head_turns, head_works, new_head, outputs_at, step_head, step_of}
+use Rattle.ff_pool.specs.Heads.{Head, IsClassStepped, IsKept, IsStepped, MayCount, given, head_at, head_turns, head_works, led_head, new_head, outputs_at, step_head, step_of}
 use Rattle.ff_pool.specs.Pooled as pooled
 use Rattle.ff_pool.specs.Pooled.{Pooled, has_work, left, seen, size, turned}
 use Rattle.ff_pool.proofs.Gathering.{gathered-turn, head_in, kept-turn, turns_at, work_at}
@@ -35,14 +35,20 @@ step_spelled h good = by h.state.quiet h.inbox good
 pub stepped_counts : (g h : Head) (before outs : List Out) (turns now : ℕ) → IsStepped g before turns h outs now → MayCount g before turns now
 stepped_counts g h before outs turns now stepped = MayCount.later h outs now stepped (omega arith)
 
--- the head of a class, as a slice has it at its place
-module _ (heads : List Head) (top : ℕ) (inside : top < length heads) (before : List Out) (none : before ≡ []) (turns : ℕ) where
-  pub may_of_class : (d d' : Head) (now : ℕ) → MayCount (get_or heads top d) before turns now → MayCount (get_or heads top d') [] turns now
-  may_of_class d d' now may = subst (λ h. MayCount h [] turns now) (get_or_default heads top d d' inside) (subst (λ os. MayCount (get_or heads top d) os turns now) none may)
+-- the head of a class, as it is read at the place of the leader that was read
+module _ (heads : List Head) (leaders : List ℕ) {l top : ℕ} {g : Head} (level : l < length leaders) (led : leader leaders l < length heads) (at : top ≡ get_or leaders l top) (has : g ≡ get_or heads top g) where
+  pub top_is : top ≡ leader leaders l
+  top_is = at ∙ get_or_default leaders l top 0 level
 
-  pub stepped_of_class : (d d' h : Head) (outs : List Out) (now : ℕ) → IsStepped (get_or heads top d) before turns h outs now → IsStepped (get_or heads top d') [] turns h outs now
-  stepped_of_class d d' h outs now stepped =
-      subst (λ g. IsStepped g [] turns h outs now) (get_or_default heads top d d' inside) (subst (λ os. IsStepped (get_or heads top d) os turns h outs now) none stepped)
+  pub head_read : (d : Head) → g ≡ led_head heads leaders l d
+  head_read d = has ∙ ap (λ k. get_or heads k g) top_is ∙ get_or_default heads (leader leaders l) g d led
+
+  module _ {before : List Out} (none : before ≡ []) {turns : ℕ} (d : Head) where
+    pub may_of_class : {now : ℕ} → MayCount g before turns now → MayCount (led_head heads leaders l d) [] turns now
+    may_of_class {now} may = subst (λ h. MayCount h [] turns now) (head_read d) (subst (λ os. MayCount g os turns now) none may)
+
+    pub stepped_of_class : {h : Head} {outs : List Out} {now : ℕ} → IsStepped g before turns h outs now → IsStepped (led_head heads leaders l d) [] turns h outs now
+    stepped_of_class {h} {outs} {now} stepped = subst (λ f. IsStepped f [] turns h outs now) (head_read d) (subst (λ os. IsStepped g os turns h outs now) none stepped)
 
 -- outputs that are given to a class, and then more
 given_twice : (puts : List (List Out)) (leaders : List ℕ) (top : ℕ) (outs more : List Out) → given (given puts leaders top outs) leaders top more ≡ given puts leaders top (outs ++ more)
@@ -119,7 +125,7 @@ module _ {fuel : ℕ} {heads : List Head} {puts : List (List Out)} {leaders : Li
 
 -- what is known where a call has opened a pool that isn't spent
 module _ {fuel : ℕ} {spent : Bool} {heads : List Head} {puts : List (List Out)} {leaders : List ℕ} {p : Pooled} (invariant : spent ≡ false → IsKept fuel heads puts leaders) (unspent : spent ≡ false) (view : seen fuel spent heads puts leaders ≡ p)
-    {xs : List Head} {ys : List (List Out)} {ls : List ℕ} {k l : ℕ} (inside : l < size p) (work : has_work p l ≡ true) (heads_are : xs ≡ heads) (puts_are : ys ≡ puts) (leaders_are : ls ≡ leaders) (at : k ≡ l) where
+    {k l : ℕ} (inside : l < size p) (work : has_work p l ≡ true) (at : k ≡ l) where
   level : l < length leaders
   level = level_in invariant unspent view l (λ again. inside)
 
@@ -130,40 +136,35 @@ module _ {fuel : ℕ} {spent : Bool} {heads : List Head} {puts : List (List Out)
   whole_view = ap (λ b. seen fuel b heads puts leaders) (sym unspent) ∙ view
 
   -- where memory was refused, the turns are among those that were left
-  pub visit_within : (turns now : ℕ) → ((d : Head) → MayCount (get_or xs (leader ls k) d) [] turns now) → now ≤ turns + left p
+  pub visit_within : (turns now : ℕ) → ((d : Head) → MayCount (led_head heads leaders k d) [] turns now) → now ≤ turns + left p
   visit_within turns now may =
       subst (λ q. now ≤ turns + left q) whole_view
       (within (invariant unspent) l level turns works now
-      (subst (λ h. MayCount h [] turns now) (read_head invariant unspent view (λ again. inside) heads_are leaders_are at (λ h. h) (new_head fuel)) (may (new_head fuel))))
+      (subst (λ h. MayCount h [] turns now) (read_head invariant unspent view (λ again. inside) at (λ h. h) (new_head fuel)) (may (new_head fuel))))
 
-  module _ {heads' xs' : List Head} {puts' ys' : List (List Out)} {turns now : ℕ} (heads_to : heads' ≡ xs') (puts_to : puts' ≡ ys') (done : IsClassStepped xs ys ls k turns xs' ys' now) where
+  module _ {heads' : List Head} {puts' : List (List Out)} {leaders' : List ℕ} (same : leaders' ≡ leaders) {turns now : ℕ} (done : IsClassStepped heads puts leaders k turns heads' puts' now) where
     stepped_on : IsClassStepped heads puts leaders l turns heads' puts' now
-    stepped_on =
-        subst (λ hs. IsClassStepped heads puts leaders l turns hs puts' now) (sym heads_to)
-        (subst (λ os. IsClassStepped heads puts leaders l turns xs' os now) (sym puts_to)
-        (subst (λ j. IsClassStepped heads puts leaders j turns xs' ys' now) at
-        (subst (λ js. IsClassStepped heads puts js k turns xs' ys' now) leaders_are
-        (subst (λ os. IsClassStepped heads os ls k turns xs' ys' now) puts_are
-        (subst (λ hs. IsClassStepped hs ys ls k turns xs' ys' now) heads_are done)))))
+    stepped_on = subst (λ j. IsClassStepped heads puts leaders j turns heads' puts' now) at done
 
     there : IsAlong (invariant unspent) l level turns stepped_on.head stepped_on.outs now
     there = along (invariant unspent) l level turns works stepped_on.head stepped_on.outs now (stepped_on.stepped (new_head fuel))
 
-    pool_is : seen fuel false (set heads (leader leaders l) stepped_on.head) (given puts leaders (leader leaders l) stepped_on.outs) leaders ≡ seen fuel false heads' puts' leaders
-    pool_is = ap₂ (λ hs os. seen fuel false hs os leaders) (sym stepped_on.heads_are) (sym stepped_on.puts_are)
+    pool_is : seen fuel false (set heads (leader leaders l) stepped_on.head) (given puts leaders (leader leaders l) stepped_on.outs) leaders ≡ seen fuel false heads' puts' leaders'
+    pool_is = ap₂ (λ hs os. seen fuel false hs os leaders) (sym stepped_on.heads_are) (sym stepped_on.puts_are) ∙ ap (seen fuel false heads' puts') (sym same)
 
-    pub visit_kept : IsKept fuel heads' puts' leaders
+    pub visit_kept : IsKept fuel heads' puts' leaders'
     visit_kept =
-        subst (λ hs. IsKept fuel hs puts' leaders) (sym stepped_on.heads_are)
-        (subst (λ os. IsKept fuel (set heads (leader leaders l) stepped_on.head) os leaders) (sym stepped_on.puts_are) there.keeps)
+        subst (λ ls. IsKept fuel heads' puts' ls) (sym same)
+        (subst (λ hs. IsKept fuel hs puts' leaders) (sym stepped_on.heads_are)
+        (subst (λ os. IsKept fuel (set heads (leader leaders l) stepped_on.head) os leaders) (sym stepped_on.puts_are) there.keeps))
 
-    pub visit_on : IsOnward p turns (seen fuel false heads' puts' leaders) now
+    pub visit_on : IsOnward p turns (seen fuel false heads' puts' leaders') now
     visit_on = subst (λ q. IsOnward p turns q now) pool_is (subst (λ q. IsOnward q turns (seen fuel false (set heads (leader leaders l) stepped_on.head) (given puts leaders (leader leaders l) stepped_on.outs) leaders) now) whole_view there.on)
 
     pub visit_most : now ≤ turns + left p
     visit_most = let e = visit_on.turns in omega (arith, e)
 
-    pub visit_fewer : steps_left (seen fuel false heads' puts' leaders) < steps_left p
+    pub visit_fewer : steps_left (seen fuel false heads' puts' leaders') < steps_left p
     visit_fewer =
         let less = there.fewer in
         let before : steps_left (seen fuel false heads puts leaders) ≡ steps_left p = ap steps_left whole_view in

@@ -35,6 +35,10 @@ head_at fuel heads k = slice_index_or heads k (new_head fuel)
 abbrev pub outputs_at : List (List Out) → ℕ → List Out
 outputs_at puts k = slice_index_or puts k []
 
+-- the head of the class that a level is in; d stands past the end of the list
+abbrev pub led_head : List Head → List ℕ → ℕ → Head → Head
+led_head heads leaders l d = slice_index_or heads (leader leaders l) d
+
 -- what one step makes of a head, and what it puts
 abbrev pub step_of : Head → Copy Input Out State
 step_of h = stepped (reactor h.state.budget) h.state h.inbox

@@ -35,7 +35,7 @@ pub(crate) fn leaders_of(
         return Ok(None);
     }
     let made = classes_of(alloc, leaders.as_slice())?;
-    if !same_classes(made.as_slice(), classes) {
+    if made.as_slice() != classes {
         return Ok(None);
     }
     Ok(Some(leaders))
@@ -103,33 +103,4 @@ fn classes_of(alloc: Global, leaders: &[usize]) -> Result<Vec<LevelSet>, NoMemor
         }
     }
     Ok(classes)
-}
-
-/// Whether these are the same classes in the same order.
-fn same_classes(these: &[LevelSet], those: &[LevelSet]) -> bool
-    ensures { IsTrue result ↔ (these.now ≡ those.now) }
-{
-    if these.len() != those.len() {
-        return false;
-    }
-    for k in 0..these.len() {
-        if !same_class(these[k], those[k]) {
-            return false;
-        }
-    }
-    true
-}
-
-/// Whether two sets have the same levels.
-fn same_class(this: LevelSet, that: LevelSet) -> bool
-    ensures { IsTrue result ↔ (this ≡ that) }
-{
-    let _known = this.len();
-    let _known = that.len();
-    for l in 0..MOST_LEVELS as u8 {
-        if this.has(Level(l)) != that.has(Level(l)) {
-            return false;
-        }
-    }
-    true
 }

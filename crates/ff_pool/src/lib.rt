@@ -35,13 +35,14 @@ mod classes;
 mod drain;
 mod event;
 mod group;
+mod heads;
 mod inbox;
 mod leading;
 mod outs;
+mod parts;
 mod play;
 mod pool;
 mod restoring;
-mod steps;
 
 pub use event::Event;
 pub use ff_reactor::{MOST_BUDGET, NoMemory, Reactor};

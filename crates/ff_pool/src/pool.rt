@@ -14,10 +14,8 @@ use crate::classes::class_of;
 use crate::group::Group;
 use crate::leading::leaders_of;
 use crate::outs::Outs;
+use crate::parts::Parts;
 use crate::restoring::{Browsers, led_heads, no_outs};
-use crate::steps::{
-    arrive_heads, browser_of, forked_heads, forked_outs, has_work, step_class, steps_class,
-};
 use ff_contract::Steps;
 use ff_lattice::LevelSet;
 use ff_name::Level;
@@ -33,12 +31,7 @@ pub struct Pool<B: Reactor> {
     fuel: u32,
     /// Set while a call changes the parts, so it stays set where the call finds no memory.
     spent: bool,
-    /// The copies of the classes, at the places of the levels that lead them.
-    heads: Vec<Group<B>>,
-    /// The outputs of each level.
-    puts: Vec<Outs>,
-    /// For each level the least level of its class.
-    leaders: Vec<usize>,
+    parts: Parts<B>,
 }
 
 // Written out, so that the proof of a caller sees one call and not a part for each field.
@@ -48,9 +41,7 @@ impl<B: Reactor> Drop for Pool<B> {
             alloc: _,
             fuel: _,
             spent: _,
-            heads: _heads,
-            puts: _puts,
-            leaders: _leaders,
+            parts: _parts,
         } = self;
     }
 }
@@ -64,10 +55,11 @@ impl<B: Reactor> Model for Pool<B> {
 
     ghost coded = { coded_pooled };
 
-    ghost view = { λ p. seen p.fuel p.spent p.heads.items p.puts.items p.leaders.items };
+    ghost view = { λ p. seen p.fuel p.spent p.parts.heads.items p.parts.puts.items
+        p.parts.leaders.items };
 
     ghost invariant = { λ p. p.spent ≡ false
-        → IsKept p.fuel p.heads.items p.puts.items p.leaders.items };
+        → IsKept p.fuel p.parts.heads.items p.parts.puts.items p.parts.leaders.items };
 }
 
 impl<B: Reactor> Pool<B> {
@@ -93,9 +85,11 @@ impl<B: Reactor> Pool<B> {
             alloc,
             fuel,
             spent: false,
-            heads,
-            puts,
-            leaders,
+            parts: Parts {
+                heads,
+                puts,
+                leaders,
+            },
         })
     }
 
@@ -129,9 +123,11 @@ impl<B: Reactor> Pool<B> {
             alloc,
             fuel,
             spent: false,
-            heads,
-            puts,
-            leaders: leaders.into_vec(),
+            parts: Parts {
+                heads,
+                puts,
+                leaders: leaders.into_vec(),
+            },
         }))
     }
 
@@ -149,7 +145,7 @@ impl<B: Reactor> Pool<B> {
         requires { self.now.spent ≡ false }
         ensures { result ≡ size self.now }
     {
-        self.leaders.len() as u8
+        self.parts.leaders.len() as u8
     }
 
     /// Whether the level is the least of its class.
@@ -159,7 +155,7 @@ impl<B: Reactor> Pool<B> {
         ensures { IsTrue result ↔ (leader self.now.world.leaders l.0 ≡ l.0) }
     {
         let l = usize::from(l.0);
-        self.leaders[l] == l
+        self.parts.leaders[l] == l
     }
 
     /// Whether the level's browser isn't quiet or an input waits for it.
@@ -168,11 +164,7 @@ impl<B: Reactor> Pool<B> {
         requires level { l.0 < size self.now }
         ensures { result ≡ pooled.has_work self.now l.0 }
     {
-        has_work(
-            self.heads.as_slice(),
-            self.leaders.as_slice(),
-            usize::from(l.0),
-        )
+        self.parts.has_work(usize::from(l.0))
     }
 
     /// Whether the level's browser is quiet and no input waits for it.
@@ -190,7 +182,7 @@ impl<B: Reactor> Pool<B> {
         requires level { l.0 < size self.now }
         ensures { result ≡ class_of self.now.world.leaders l.0 }
     {
-        class_of(self.leaders.as_slice(), usize::from(l.0))
+        class_of(self.parts.leaders.as_slice(), usize::from(l.0))
     }
 
     /// The browser of a level.
@@ -199,11 +191,7 @@ impl<B: Reactor> Pool<B> {
         requires level { l.0 < size self.now }
         ensures { B.state result.now ≡ (copy_of self.now l.0).state }
     {
-        browser_of(
-            self.heads.as_slice(),
-            self.leaders.as_slice(),
-            usize::from(l.0),
-        )
+        self.parts.browser(usize::from(l.0))
     }
 
     /// Puts each level's offer, where there is one, behind the inputs that wait for it. Levels of a
@@ -225,13 +213,7 @@ impl<B: Reactor> Pool<B> {
             return Err(AllocError);
         }
         self.spent = true;
-        arrive_heads(
-            self.alloc,
-            self.heads.as_mut_slice(),
-            &mut self.leaders,
-            offers,
-            copies,
-        )?;
+        self.parts.arrive(self.alloc, offers, copies)?;
         self.spent = false;
         Ok(())
     }
@@ -262,15 +244,8 @@ impl<B: Reactor> Pool<B> {
             return Err(AllocError);
         }
         self.spent = true;
-        step_class(
-            self.alloc,
-            self.heads.as_mut_slice(),
-            self.puts.as_mut_slice(),
-            self.leaders.as_slice(),
-            usize::from(l.0),
-            copies,
-            turns,
-        )?;
+        self.parts
+            .step(self.alloc, usize::from(l.0), copies, turns)?;
         self.spent = false;
         Ok(())
     }
@@ -296,16 +271,8 @@ impl<B: Reactor> Pool<B> {
         ensures later { copies.old ≤ copies.new }
     {
         self.spent = true;
-        steps_class(
-            self.alloc,
-            self.heads.as_mut_slice(),
-            self.puts.as_mut_slice(),
-            self.leaders.as_slice(),
-            usize::from(l.0),
-            more,
-            copies,
-            turns,
-        )?;
+        self.parts
+            .steps(self.alloc, usize::from(l.0), more, copies, turns)?;
         self.spent = false;
         Ok(())
     }
@@ -323,7 +290,7 @@ impl<B: Reactor> Pool<B> {
         if self.spent {
             return Err(AllocError);
         }
-        Ok(self.puts[usize::from(l.0)].take())
+        Ok(self.parts.puts[usize::from(l.0)].take())
     }
 
     /// An equal pool, and neither changes with the other. Want of memory leaves this pool as it is.
@@ -335,16 +302,11 @@ impl<B: Reactor> Pool<B> {
         if self.spent {
             return Err(AllocError);
         }
-        let heads = forked_heads(self.alloc, self.heads.as_slice(), copies)?;
-        let puts = forked_outs(self.alloc, self.puts.as_slice())?;
-        let leaders = Vec::from_slice(self.alloc, self.leaders.as_slice())?;
         Ok(Pool {
             alloc: self.alloc,
             fuel: self.fuel,
             spent: false,
-            heads,
-            puts,
-            leaders,
+            parts: self.parts.fork(self.alloc, copies)?,
         })
     }
 }

@@ -7,5 +7,5 @@ pub returns : goal.returns
 returns g c =
     let unspent : c.self.inside.spent ≡ false = ap (λ p. p.spent) c.self.view_is ∙ c.requires.unspent in
     let none = new_head c.self.inside.fuel in
-    c.browser_of.ensures none
-    ∙ read_state c.self.invariant unspent c.self.view_is (λ again. c.requires.level) c.as_slice.ensures.value c.as_slice-2.ensures.value c.from.ensures none
+    c.browser.ensures none
+    ∙ read_state c.self.invariant unspent c.self.view_is (λ again. c.requires.level) c.from.ensures none

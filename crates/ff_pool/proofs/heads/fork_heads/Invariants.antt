@@ -1,6 +1,6 @@
 use Rattle.std.proofs.Common.{◌≡◌}
 use Rattle.ff_pool.proofs.Forking.{IsForking}
-use Rattle.ff_pool.proofs.steps.fork_heads.Given as goal
+use Rattle.ff_pool.proofs.heads.fork_heads.Given as goal
 
 abbrev pub invariant-loop-l : goal.invariant-loop-l
 invariant-loop-l g l = record {

@@ -1,7 +1,7 @@
 use Rattle.std.proofs.Common.{◌+◌, ◌∙◌, sym, subst, length, ◌<◌, arith}
 use Rattle.ff_pool.proofs.Forking.{IsForking, forking_forked, forking_stay, forking_skip}
-use Rattle.ff_pool.proofs.steps.fork_heads.Goals as goal
-use Rattle.ff_pool.proofs.steps.fork_heads.Goals.{then-new-l+then-old-l+in_ok-fork_head, else-new-l, else-new-l-via-then-new-l+else-old-l, else-new-l-via-else-new-l}
+use Rattle.ff_pool.proofs.heads.fork_heads.Goals as goal
+use Rattle.ff_pool.proofs.heads.fork_heads.Goals.{then-new-l+then-old-l+in_ok-fork_head, else-new-l, else-new-l-via-then-new-l+else-old-l, else-new-l-via-else-new-l}
 
 pub loop-l-preserved : goal.loop-l-preserved
 loop-l-preserved g c =
