@@ -9,6 +9,7 @@ use ff_core::Browser;
 use ff_policy::Policy;
 use ff_pool::Pool;
 use ff_save::{MOST_SAVED_BYTES, SavedFail, read_saved};
+use ff_session::new_pool;
 use ff_status::Status;
 use std::alloc::Global;
 use std::sync::ledger::Ledger;
@@ -38,8 +39,7 @@ impl Named for StateFile<'_> {
     }
 
     fn at_dash(&self, alloc: Global) -> Result<Pool<Browser>, NoMemory> {
-        let lattice = self.policy.lattice();
-        Pool::new(alloc, lattice.size(), self.policy.fuel())
+        new_pool(alloc, self.policy)
     }
 
     /// The copies of the bytes. Else the run ends with `Saved` and their fault, or for want of

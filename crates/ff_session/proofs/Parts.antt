@@ -6,7 +6,6 @@ use Rattle.ff_io.specs.Cutting.{has_newline, content, after_line, line_size, Has
 use Rattle.ff_io.proofs.CuttingLemmas.{has_newline-more, content-more, after_line-more, line_size-more}
 use Rattle.ff_stream.specs.Traces.{Reads, onto}
 use Rattle.ff_stream.specs.declared.end.BadLine.{BadLine}
-use Rattle.ff_stream.specs.declared.end.Fault.TheVariants as fault
 use Rattle.ff_status.specs.declared.status.TraceFault.{TraceFault}
 use Rattle.ff_value.specs.declared.input.Input.{Input}
 use Rattle.ff_policy.specs.Assignment.{Assignment}

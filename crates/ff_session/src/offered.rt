@@ -115,7 +115,9 @@ fn let_out<B: Reactor>(
 /// A pool for the levels of a policy, in which nothing came to any of them yet. It is refused only
 /// for want of memory.
 pub fn new_pool<B: Reactor>(alloc: Global, policy: &Policy) -> Result<Pool<B>, NoMemory>
-    ensures { IfOk result (λ pool. (all : Offering Input)
+    ensures pool { IfOk result (λ pool. pool
+        ≡ pooled.new_pool (size policy.now.order) policy.now.fuel) }
+    ensures copies { IfOk result (λ pool. (all : Offering Input)
         → AreCopiesAt policy.now all (fresh (machine policy.now)) pool []) }
 {
     Pool::new(alloc, policy.lattice().size(), policy.fuel())

@@ -6,7 +6,7 @@ use Rattle.ff_confinement.specs.Copies.{at_level, seen}
 use Rattle.ff_confinement.specs.Runs.{joined, plain}
 use Rattle.ff_confinement.specs.Text.{text_of}
 use Rattle.ff_contract.specs.Lists.{Begins}
-use Rattle.ff_confinement.specs.Worlds.{Copy, copy_at, finish, has_work, leader, levels, offer, step_copy}
+use Rattle.ff_confinement.specs.Worlds.{Copy, copy_at, finish, has_work, leader, offer, step_copy}
 use Rattle.ff_confinement.proofs.Below.{get_or-each}
 use Rattle.ff_confinement.proofs.Finishing.{finish_begins, finish_ok, finish_rest, finish_step}
 use Rattle.ff_confinement.proofs.Schedules.{end_of, finish_new_end, finish_offered_end}

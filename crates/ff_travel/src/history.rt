@@ -1,21 +1,18 @@
 //! A pool of browsers under commands.
-ghost use Rattle.std.specs.Prelude.{◌≡◌, ◌≤◌, ◌+◌, ◌++◌, false, true, length, IfOk, OnOk, OnErr};
+ghost use Rattle.std.specs.Prelude.{◌≡◌, ◌≤◌, ◌+◌, false, true, length, IfOk, OnOk, OnErr};
 ghost use Rattle.ff_contract.specs.Appending.{Appends};
-ghost use Rattle.ff_travel.specs.Beside.{ArePartsFor, history_of, under};
 ghost use Rattle.ff_travel.specs.Commands.{IsCommandOf, MakesNoTurn};
 ghost use Rattle.ff_travel.specs.Force.{step_turns};
 ghost use Rattle.ff_travel.specs.Shown.{text_at};
-ghost use Rattle.ff_travel.specs.Travelled.{applied, happened, new_travel};
+ghost use Rattle.ff_travel.specs.Travelled.{applied, new_travel};
 
 use crate::command::Command;
-use crate::kept::Kept;
-use crate::outputs::Outputs;
-use crate::showing::show;
-use crate::steps::{arrive, gather, go_back, keep, new_pool, no_outputs};
+use crate::parts::Parts;
+use crate::steps::no_outputs;
 use ff_contract::Steps;
 use ff_policy::Policy;
-use ff_pool::{NoMemory, Pool, Reactor};
-use ff_session::USUAL_SLICE;
+use ff_pool::{NoMemory, Reactor};
+use ff_session::new_pool;
 use std::alloc::{AllocError, Global};
 use std::marker::Model;
 use std::sync::ledger::Ledger;
@@ -27,16 +24,9 @@ use std::sync::ledger::Ledger;
 /// once for each level: so a travel is as long as its commands and its outputs.
 #[derive(Drop)]
 pub struct Travel<'a, B: Reactor> {
-    alloc: Global,
-    policy: &'a Policy,
     /// Set while a command is carried out, so it stays set where that finds no memory.
     spent: bool,
-    /// What is kept from before each command in force, that of the first one first.
-    kept: Vec<Kept<B>>,
-    /// What each level's copy has put since the beginning.
-    puts: Vec<Outputs>,
-    /// The copies, of which all outputs were taken.
-    pool: Pool<B>,
+    parts: Parts<'a, B>,
 }
 
 impl<'a, B: Reactor> Model for Travel<'a, B> {
@@ -49,14 +39,13 @@ impl<'a, B: Reactor> Model for Travel<'a, B> {
     ghost coded = { coded_travelled };
 
     ghost view = { λ t. record {
-      policy = t.policy.now;
+      policy = t.parts.policy.now;
       spent = t.spent;
-      history = history_of
-          t.kept.items t.puts.items t.pool;
+      history = history_of t.parts.kept.items t.parts.puts.items t.parts.pool;
     } };
 
     ghost invariant = { λ t. t.spent ≡ false
-        → ArePartsFor t.policy.now t.kept.items t.puts.items t.pool };
+        → ArePartsFor t.parts.policy.now t.parts.kept.items t.parts.puts.items t.parts.pool };
 }
 
 impl<'a, B: Reactor> Travel<'a, B> {
@@ -67,12 +56,14 @@ impl<'a, B: Reactor> Travel<'a, B> {
         let pool = new_pool(alloc, policy)?;
         let puts = no_outputs(alloc, policy.lattice().size())?;
         Ok(Travel {
-            alloc,
-            policy,
             spent: false,
-            kept: Vec::new(alloc),
-            puts,
-            pool,
+            parts: Parts {
+                alloc,
+                policy,
+                kept: Vec::new(alloc),
+                puts,
+                pool,
+            },
         })
     }
 
@@ -80,7 +71,7 @@ impl<'a, B: Reactor> Travel<'a, B> {
     pub fn policy(&self) -> &Policy
         ensures { result.now ≡ self.now.policy }
     {
-        self.policy
+        self.parts.policy
     }
 
     /// How many commands are in force.
@@ -88,7 +79,7 @@ impl<'a, B: Reactor> Travel<'a, B> {
     pub fn kept(&self) -> u64
         ensures { result ≡ length self.now.history.before }
     {
-        self.kept.len() as u64
+        self.parts.kept.len() as u64
     }
 
     /// Whether a command found no memory.
@@ -128,72 +119,10 @@ impl<'a, B: Reactor> Travel<'a, B> {
             return Err(AllocError);
         }
         self.spent = true;
-        let mut text = Vec::new(self.alloc);
-        carry_out(
-            self.alloc,
-            self.policy,
-            command,
-            &mut self.kept,
-            &mut self.puts,
-            &mut self.pool,
-            &mut text,
-            copies,
-            turns,
-        )?;
+        let mut text = Vec::new(self.parts.alloc);
+        self.parts.carry_out(command, &mut text, copies, turns)?;
         out.extend_from_slice(text.as_slice())?;
         self.spent = false;
         Ok(())
-    }
-}
-
-/// Carries out a command on the pool. Before an arrival, a turn and a drain, a fork of the pool is
-/// kept, and after it what was put is laid beside.
-fn carry_out<B: Reactor, C: Ledger, L: Ledger>(
-    alloc: Global,
-    policy: &Policy,
-    command: &Command,
-    kept: &mut Vec<Kept<B>>,
-    puts: &mut Vec<Outputs>,
-    pool: &mut Pool<B>,
-    out: &mut Vec<u8>,
-    copies: &mut Steps<C>,
-    turns: &mut Steps<L>,
-) -> Result<(), NoMemory>
-    requires parts { ArePartsFor policy.now kept.old.items puts.old.items pool.old }
-    requires command { IsCommandOf policy.now.order command.now }
-    ensures parts { OnOk result (ArePartsFor policy.now kept.new.items puts.new.items pool.new) }
-    ensures done { OnOk result (history_of kept.new.items puts.new.items pool.new
-        ≡ happened policy.now (history_of kept.old.items puts.old.items pool.old) command.now) }
-    ensures text { OnOk result (out.new.items
-        ≡ out.old.items ++ text_at policy.now (under puts.old.items pool.old) command.now) }
-    ensures count { OnOk result (turns.new ≡ turns.old
-        + step_turns policy.now (under puts.old.items pool.old) command.now) }
-    ensures most { turns.new ≤ turns.old + step_turns policy.now (under puts.old.items pool.old)
-        command.now }
-    ensures turns_later { turns.old ≤ turns.new }
-    ensures later { copies.old ≤ copies.new }
-    ensures uncopied { MakesNoTurn command.now → copies.new ≡ copies.old }
-{
-    match command {
-        Command::Arrive(input) => {
-            keep(alloc, kept, puts.as_slice(), pool, copies)?;
-            arrive(alloc, policy, input, pool, copies)?;
-            gather(pool, puts)
-        }
-        Command::Turn(level) => {
-            keep(alloc, kept, puts.as_slice(), pool, copies)?;
-            pool.turn(*level, copies, turns)?;
-            gather(pool, puts)
-        }
-        Command::Drain => {
-            keep(alloc, kept, puts.as_slice(), pool, copies)?;
-            pool.drain(USUAL_SLICE, copies, turns)?;
-            gather(pool, puts)
-        }
-        Command::Back => {
-            go_back(kept, puts, pool);
-            Ok(())
-        }
-        Command::Show(level) => show(policy, pool, puts.as_slice(), *level, out),
     }
 }

@@ -29,6 +29,7 @@ mod history;
 mod kept;
 mod law;
 mod outputs;
+mod parts;
 mod reading;
 mod reading_law;
 mod showing;

@@ -4,7 +4,6 @@ ghost use Rattle.ff_policy.specs.Assignment.{Assignment};
 ghost use Rattle.ff_pool.specs.Pooled as pooled;
 ghost use Rattle.ff_trace.specs.Lines.{IsInputOf};
 ghost use Rattle.ff_travel.specs.Beside.{ArePartsFor, HasGathered, IsPoolFor, cut, history_of, kept_now, none_put};
-ghost use Rattle.ff_travel.specs.Force.{first_world};
 ghost use Rattle.ff_travel.specs.Travelled.{taken_back};
 ghost use Rattle.ff_route.specs.Route.{offers as offers_for};
 
@@ -17,14 +16,6 @@ use ff_route::offers;
 use ff_value::{Input, Level};
 use std::alloc::Global;
 use std::sync::ledger::Ledger;
-
-/// A pool for the levels of a policy, in which nothing came to any of them yet.
-pub(crate) fn new_pool<B: Reactor>(alloc: Global, policy: &Policy) -> Result<Pool<B>, NoMemory>
-    ensures { IfOk result (λ pool. (pool.world ≡ first_world policy.now)
-        × IsPoolFor policy.now pool) }
-{
-    Pool::new(alloc, policy.lattice().size(), policy.fuel())
-}
 
 /// A list for each of so many levels, with no outputs.
 pub(crate) fn no_outputs(alloc: Global, levels: u8) -> Result<Vec<Outputs>, NoMemory>

@@ -13,13 +13,13 @@ use Rattle.ff_session.proofs.Owing.{multi_text_is, multi_turns_are}
 use Rattle.ff_session.proofs.multi.walk_multi.Goals as goal
 
 pub walk_copies-requires-clause-at : goal.walk_copies-requires-clause-at
-walk_copies-requires-clause-at g c = (fresh (machine c.args.policy.now), c.in-Ok.ensures (seen_by c.args.policy.now))
+walk_copies-requires-clause-at g c = (fresh (machine c.args.policy.now), c.in-Ok.ensures.copies (seen_by c.args.policy.now))
 
 pub returns-in-Ok-clause-exchanged : goal.returns-in-Ok-clause-exchanged
 returns-in-Ok-clause-exchanged g c =
     let p = c.args.policy.now in
     rw (c.status_of.ensures, g.met.P.Port.tells c.args.port.now, g.met.P.Port.tells c.walk_copies.new.port)
-    (unclosed (gives_once p.order) (multi_duty p) c.walk_copies.result (c.walk_copies.ensures.streams (fresh (machine p)) (c.in-Ok.ensures (seen_by p))) (multi_turns_are p) (λ whole is. sym (multi_text_is p is)) (λ is. refl) _ _ _ _
+    (unclosed (gives_once p.order) (multi_duty p) c.walk_copies.result (c.walk_copies.ensures.streams (fresh (machine p)) (c.in-Ok.ensures.copies (seen_by p))) (multi_turns_are p) (λ whole is. sym (multi_text_is p is)) (λ is. refl) _ _ _ _
     c.walk_copies.ensures.later c.walk_copies.ensures.read_fault c.walk_copies.ensures.write_fault c.walk_copies.ensures.later_writes)
 
 pub returns-in-Err-clause-exchanged : goal.returns-in-Err-clause-exchanged

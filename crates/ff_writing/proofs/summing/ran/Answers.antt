@@ -8,7 +8,7 @@ use Rattle.ff_writing.proofs.summing.ran.Goals as goal
 
 pub loop-drawn-init : goal.loop-drawn-init
 loop-drawn-init g c =
-    (drawing_start c.args.policy.now c.args.start c.args.turns.now c.new-draws.result c.in_ok-pool.pool c.new-text.result.items c.new-draws.ensures (c.in_ok-pool.ensures (seen_by c.args.policy.now)) c.new-text.ensures.items, omega arith)
+    (drawing_start c.args.policy.now c.args.start c.args.turns.now c.new-draws.result c.in_ok-pool.pool c.new-text.result.items c.new-draws.ensures (c.in_ok-pool.ensures.copies (seen_by c.args.policy.now)) c.new-text.ensures.items, omega arith)
 
 pub returns-in_err-input-clause-most : goal.returns-in_err-input-clause-most
 returns-in_err-input-clause-most g c =

@@ -7,4 +7,4 @@ use Rattle.ff_audit.proofs.comparisons.Comparisons.new.Goals as goal
 
 pub returns : goal.returns
 returns g c =
-    audit_none c.args.policy.now _ (fresh_plain c.args.policy.now _ c.fuel.result c.fuel.ensures.value c.new-browser.ensures) (c.in_ok-pool.ensures (seen_by c.args.policy.now)) (c.in_ok-levels.ensures.count ∙ ap size c.lattice.ensures.value) c.in_ok-levels.ensures.fresh
+    audit_none c.args.policy.now _ (fresh_plain c.args.policy.now _ c.fuel.result c.fuel.ensures.value c.new-browser.ensures) (c.in_ok-pool.ensures.copies (seen_by c.args.policy.now)) (c.in_ok-levels.ensures.count ∙ ap size c.lattice.ensures.value) c.in_ok-levels.ensures.fresh
