@@ -36,30 +36,9 @@ pub(crate) fn ask<C: Ledger>(
         stores.new outs.old.items outs.new.items }
     ensures copies { RisesBy 33 copies.old copies.new }
 {
-    match strs_code(args) {
-        Some((address, body, code)) => {
-            ask_spelled(alloc, stores, page, address, body, code, outs, copies)
-        }
-        None => Err(Fail::Fault(Fault::Kind)),
-    }
-}
-
-fn ask_spelled<C: Ledger>(
-    alloc: Global,
-    stores: &mut Stores,
-    page: PageId,
-    address: &Text,
-    body: &Text,
-    code: &Code,
-    outs: &mut Vec<Out>,
-    copies: &mut Steps<C>,
-) -> Result<Val, Fail>
-    requires page { page.0 < length stores.old.windows.pages }
-    requires code { IsCode (made stores.old) code.now }
-    ensures does { Does (operators.ask stores.old page address.now body.now code.now) result
-        stores.old stores.new outs.old.items outs.new.items }
-    ensures copies { RisesBy 33 copies.old copies.new }
-{
+    let Some((address, body, code)) = strs_code(args) else {
+        return Err(Fail::Fault(Fault::Kind));
+    };
     if code.params.len() != 1 {
         return Err(Fail::Fault(Fault::Kind));
     }
@@ -69,6 +48,7 @@ fn ask_spelled<C: Ledger>(
     }
 }
 
+/// The address has a domain, and there is room for the request.
 fn ask_at<C: Ledger>(
     stores: &mut Stores,
     page: PageId,
@@ -86,30 +66,9 @@ fn ask_at<C: Ledger>(
         stores.old stores.new outs.old.items outs.new.items }
     ensures copies { RisesBy 33 copies.old copies.new }
 {
-    match url {
-        Url::Blank => Err(Fail::Fault(Fault::Range)),
-        Url::At(domain, uri) => send(stores, page, domain, uri, body, code, outs, copies),
-    }
-}
-
-fn send<C: Ledger>(
-    stores: &mut Stores,
-    page: PageId,
-    domain: &Domain,
-    uri: &Text,
-    body: &Text,
-    code: &Code,
-    outs: &mut Vec<Out>,
-    copies: &mut Steps<C>,
-) -> Result<Val, Fail>
-    requires page { page.0 < length stores.old.windows.pages }
-    requires url { IsWellSpelled (url.At domain.now uri.now) }
-    requires code { IsCode (made stores.old) code.now }
-    requires takes_one { length code.now.params ≡ 1 }
-    ensures does { Does (operators.ask_at stores.old page body.now code.now
-        (url.At domain.now uri.now)) result stores.old stores.new outs.old.items outs.new.items }
-    ensures copies { RisesBy 33 copies.old copies.new }
-{
+    let Url::At(domain, uri) = url else {
+        return Err(Fail::Fault(Fault::Range));
+    };
     let to = Dst::Call(page, code.copy()?);
     if stores.send(domain, uri, body, to, outs, copies)? {
         Ok(Val::Null)

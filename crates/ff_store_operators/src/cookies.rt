@@ -21,16 +21,9 @@ pub(crate) fn cookie(stores: &Stores, page: PageId, args: &[Val]) -> Result<Val,
     requires { page.0 < length stores.now.windows.pages }
     ensures { Reads (operators.operate stores.now page op.Cookie args.now) result }
 {
-    match one_str(args) {
-        Some(key) => value_of(stores, page, key),
-        None => Err(Fail::Fault(Fault::Kind)),
-    }
-}
-
-fn value_of(stores: &Stores, page: PageId, key: &Text) -> Result<Val, Fail>
-    requires { page.0 < length stores.now.windows.pages }
-    ensures { Reads (operators.cookie stores.now page key.now) result }
-{
+    let Some(key) = one_str(args) else {
+        return Err(Fail::Fault(Fault::Kind));
+    };
     match stores.windows().url_of(page) {
         Url::Blank => Ok(Val::Null),
         Url::At(domain, _uri) => value_at(stores, domain, key),
@@ -60,44 +53,13 @@ pub(crate) fn set_cookie<C: Ledger>(
         puts }
     ensures copies { RisesBy 16 copies.old copies.new }
 {
-    match two_strs(args) {
-        Some((key, value)) => set_own(stores, page, key, value, copies),
-        None => Err(Fail::Fault(Fault::Kind)),
-    }
-}
-
-fn set_own<C: Ledger>(
-    stores: &mut Stores,
-    page: PageId,
-    key: &Text,
-    value: &Text,
-    copies: &mut Steps<C>,
-) -> Result<Val, Fail>
-    requires { page.0 < length stores.old.windows.pages }
-    ensures does { (puts : List Out) → Does
-        (operators.set_cookie stores.old (operators.page_domain stores.old page) key.now value.now)
-        result stores.old stores.new puts puts }
-    ensures copies { RisesBy 16 copies.old copies.new }
-{
-    match page_domain(stores, page)? {
-        Some(domain) => set_at(stores, &domain, key, value, copies),
-        None => Err(Fail::Fault(Fault::Range)),
-    }
-}
-
-fn set_at<C: Ledger>(
-    stores: &mut Stores,
-    domain: &Domain,
-    key: &Text,
-    value: &Text,
-    copies: &mut Steps<C>,
-) -> Result<Val, Fail>
-    ensures does { (puts : List Out) → Does
-        (operators.set_cookie stores.old (Some domain.now) key.now value.now) result stores.old
-        stores.new puts puts }
-    ensures copies { RisesBy 16 copies.old copies.new }
-{
-    stores.put_cookie(domain, key, value, copies)?;
+    let Some((key, value)) = two_strs(args) else {
+        return Err(Fail::Fault(Fault::Kind));
+    };
+    let Some(domain) = page_domain(stores, page)? else {
+        return Err(Fail::Fault(Fault::Range));
+    };
+    stores.put_cookie(&domain, key, value, copies)?;
     Ok(Val::Null)
 }
 
@@ -114,41 +76,12 @@ pub(crate) fn del_cookie<C: Ledger>(
         puts }
     ensures copies { RisesBy 17 copies.old copies.new }
 {
-    match one_str(args) {
-        Some(key) => delete_own(stores, page, key, copies),
-        None => Err(Fail::Fault(Fault::Kind)),
-    }
-}
-
-fn delete_own<C: Ledger>(
-    stores: &mut Stores,
-    page: PageId,
-    key: &Text,
-    copies: &mut Steps<C>,
-) -> Result<Val, Fail>
-    requires { page.0 < length stores.old.windows.pages }
-    ensures does { (puts : List Out) → Does
-        (operators.del_cookie stores.old (operators.page_domain stores.old page) key.now) result
-        stores.old stores.new puts puts }
-    ensures copies { RisesBy 17 copies.old copies.new }
-{
-    match page_domain(stores, page)? {
-        Some(domain) => delete_at(stores, &domain, key, copies),
-        None => Ok(Val::Null),
-    }
-}
-
-fn delete_at<C: Ledger>(
-    stores: &mut Stores,
-    domain: &Domain,
-    key: &Text,
-    copies: &mut Steps<C>,
-) -> Result<Val, Fail>
-    ensures does { (puts : List Out) → Does
-        (operators.del_cookie stores.old (Some domain.now) key.now) result stores.old stores.new
-        puts puts }
-    ensures copies { RisesBy 17 copies.old copies.new }
-{
-    stores.delete_cookie(domain, key, copies)?;
+    let Some(key) = one_str(args) else {
+        return Err(Fail::Fault(Fault::Kind));
+    };
+    let Some(domain) = page_domain(stores, page)? else {
+        return Ok(Val::Null);
+    };
+    stores.delete_cookie(&domain, key, copies)?;
     Ok(Val::Null)
 }

@@ -41,26 +41,9 @@ pub(crate) fn open<C: Ledger>(
         stores.new outs.old.items outs.new.items }
     ensures copies { RisesBy 125 copies.old copies.new }
 {
-    match one_str(args) {
-        Some(address) => open_spelled(alloc, stores, page, address, outs, copies),
-        None => Err(Fail::Fault(Fault::Kind)),
-    }
-}
-
-fn open_spelled<C: Ledger>(
-    alloc: Global,
-    stores: &mut Stores,
-    page: PageId,
-    address: &Text,
-    outs: &mut Vec<Out>,
-    copies: &mut Steps<C>,
-) -> Result<Val, Fail>
-    requires { page.0 < length stores.old.windows.pages }
-    ensures does { Does (operators.at_url (read_url address.now)
-        (operators.open_at stores.old page None)) result stores.old stores.new outs.old.items
-        outs.new.items }
-    ensures copies { RisesBy 125 copies.old copies.new }
-{
+    let Some(address) = one_str(args) else {
+        return Err(Fail::Fault(Fault::Kind));
+    };
     match read_address(alloc, address)? {
         Some(url) => open_at(alloc, stores, page, None, &url, outs, copies),
         None => Err(Fail::Fault(Fault::Range)),
@@ -81,30 +64,9 @@ pub(crate) fn open_named<C: Ledger>(
         stores.new outs.old.items outs.new.items }
     ensures copies { RisesBy 125 copies.old copies.new }
 {
-    match two_strs(args) {
-        Some((name, address)) => {
-            open_named_spelled(alloc, stores, page, name, address, outs, copies)
-        }
-        None => Err(Fail::Fault(Fault::Kind)),
-    }
-}
-
-fn open_named_spelled<C: Ledger>(
-    alloc: Global,
-    stores: &mut Stores,
-    page: PageId,
-    name: &Text,
-    address: &Text,
-    outs: &mut Vec<Out>,
-    copies: &mut Steps<C>,
-) -> Result<Val, Fail>
-    requires { page.0 < length stores.old.windows.pages }
-    ensures does { Does (operators.at_url (read_url address.now)
-        (λ u. operators.open_named stores.old page name.now u
-        (windows.named stores.old.windows name.now))) result stores.old stores.new outs.old.items
-        outs.new.items }
-    ensures copies { RisesBy 125 copies.old copies.new }
-{
+    let Some((name, address)) = two_strs(args) else {
+        return Err(Fail::Fault(Fault::Kind));
+    };
     match read_address(alloc, address)? {
         Some(url) => open_named_at(alloc, stores, page, name, &url, outs, copies),
         None => Err(Fail::Fault(Fault::Range)),
@@ -219,24 +181,9 @@ pub(crate) fn go<C: Ledger>(
         stores.new outs.old.items outs.new.items }
     ensures copies { RisesBy 94 copies.old copies.new }
 {
-    match win_str(args) {
-        Some((window, address)) => go_spelled(alloc, stores, window, address, outs, copies),
-        None => Err(Fail::Fault(Fault::Kind)),
-    }
-}
-
-fn go_spelled<C: Ledger>(
-    alloc: Global,
-    stores: &mut Stores,
-    window: WinId,
-    address: &Text,
-    outs: &mut Vec<Out>,
-    copies: &mut Steps<C>,
-) -> Result<Val, Fail>
-    ensures does { Does (operators.go stores.old window address.now) result stores.old stores.new
-        outs.old.items outs.new.items }
-    ensures copies { RisesBy 94 copies.old copies.new }
-{
+    let Some((window, address)) = win_str(args) else {
+        return Err(Fail::Fault(Fault::Kind));
+    };
     if !is_open(stores, window) {
         return Err(Fail::Fault(Fault::Dead));
     }
@@ -280,22 +227,9 @@ pub(crate) fn close<C: Ledger>(
         stores.new outs.old.items outs.new.items }
     ensures copies { copies.new ≡ copies.old }
 {
-    match one_win(args) {
-        Some(window) => close_open(stores, window, outs, copies),
-        None => Err(Fail::Fault(Fault::Kind)),
-    }
-}
-
-fn close_open<C: Ledger>(
-    stores: &mut Stores,
-    closing: WinId,
-    outs: &mut Vec<Out>,
-    copies: &mut Steps<C>,
-) -> Result<Val, Fail>
-    ensures does { Does (operators.close stores.old closing) result stores.old stores.new
-        outs.old.items outs.new.items }
-    ensures copies { copies.new ≡ copies.old }
-{
+    let Some(closing) = one_win(args) else {
+        return Err(Fail::Fault(Fault::Kind));
+    };
     if !is_open(stores, closing) {
         return Err(Fail::Fault(Fault::Dead));
     }
