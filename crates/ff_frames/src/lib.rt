@@ -24,6 +24,8 @@
 //! leaves a `do` around the next: one frame without content, until the loop ends.
 //! - A vector doubles when it is full. `fork` copies each frame and each value, and shares what
 //! they hold.
+//!
+//! After want of memory a control is that of `null`, as a new one is.
 #![tactic(auto)]
 
 mod control;

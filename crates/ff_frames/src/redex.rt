@@ -17,7 +17,7 @@ use ff_value::{Body, Doc, Name, Names, Op, Val};
 
 /// The redex of a runtime expression, as far as the stores decide what it becomes. What it holds is
 /// lent where it lies.
-#[derive(Debug)]
+#[derive(Debug, Drop)]
 pub enum Redex<'a> {
     /// No store decides: a `while`, `do`, `and` or `or`, or the end of a call.
     Local,

@@ -1,6 +1,9 @@
 //! The lowest values of the browser: texts, names, domains, addresses and levels.
 //!
 //! Floor: words. It knows not how they are written in a trace, and not who may see them.
+//!
+//! These values never change. A call that makes one may be refused for want of memory, and then
+//! there is none; whatever else refuses it, its own words say.
 #![tactic(auto)]
 
 mod domains;

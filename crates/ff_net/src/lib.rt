@@ -13,6 +13,9 @@
 //!
 //! Records come in order, since a map is filled with the rows from the last to the first: to insert
 //! into it is to put into the written map, so the entries of the one are those of the other.
+//!
+//! Any change and any copy may be refused for want of memory. The store that was to change is valid
+//! then, and what it holds is said at the call.
 #![tactic(auto)]
 
 mod ask;

@@ -10,6 +10,9 @@
 //!     None => {} // a comment, or blanks alone
 //! }
 //! ```
+//!
+//! Each reader refuses with a [`LineFault`], of which `NoMemory` is one: then nothing was read.
+//! What appends and finds no memory has appended a front.
 #![tactic(auto)]
 
 mod acts;

@@ -22,7 +22,8 @@ use std::alloc::Global;
 /// The greatest number that a part may be.
 const MOST_NUMBER: u64 = 4_294_967_295;
 
-/// The number below 2^32 that a word spells.
+/// The number below 2^32 that a word spells. It is refused with `Number` exactly where it spells
+/// none.
 pub fn read_number(item: &Sexp) -> Result<u32, LineFault>
     ensures value { Gives result (number_in item.now) }
     ensures within { IfOk result IsNat }
@@ -53,7 +54,7 @@ pub fn number_of(bytes: &[u8]) -> Option<u32>
     }
 }
 
-/// The address that a word spells.
+/// The address that a word spells. It is refused with `Url` where it spells none.
 pub fn read_address(alloc: Global, item: &Sexp) -> Result<Url, LineFault>
     ensures value { Gives result (address_in item.now) }
     ensures well_spelled { IfOk result IsWellSpelledUrl }
@@ -77,7 +78,7 @@ fn address_spelled(alloc: Global, bytes: &[u8]) -> Result<Url, LineFault>
     }
 }
 
-/// The domain that a word spells.
+/// The domain that a word spells. It is refused with `Url` where it spells none.
 pub fn read_domain(alloc: Global, item: &Sexp) -> Result<Domain, LineFault>
     ensures value { Gives result (domain_in item.now) }
     ensures spelled { IfOk result IsDomain }
@@ -101,7 +102,7 @@ fn domain_of(alloc: Global, bytes: &[u8]) -> Result<Domain, LineFault>
     }
 }
 
-/// The value of a string.
+/// The value of a string. What is none is refused with `Syntax` and its place.
 pub fn read_string(item: &Sexp) -> Result<Text, LineFault>
     ensures value { Gives result (string_in item.now) }
     ensures utf8 { IfOk result IsUtf8 }
